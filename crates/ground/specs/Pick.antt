@@ -1,0 +1,73 @@
+-- Definitions by cases on a test, and the three connectives of tests.
+--   pick b x y  ==  x where the test b holds, else y
+--   yes, no     ==  pick's two equations, from what the test says
+--   Reads b P   ==  the test b holds exactly where the statement P does
+use mathlib.Core.Path.{_≡_, refl, sym, ap, _∙_}
+use mathlib.Core.Bool.{Bool, true, false, not, _&&_, _||_}
+use mathlib.Core.Logic.{_⊎_, inl, inr}
+use Prim.Native.Nat.{ℕ, _≤_, _<_}
+use lib.Dec.{eqb, ltb, leb}
+use native.Mathlib.Omega.{arith}
+use borrow.Author.Tests.{eqb-true, eqb-false, ltb-true, ltb-false, leb-true, leb-false}
+
+abbrev pub pick : {A : Type 0} → Bool → A → A → A
+pick true x y = x
+pick false x y = y
+
+pub yes : {A : Type 0} {b : Bool} (x y : A) → b ≡ true → pick b x y ≡ x
+yes x y e = ap (λ (c : Bool). pick c x y) e
+
+pub no : {A : Type 0} {b : Bool} (x y : A) → b ≡ false → pick b x y ≡ y
+no x y e = ap (λ (c : Bool). pick c x y) e
+
+pub true≠false : true ≡ false → ⊥
+true≠false e = let z : _≡_ {A = ℕ} 0 1 = cc in omega arith
+
+-- a test and the statement that it decides
+pub record Reads (b : Bool) (P : Type 0) : Type 0 where
+  pub says : b ≡ true → P
+  pub denies : b ≡ false → P → ⊥
+
+pub shows : {b : Bool} {P : Type 0} → Reads b P → P → b ≡ true
+shows {b} r p = go b refl
+  where
+    go : (c : Bool) → b ≡ c → b ≡ true
+    go true e = e
+    go false e = absurd (r .denies e p)
+
+pub refutes : {b : Bool} {P : Type 0} → Reads b P → (P → ⊥) → b ≡ false
+refutes {b} r p = go b refl
+  where
+    go : (c : Bool) → b ≡ c → b ≡ false
+    go true e = absurd (p (r .says e))
+    go false e = e
+
+-- either the statement or its contrary, by its test
+pub decided : {P : Type 0} (b : Bool) → Reads b P → P ⊎ (P → ⊥)
+decided true r = inl (r .says refl)
+decided false r = inr (r .denies refl)
+
+pub reads-eq : (a b : ℕ) → Reads (eqb a b) (a ≡ b)
+reads-eq a b = record { says = eqb-true a b; denies = eqb-false a b }
+
+pub reads-lt : (a b : ℕ) → Reads (ltb a b) (a < b)
+reads-lt a b = record { says = ltb-true a b; denies = λ e h. let l = ltb-false a b e in omega arith }
+
+pub reads-le : (a b : ℕ) → Reads (leb a b) (a ≤ b)
+reads-le a b = record { says = leb-true a b; denies = λ e h. let l = leb-false a b e in omega arith }
+
+pub reads-and : {P Q : Type 0} (a b : Bool) → Reads a P → Reads b Q → Reads (a && b) (P × Q)
+reads-and true b r s = record { says = λ e. (r .says refl, s .says e); denies = λ e h. s .denies e (h .1) }
+reads-and false b r s = record { says = λ e. absurd (true≠false (sym e)); denies = λ e h. r .denies refl (h .0) }
+
+pub reads-or : {P Q : Type 0} (a b : Bool) → Reads a P → Reads b Q → Reads (a || b) (P ⊎ Q)
+reads-or true b r s = record { says = λ e. inl (r .says refl); denies = λ e. absurd (true≠false e) }
+reads-or {P} {Q} false b r s = record { says = λ e. inr (s .says e); denies = λ e h. neither e h }
+  where
+    neither : b ≡ false → P ⊎ Q → ⊥
+    neither e (inl p) = r .denies refl p
+    neither e (inr q) = s .denies e q
+
+pub reads-not : {P : Type 0} (a : Bool) → Reads a P → Reads (not a) (P → ⊥)
+reads-not true r = record { says = λ e. absurd (true≠false (sym e)); denies = λ e f. f (r .says refl) }
+reads-not false r = record { says = λ e. r .denies refl; denies = λ e. absurd (true≠false e) }
