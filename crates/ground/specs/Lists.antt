@@ -1,0 +1,54 @@
+-- Words and laws on lists that the kit's libraries do not have.
+--   any t l    ==  some element of l passes the test t
+--   total ds   ==  the lengths of the parts ds together
+--   part s a e ==  the bytes of s from place a up to place e
+use Prim.Native.Nat.{ℕ, _+_, _-_, _≤_, _<_}
+use mathlib.Core.Path.{_≡_, refl, sym, ap, _∙_}
+use mathlib.Core.Bool.{Bool, true, false, _||_}
+use mathlib.Core.List.{List, [], _∷_, _++_, List·Memᴰ, List·Memᴰ·head, List·Memᴰ·tail, List·Memᴰ·not-nil, List·Memᴰ·cases-cons}
+use mathlib.Core.Logic.{_⊎_, inl, inr, ⊎-elim}
+use lib.ListN.{length, take, drop, getD, length-take, length-drop}
+use native.Mathlib.Omega.{arith}
+use native.Mathlib.Nat.{add-assoc}
+use Rattle.ground.specs.Pick.{Reads, true≠false}
+
+abbrev pub part : List ℕ → ℕ → ℕ → List ℕ
+part s a e = take (e - a) (drop a s)
+
+pub part-length : (s : List ℕ) (a e : ℕ) → e ≤ length s → length (part s a e) ≡ e - a
+part-length s a e h = simp (length-take, length-drop) (omega arith)
+
+unfoldable pub total : List (List ℕ) → ℕ
+total [] = 0
+total (d ∷ ds) = length d + total ds
+
+pub total-append : (b : List (List ℕ)) (c : List (List ℕ)) → total (b ++ c) ≡ total b + total c
+unfolding total
+total-append [] c = omega arith
+total-append (d ∷ b) c = let h = total-append b c in omega arith
+
+unfoldable pub any : {A : Type 0} → (A → Bool) → List A → Bool
+any t [] = false
+any t (x ∷ l) = t x || any t l
+
+-- some element of l has the property P
+pub record Some {A : Type 0} (P : A → Type 0) (l : List A) : Type 0 where
+  pub one : A
+  pub among : List·Memᴰ one l
+  pub has : P one
+
+pub reads-any : {A : Type 0} (t : A → Bool) (P : A → Type 0) → ((x : A) → Reads (t x) (P x)) → (l : List A) → Reads (any t l) (Some P l)
+unfolding any
+reads-any {A} t P r [] = record { says = λ e. absurd (true≠false (sym e)); denies = λ e h. List·Memᴰ·not-nil (h .among) }
+reads-any {A} t P r (x ∷ l) = go (t x) (r x) (reads-any t P r l)
+  where
+    go : (b : Bool) → Reads b (P x) → Reads (any t l) (Some P l) → Reads (b || any t l) (Some P (x ∷ l))
+    go true q ih = record { says = λ e. record { one = x; among = List·Memᴰ·head refl; has = q .says refl }; denies = λ e. absurd (true≠false e) }
+    go false q ih = record {
+        says = λ e. let s = ih .says e in record { one = s .one; among = List·Memᴰ·tail (s .among); has = s .has };
+        denies = λ e h. split e h (List·Memᴰ·cases-cons (h .among))
+      }
+      where
+        split : any t l ≡ false → (h : Some P (x ∷ l)) → (h .one ≡ x) ⊎ List·Memᴰ (h .one) l → ⊥
+        split e h (inl m) = q .denies refl (rw m at (h .has))
+        split e h (inr m) = ih .denies e (record { one = h .one; among = m; has = h .has })
