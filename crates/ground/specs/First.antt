@@ -84,29 +84,31 @@ module _ (t : List (List ℕ) → List ℕ → Bool) (Wrong : List (List ℕ) �
       sound-more : (Wrong b d → ⊥) → {x : List (List ℕ)} → Sound (Behind (b ++ d ∷ [])) x → Sound (Behind b) (d ∷ x)
       sound-more n h [] e y q v = n (rw (head-eq-of-cons-eq q) (rw append-nil at v))
       sound-more n h (f ∷ x) e y q v = let g : d ≡ f = head-eq-of-cons-eq q in h x e y (tail-eq-of-cons-eq q) (rw append-snoc (rw g v))
+
       later : (Wrong b d → ⊥) → {r : Place} → Told (p + length d) (b ++ d ∷ []) ds r → Told p b (d ∷ ds) r
       later n (nothing h) = nothing (sound-more n h)
       later n (found k) =
           let m = k .place in
           found (record {
-              before = d ∷ k .before;
-              offender = k .offender;
-              after = k .after;
-              split = ap (λ (l : List (List ℕ)). d ∷ l) (k .split);
-              wrong = rw append-snoc at (k .wrong);
-              place = m ∙ add-assoc p (length d) (total (k .before));
-              none-before = sound-more n (k .none-before)
+            before = d ∷ k .before;
+            offender = k .offender;
+            after = k .after;
+            split = ap (λ (l : List (List ℕ)). d ∷ l) (k .split);
+            wrong = rw append-snoc at (k .wrong);
+            place = m ∙ add-assoc p (length d) (total (k .before));
+            none-before = sound-more n (k .none-before);
           })
+
       go : (c : Bool) → Reads c (Wrong b d) → Told (p + length d) (b ++ d ∷ []) ds (firstFrom t (p + length d) (b ++ d ∷ []) ds) → Told p b (d ∷ ds) (pick c (At p) (firstFrom t (p + length d) (b ++ d ∷ []) ds))
       go true r k =
           found (record {
-              before = [];
-              offender = d;
-              after = ds;
-              split = refl;
-              wrong = rw append-nil (r .says refl);
-              place = sym (add-zero p);
-              none-before = λ x e y q v. no-split x e y q
+            before = [];
+            offender = d;
+            after = ds;
+            split = refl;
+            wrong = rw append-nil (r .says refl);
+            place = sym (add-zero p);
+            none-before = λ x e y q v. no-split x e y q;
           })
       go false r k = later (r .denies refl) k
 
@@ -124,5 +126,6 @@ module _ (t : List (List ℕ) → List ℕ → Bool) (Wrong : List (List ℕ) �
       of : {r : Place} → Told p [] ds r → r ≡ At q → Breaks Wrong p ds q
       of (nothing h) e = let z : _≡_ {A = ℕ} 0 1 = cc in absurd (omega arith)
       of (found {q = q′} k) e = let z : q′ ≡ q = cc in rw (← z) k
+
       to : Breaks Wrong p ds q → firstFrom t p [] ds ≡ At q
       to k = rw (k .split) (at-place p [] (k .before) (k .offender) (k .after) (k .wrong) (k .none-before) ∙ ap At (sym (k .place)))

@@ -5,9 +5,10 @@
 use Prim.Native.Nat.{ℕ, _+_, _-_, _≤_, _<_}
 use mathlib.Core.Path.{_≡_, refl, sym, ap, _∙_}
 use mathlib.Core.Bool.{Bool, true, false, _||_}
-use mathlib.Core.List.{List, [], _∷_, _++_, List·Memᴰ, List·Memᴰ·head, List·Memᴰ·tail, List·Memᴰ·not-nil, List·Memᴰ·cases-cons}
+use mathlib.Core.List.{List, [], _∷_, _++_, flatten, List·Memᴰ, List·Memᴰ·head, List·Memᴰ·tail, List·Memᴰ·not-nil, List·Memᴰ·cases-cons}
 use mathlib.Core.Logic.{_⊎_, inl, inr, ⊎-elim}
-use lib.ListN.{length, take, drop, getD, length-take, length-drop}
+use lib.ListN.{length, take, drop, getD, length-append, length-take, length-drop}
+use lib.Seq.{take-add, drop-drop}
 use native.Mathlib.Omega.{arith}
 use native.Mathlib.Nat.{add-assoc}
 use Rattle.ground.specs.Pick.{Reads, true≠false}
@@ -18,6 +19,15 @@ part s a e = take (e - a) (drop a s)
 pub part-length : (s : List ℕ) (a e : ℕ) → e ≤ length s → length (part s a e) ≡ e - a
 part-length s a e h = simp (length-take, length-drop) (omega arith)
 
+pub part-join : (s : List ℕ) (a b c : ℕ) → a ≤ b → b ≤ c → part s a b ++ part s b c ≡ part s a c
+part-join s a b c h k =
+    let n : c - a ≡ b - a + (c - b) = omega arith in
+    let m : a + (b - a) ≡ b = omega arith in
+    sym (ap (λ (i : ℕ). take i (drop a s)) n ∙ take-add (b - a) (c - b) (drop a s) ∙ ap (λ (l : List ℕ). part s a b ++ take (c - b) l) (drop-drop (b - a) a s ∙ ap (λ (i : ℕ). drop i s) m))
+
+pub part-none : (s : List ℕ) (a : ℕ) → part s a a ≡ []
+part-none s a = let z : a - a ≡ 0 = omega arith in ap (λ (i : ℕ). take i (drop a s)) z
+
 unfoldable pub total : List (List ℕ) → ℕ
 total [] = 0
 total (d ∷ ds) = length d + total ds
@@ -26,6 +36,11 @@ pub total-append : (b : List (List ℕ)) (c : List (List ℕ)) → total (b ++ c
 unfolding total
 total-append [] c = omega arith
 total-append (d ∷ b) c = let h = total-append b c in omega arith
+
+pub length-flatten : (ds : List (List ℕ)) → length (flatten ds) ≡ total ds
+unfolding total flatten
+length-flatten [] = refl
+length-flatten (d ∷ ds) = length-append d (flatten ds) ∙ ap (λ (n : ℕ). length d + n) (length-flatten ds)
 
 unfoldable pub any : {A : Type 0} → (A → Bool) → List A → Bool
 any t [] = false
@@ -45,9 +60,9 @@ reads-any {A} t P r (x ∷ l) = go (t x) (r x) (reads-any t P r l)
     go : (b : Bool) → Reads b (P x) → Reads (any t l) (Some P l) → Reads (b || any t l) (Some P (x ∷ l))
     go true q ih = record { says = λ e. record { one = x; among = List·Memᴰ·head refl; has = q .says refl }; denies = λ e. absurd (true≠false e) }
     go false q ih = record {
-        says = λ e. let s = ih .says e in record { one = s .one; among = List·Memᴰ·tail (s .among); has = s .has };
-        denies = λ e h. split e h (List·Memᴰ·cases-cons (h .among))
-      }
+      says = λ e. let s = ih .says e in record { one = s .one; among = List·Memᴰ·tail (s .among); has = s .has };
+      denies = λ e h. split e h (List·Memᴰ·cases-cons (h .among));
+    }
       where
         split : any t l ≡ false → (h : Some P (x ∷ l)) → (h .one ≡ x) ⊎ List·Memᴰ (h .one) l → ⊥
         split e h (inl m) = q .denies refl (rw m at (h .has))
