@@ -1,7 +1,7 @@
 // Bytes to descriptors. Each function takes every slice and every place.
 ghost use mathlib.Core.Path.{_≡_};
 ghost use lib.ListN.{length};
-ghost use Rattle.ground.specs.Numbers.{byte};
+ghost use Rattle.ground.specs.Numbers.{byte, word};
 ghost use Rattle.scan.specs.Cutting.{endAt, reach};
 ghost use mathlib.Core.Bool.{_||_};
 ghost use Rattle.scan.specs.Want.{isInterface, isClass, isAudio, isSetting, isMember, wants, foundFrom};
@@ -12,6 +12,16 @@ pub fn byte_at(s: &[u8], at: usize) -> u8
     ensures { λ r. ⌜ r ≡ byte (now (s .entry)) at ⌝ }
 {
     if at < s.len() { s[at] } else { 0 }
+}
+
+// The number of two bytes at an offset, the low byte first.
+pub fn word_at(s: &[u8], at: usize) -> u16
+    ensures { λ r. ⌜ r ≡ word (now (s .entry)) at ⌝ }
+{
+    if s.len() <= at {
+        return 0;
+    }
+    byte_at(s, at) as u16 + byte_at(s, at + 1) as u16 * 256
 }
 
 // Where the descriptor at a place ends: the place itself where none stands.

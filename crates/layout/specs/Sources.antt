@@ -1,0 +1,31 @@
+-- The sources of an entity, in the order of its pins.
+--   sourceList e d ==  their IDs: none for an Input Terminal, one for an Output Terminal and a Feature Unit, p of them from offset 5
+--                      for a Mixer and a Selector, from 6 for the printed Selector
+--   padded l       ==  eight places: the IDs l, then 00
+--   sourcesOf d    ==  what the reader hands on: how many there are, and the eight places
+use Prim.Native.Nat.{ℕ, _+_, _≤_}
+use mathlib.Core.List.{List, [], _∷_, _++_}
+use lib.ListN.{length, take, drop, replicate}
+use Rattle.ground.specs.Numbers.{byte}
+use Rattle.layout.specs.declared.Entity.{Entity}
+use Rattle.layout.specs.declared.Entity.the-variants.{Unknown, Input, Output, Mixer, Selector, Printed, Feature}
+use Rattle.layout.specs.declared.Sources.{Sources}
+use Rattle.layout.specs.Layout.{entityOf, mostPins}
+
+unfoldable pub sourceList : Entity → List ℕ → List ℕ
+sourceList Unknown d = []
+sourceList (Input i t c) d = []
+sourceList (Output i t s) d = s ∷ []
+sourceList (Mixer i p c l) d = take p (drop 5 d)
+sourceList (Selector i p) d = take p (drop 5 d)
+sourceList (Printed i p) d = take p (drop 6 d)
+sourceList (Feature i s n l) d = s ∷ []
+
+unfoldable pub padded : List ℕ → List ℕ
+padded l = l ++ drop (length l) (replicate mostPins 0)
+
+unfoldable pub sourcesIn : List ℕ → Sources
+sourcesIn l = record { pins = length l; ids = padded l }
+
+unfoldable pub sourcesOf : List ℕ → Sources
+sourcesOf d = sourcesIn (sourceList (entityOf d) d)

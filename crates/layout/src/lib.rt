@@ -1,0 +1,270 @@
+// The layouts of the five kinds of entities (document 01, "Entities"). A descriptor becomes an enum case that carries its kind's
+// own numbers; its sources are read beside it.
+ghost use mathlib.Core.Path.{_≡_};
+ghost use Prim.Native.Nat.{_≤_, _<_};
+ghost use mathlib.Core.List.{[], _∷_};
+ghost use lib.ListN.{length};
+ghost use Rattle.layout.specs.Layout.{entityOf, inputOf, outputOf, mixerOf, selectorOf, featureOf, clusterAt, within, mostPins};
+ghost use Rattle.layout.specs.Sources.{sourcesOf, sourcesIn};
+use scan::byte_at;
+use scan::word_at;
+
+// The most pins that a Mixer or a Selector may have.
+pub const MOST_PINS: u8 = 8;
+
+// A cluster is channels c, a bitmap of locations, and a first name index.
+pub struct Cluster {
+    pub channels: u8,
+    pub locations: u16,
+    pub names: u8,
+}
+
+pub enum Entity {
+    // Any other kind, or a wrong layout.
+    Unknown,
+    Input {
+        id: u8,
+        terminal: u16,
+        cluster: Cluster,
+    },
+    Output {
+        id: u8,
+        terminal: u16,
+        source: u8,
+    },
+    Mixer {
+        id: u8,
+        pins: u8,
+        cluster: Cluster,
+        length: u8,
+    },
+    Selector {
+        id: u8,
+        pins: u8,
+    },
+    // The printed Selector: a pad at 5, its sources from 6.
+    Printed {
+        id: u8,
+        pins: u8,
+    },
+    Feature {
+        id: u8,
+        source: u8,
+        size: u8,
+        length: u8,
+    },
+}
+
+// How many sources an entity has, and their IDs in the order of its pins, the unused places 0.
+pub struct Sources {
+    pub pins: u8,
+    pub ids: [u8; 8],
+}
+
+fn cluster_at(d: &[u8], at: usize) -> Cluster
+    requires { ⌜ at < 4096 ⌝ }
+    ensures { λ r. ⌜ r ≡ clusterAt (now (d .entry)) at ⌝ }
+{
+    Cluster {
+        channels: byte_at(d, at),
+        locations: word_at(d, at + 1),
+        names: byte_at(d, at + 3),
+    }
+}
+
+fn read_input(d: &[u8]) -> Entity
+    ensures { λ r. ⌜ r ≡ inputOf (now (d .entry)) ⌝ }
+{
+    if d.len() != 12 {
+        return Entity::Unknown;
+    }
+    let cluster = cluster_at(d, 7);
+    Entity::Input {
+        id: byte_at(d, 3),
+        terminal: word_at(d, 4),
+        cluster,
+    }
+}
+
+fn read_output(d: &[u8]) -> Entity
+    ensures { λ r. ⌜ r ≡ outputOf (now (d .entry)) ⌝ }
+{
+    if d.len() != 9 {
+        return Entity::Unknown;
+    }
+    Entity::Output {
+        id: byte_at(d, 3),
+        terminal: word_at(d, 4),
+        source: byte_at(d, 7),
+    }
+}
+
+// Whether a number of pins is 1 to 8.
+fn right_pins(pins: u8) -> bool
+    ensures { λ r. ⌜ r ≡ within 1 pins mostPins ⌝ }
+{
+    if pins < 1 {
+        return false;
+    }
+    pins <= MOST_PINS
+}
+
+fn read_mixer(d: &[u8]) -> Entity
+    ensures { λ r. ⌜ r ≡ mixerOf (now (d .entry)) ⌝ }
+{
+    let pins = byte_at(d, 4);
+    if !right_pins(pins) {
+        return Entity::Unknown;
+    }
+    if d.len() < 10 + pins as usize {
+        return Entity::Unknown;
+    }
+    let cluster = cluster_at(d, 5 + pins as usize);
+    Entity::Mixer {
+        id: byte_at(d, 3),
+        pins,
+        cluster,
+        length: byte_at(d, 0),
+    }
+}
+
+fn read_selector(d: &[u8]) -> Entity
+    ensures { λ r. ⌜ r ≡ selectorOf (now (d .entry)) ⌝ }
+{
+    let pins = byte_at(d, 4);
+    if !right_pins(pins) {
+        return Entity::Unknown;
+    }
+    if d.len() == 6 + pins as usize {
+        return Entity::Selector {
+            id: byte_at(d, 3),
+            pins,
+        };
+    }
+    if d.len() != 7 + pins as usize {
+        return Entity::Unknown;
+    }
+    if byte_at(d, 5) != 0 {
+        return Entity::Unknown;
+    }
+    Entity::Printed {
+        id: byte_at(d, 3),
+        pins,
+    }
+}
+
+fn read_feature(d: &[u8]) -> Entity
+    ensures { λ r. ⌜ r ≡ featureOf (now (d .entry)) ⌝ }
+{
+    let size = byte_at(d, 5);
+    if size < 1 {
+        return Entity::Unknown;
+    }
+    if 4 < size {
+        return Entity::Unknown;
+    }
+    if d.len() < 7 {
+        return Entity::Unknown;
+    }
+    Entity::Feature {
+        id: byte_at(d, 3),
+        source: byte_at(d, 4),
+        size,
+        length: byte_at(d, 0),
+    }
+}
+
+// What the layout of a descriptor says it is; byte 2 is the kind.
+pub fn read(d: &[u8]) -> Entity
+    ensures { λ r. ⌜ r ≡ entityOf (now (d .entry)) ⌝ }
+{
+    let kind = byte_at(d, 2);
+    match kind {
+        2 => read_input(d),
+        3 => read_output(d),
+        4 => read_mixer(d),
+        5 => read_selector(d),
+        6 => read_feature(d),
+        _ => Entity::Unknown,
+    }
+}
+
+// The places of a stretch of IDs, 00 past its end.
+fn sources_in(ids: &[u8]) -> Sources
+    requires { ⌜ length (now ids) ≤ mostPins ⌝ }
+    ensures { λ r. ⌜ r ≡ sourcesIn (now (ids .entry)) ⌝ }
+{
+    let mut places = [0u8; 8];
+    let mut i: usize = 0;
+    while i < ids.len() {
+        places[i] = ids[i];
+        i += 1;
+    }
+    Sources {
+        pins: i as u8,
+        ids: places,
+    }
+}
+
+fn one_source(id: u8) -> Sources
+    ensures { λ r. ⌜ r ≡ sourcesIn (id ∷ []) ⌝ }
+{
+    let mut places = [0u8; 8];
+    places[0] = id;
+    Sources {
+        pins: 1,
+        ids: places,
+    }
+}
+
+fn no_sources() -> Sources
+    ensures { λ r. ⌜ r ≡ sourcesIn [] ⌝ }
+{
+    Sources {
+        pins: 0,
+        ids: [0u8; 8],
+    }
+}
+
+// The sources of an entity; none where its layout is wrong.
+pub fn read_sources(d: &[u8]) -> Sources
+    ensures { λ r. ⌜ r ≡ sourcesOf (now (d .entry)) ⌝ }
+{
+    let entity = read(d);
+    match entity {
+        Entity::Unknown => no_sources(),
+        Entity::Input {
+            id: _,
+            terminal: _,
+            cluster: _,
+        } => no_sources(),
+        Entity::Output {
+            id: _,
+            terminal: _,
+            source,
+        } => one_source(source),
+        Entity::Mixer {
+            id: _,
+            pins,
+            cluster: _,
+            length: _,
+        } => {
+            let end = 5 + pins as usize;
+            sources_in(&d[5..end])
+        }
+        Entity::Selector { id: _, pins } => {
+            let end = 5 + pins as usize;
+            sources_in(&d[5..end])
+        }
+        Entity::Printed { id: _, pins } => {
+            let end = 6 + pins as usize;
+            sources_in(&d[6..end])
+        }
+        Entity::Feature {
+            id: _,
+            source,
+            size: _,
+            length: _,
+        } => one_source(source),
+    }
+}
