@@ -1,3 +1,4 @@
 pub mod Cutting
 pub mod CuttingLaws
+pub mod Search
 pub mod Want

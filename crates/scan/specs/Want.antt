@@ -10,14 +10,13 @@
 use Prim.Native.Nat.{ℕ}
 use mathlib.Core.Path.{_≡_}
 use mathlib.Core.Bool.{Bool, not, _&&_, _||_}
-use mathlib.Core.List.{List, []}
+use mathlib.Core.List.{List}
 use mathlib.Core.Logic.{_⊎_}
 use lib.Dec.{eqb}
 use Rattle.ground.specs.Pick.{Reads, reads-eq, reads-and, reads-or, reads-not}
 use Rattle.ground.specs.Numbers.{byte}
-use Rattle.ground.specs.First.{firstFrom}
 use Rattle.ground.specs.declared.Place.{Place}
-use Rattle.scan.specs.Cutting.{rest}
+use Rattle.scan.specs.Search.{searched}
 use Rattle.scan.specs.declared.Want.{Want}
 use Rattle.scan.specs.declared.Want.the-variants as want
 
@@ -81,4 +80,4 @@ wants want.ClassOrInterface d = isClass d || isInterface d
 
 -- the first wanted descriptor of those that stand from place from on
 unfoldable pub foundFrom : List ℕ → ℕ → Want → Place
-foundFrom s from w = firstFrom (λ b d. wants w d) from [] (rest s from)
+foundFrom s from w = searched (λ b d. wants w d) s from

@@ -1,63 +1,40 @@
--- The search has passed the descriptors before `at`, none of them wanted; what it finds is what it finds from there on.
+-- A search by what is wanted.
 use borrow.Author.Needs.{needs}
-use Prim.Native.Nat.{ℕ, _+_, _-_, _≤_, _<_}
-use mathlib.Core.Path.{_≡_, refl, sym, ap, _∙_}
+use Prim.Native.Nat.{ℕ, _-_}
+use mathlib.Core.Path.{_≡_, sym, _∙_}
 use mathlib.Core.Bool.{Bool, true, false}
-use mathlib.Core.List.{List, [], _∷_, _++_}
-use native.Mathlib.Omega.{arith}
+use mathlib.Core.List.{List}
 use lib.ListN.{length}
 use Rattle.ground.specs.declared.Place.{Place}
 use Rattle.ground.specs.declared.Place.the-variants.{Nowhere, At}
-use Rattle.ground.specs.Lists.{part, part-length}
-use Rattle.ground.specs.First.{firstFrom, first-here, first-on, first-end}
-use Rattle.scan.specs.Cutting.{endAt, rest}
-use Rattle.scan.specs.CuttingLaws.{end-off, rest-none, rest-more}
+use Rattle.ground.specs.Lists.{part}
+use Rattle.scan.specs.Cutting.{endAt}
+use Rattle.scan.specs.Search.{Passed, start, stop, hit, miss, ordered, inside, falls}
 use Rattle.scan.specs.Want.{wants, foundFrom}
 use Rattle.scan.specs.declared.Want.{Want}
 use Rattle.scan.proofs.find.Statement.{statement}
 use Rattle.scan.proofs.find.Tie as tie
 
-record Passed (s : List ℕ) (w : Want) (from at : ℕ) : Type 0 where
-  behind : List (List ℕ)
-  same : foundFrom s from w ≡ firstFrom (λ b d. wants w d) at behind (rest s at)
+abbrev Sought : Want → List ℕ → ℕ → ℕ → Type 0
+Sought w s from at = Passed (λ b d. wants w d) s from at
 
-start : (s : List ℕ) (w : Want) (from : ℕ) → Passed s w from from
-unfolding foundFrom
-start s w from = record { behind = []; same = refl }
+module _ (w : Want) (s : List ℕ) (from at e : ℕ) (g : Sought w s from at) (f : e ≡ endAt s at) where
+  none-left : e ≡ at → Nowhere ≡ foundFrom s from w
+  unfolding foundFrom
+  none-left h = stop (λ b d. wants w d) s from at e g f h
 
-stop : (s : List ℕ) (w : Want) (from at e : ℕ) → Passed s w from at → e ≡ endAt s at → e ≡ at → Nowhere ≡ foundFrom s from w
-stop s w from at e g f h = sym (g .same ∙ ap (firstFrom (λ b d. wants w d) at (g .behind)) (rest-none s at (sym f ∙ h)) ∙ first-end _ _ _)
+  module _ (h : e ≡ at → ⊥) (r : Bool) (t : r ≡ wants w (part s at e)) where
+    found : r ≡ true → At at ≡ foundFrom s from w
+    unfolding foundFrom
+    found y = hit (λ b d. wants w d) s from at e g f h (sym t ∙ y)
 
-module _ (s : List ℕ) (w : Want) (from at e : ℕ) (g : Passed s w from at) (f : e ≡ endAt s at) (h : e ≡ at → ⊥) (r : Bool) (t : r ≡ wants w (part s at e)) where
-  next : rest s at ≡ part s at e ∷ rest s e
-  next = rw f (rest-more s at (λ q. h (f ∙ q)))
+    on : r ≡ false → Sought w s from e
+    on y = miss (λ b d. wants w d) s from at e g f h (sym t ∙ y)
 
-  hit : r ≡ true → At at ≡ foundFrom s from w
-  hit y = sym (g .same ∙ ap (firstFrom (λ b d. wants w d) at (g .behind)) next ∙ first-here _ _ _ _ _ (sym t ∙ y))
-
-  miss : r ≡ false → Passed s w from e
-  miss y =
-      let o = end-off s at (λ q. h (f ∙ q)) in
-      let l : length (part s at e) ≡ e - at = part-length s at e (omega arith) in
-      let m : at + length (part s at e) ≡ e = omega arith in
-      record {
-        behind = g .behind ++ part s at e ∷ [];
-        same = g .same ∙ ap (firstFrom (λ b d. wants w d) at (g .behind)) next ∙ first-on _ _ _ _ _ (sym t ∙ y) ∙ ap (λ (i : ℕ). firstFrom (λ b d. wants w d) i (g .behind ++ part s at e ∷ []) (rest s e)) m;
-      }
-
-ordered : (s : List ℕ) (at e : ℕ) → e ≡ endAt s at → (e ≡ at → ⊥) → at ≤ e
-ordered s at e f h = let o = end-off s at (λ q. h (f ∙ q)) in omega arith
-
-within : (s : List ℕ) (at e : ℕ) → e ≡ endAt s at → (e ≡ at → ⊥) → e ≤ length s
-within s at e f h = let o = end-off s at (λ q. h (f ∙ q)) in omega arith
-
-falls : (s : List ℕ) (at e : ℕ) → e ≡ endAt s at → (e ≡ at → ⊥) → length s - e < length s - at
-falls s at e f h = let o = end-off s at (λ q. h (f ∙ q)) in omega arith
-
-ruleset laws = (start, stop, hit, miss, ordered, within, falls, needs)
+ruleset laws = (start, none-left, found, on, ordered, inside, falls, needs)
 
 abbrev Inv-loop : tie.InvT-loop
-Inv-loop s from want at₀ at = Passed s want from at
+Inv-loop s from want at₀ at = Sought want s from at
 
 abbrev μ-loop : tie.MeasureT-loop
 μ-loop s from want at₀ at = length s - at
