@@ -1,0 +1,9 @@
+pub mod Members
+pub mod Tallies
+pub mod Chains
+pub mod Ranks
+pub mod Clusters
+pub mod Renaming
+pub mod Order
+pub mod Rounds
+pub mod Examples
