@@ -7,8 +7,9 @@
 --   after src rule start d a   ==  what the rules give out at a after d rounds, from `start` everywhere
 --   Made src rule nodes cluster  ==  each node's cluster is what its rule makes of what enters it
 --   Kept src fits nodes cluster  ==  what enters each node passes its test
---   Valid, Accepted            ==  the two sides of the theorem
---   accepts                    ==  the second side as a test, where `fits` has one
+--   Valid src rule fits nodes            ==  a rank and clusters that keep the rules
+--   Accepted src rule fits start k nodes ==  k rounds settle every node, and each test holds at their clusters
+--   accepts src rule start k nodes test  ==  the second side as a test, where `fits` has one
 --   after-settled              ==  a settled entity's cluster does not change any more
 --   after-made                 ==  where every node is settled, the rounds' clusters are made by the rules
 --   made-settled               ==  at a settled node the rounds' cluster is that of every assignment made by the rules
@@ -32,11 +33,14 @@ use Rattle.graph.specs.Ranks.{Closed, Ranked, Ranks, AllSettled, ranks-o
 abbrev pub entering : {A C : Type 0} → (A → List A) → (A → C) → A → List C
 entering src cluster a = map cluster (src a)
 
+abbrev pub Made : {A C : Type 0} → (A → List A) → (A → List C → C) → List A → (A → C) → Type 0
+Made {A} src rule nodes cluster = (a : A) → a ∈ nodes → cluster a ≡ rule a (entering src cluster a)
+
+abbrev pub Kept : {A C : Type 0} → (A → List A) → (A → List C → Type 0) → List A → (A → C) → Type 0
+Kept {A} src fits nodes cluster = (a : A) → a ∈ nodes → fits a (entering src cluster a)
+
 -- what entities give out
 module _ {A C : Type 0} (src : A → List A) (rule : A → List C → C) where
-  abbrev pub Made : List A → (A → C) → Type 0
-  Made nodes cluster = (a : A) → a ∈ nodes → cluster a ≡ rule a (entering src cluster a)
-
   module _ (start : C) where
     unfoldable pub after : ℕ → A → C
     after zero a = start
@@ -49,11 +53,11 @@ module _ {A C : Type 0} (src : A → List A) (rule : A → List C → C) where
     after-settled (suc d) (suc e) a h l =
         ap (rule a) (map-same (after e) (after d) (src a) (λ b m. after-settled d e b (all-at (settled src d) h m) (le-of-suc-le-suc l)))
 
-    pub after-made : (nodes : List A) (k : ℕ) → AllSettled src nodes k → Made nodes (after k)
+    pub after-made : (nodes : List A) (k : ℕ) → AllSettled src nodes k → Made src rule nodes (after k)
     unfolding after
     after-made nodes k h a l = sym (after-settled k (suc k) a (h a l) (omega arith))
 
-    pub made-settled : (nodes : List A) → Closed src nodes → (cluster : A → C) → Made nodes cluster → (d : ℕ) (a : A) → a ∈ nodes → settled src d a ≡ true → cluster a ≡ after d a
+    pub made-settled : (nodes : List A) → Closed src nodes → (cluster : A → C) → Made src rule nodes cluster → (d : ℕ) (a : A) → a ∈ nodes → settled src d a ≡ true → cluster a ≡ after d a
     unfolding after settled
     made-settled nodes closed cluster made zero a l h = absurd (true≠false (sym h))
     made-settled nodes closed cluster made (suc d) a l h =
@@ -65,35 +69,32 @@ module _ {A C : Type 0} (src : A → List A) (rule : A → List C → C) where
     settled-source zero a b h m = absurd (true≠false (sym h))
     settled-source (suc d) a b h m = settled-suc src d b (all-at (settled src d) h m)
 
-    entering-settled : (nodes : List A) → Closed src nodes → (cluster : A → C) → Made nodes cluster → (d : ℕ) (a : A) → a ∈ nodes → settled src d a ≡ true → entering src cluster a ≡ entering src (after d) a
+    entering-settled : (nodes : List A) → Closed src nodes → (cluster : A → C) → Made src rule nodes cluster → (d : ℕ) (a : A) → a ∈ nodes → settled src d a ≡ true → entering src cluster a ≡ entering src (after d) a
     entering-settled nodes closed cluster made d a l h =
         map-same cluster (after d) (src a) (λ b m. made-settled nodes closed cluster made d b (closed a l b m) (settled-source d a b h m))
 
-  pub made-exists : (start : C) (nodes : List A) → Closed src nodes → Ranks src nodes → (cluster : A → C) × Made nodes cluster
+  pub made-exists : (start : C) (nodes : List A) → Closed src nodes → Ranks src nodes → (cluster : A → C) × Made src rule nodes cluster
   made-exists start nodes closed r =
       (after start (length nodes), after-made start nodes (length nodes) (ranked-settled src nodes closed (length nodes) (le-refl (length nodes)) (r .0) (r .1)))
 
-  pub made-unique : (nodes : List A) → Closed src nodes → Ranks src nodes → (c d : A → C) → Made nodes c → Made nodes d → (a : A) → a ∈ nodes → c a ≡ d a
+  pub made-unique : (nodes : List A) → Closed src nodes → Ranks src nodes → (c d : A → C) → Made src rule nodes c → Made src rule nodes d → (a : A) → a ∈ nodes → c a ≡ d a
   made-unique nodes closed r c d m n a l =
       let h = ranked-settled src nodes closed (length nodes) (le-refl (length nodes)) (r .0) (r .1) a l in
       made-settled (c a) nodes closed c m (length nodes) a l h ∙ sym (made-settled (c a) nodes closed d n (length nodes) a l h)
 
 -- what entities take in
 module _ {A C : Type 0} (src : A → List A) (rule : A → List C → C) (fits : A → List C → Type 0) where
-  abbrev pub Kept : List A → (A → C) → Type 0
-  Kept nodes cluster = (a : A) → a ∈ nodes → fits a (entering src cluster a)
-
   pub record Valid (nodes : List A) : Type 0 where
     pub rank : A → ℕ
     pub ranked : Ranked src nodes rank
     pub cluster : A → C
     pub made : Made src rule nodes cluster
-    pub kept : Kept nodes cluster
+    pub kept : Kept src fits nodes cluster
 
   module _ (start : C) (k : ℕ) where
     pub record Accepted (nodes : List A) : Type 0 where
       pub all-settled : AllSettled src nodes k
-      pub all-fit : Kept nodes (after src rule start k)
+      pub all-fit : Kept src fits nodes (after src rule start k)
 
     module _ (nodes : List A) (closed : Closed src nodes) where
       pub fits-settled : (cluster : A → C) → Made src rule nodes cluster → (a : A) → a ∈ nodes → settled src k a ≡ true → fits a (entering src cluster a) ↔ fits a (entering src (after src rule start k) a)
@@ -128,10 +129,10 @@ module _ {A C : Type 0} (src : A → List A) (rule : A → List C → C) (fits :
         valid-unique v w a l = valid-cluster v a l ∙ sym (valid-cluster w a l)
 
 -- as tests
-module _ {A C : Type 0} (src : A → List A) (rule : A → List C → C) (fits : A → List C → Type 0) (start : C) (k : ℕ) (nodes : List A) where
-  unfoldable pub accepts : (A → List C → Bool) → Bool
-  accepts test = all (settled src k) nodes && all (λ a. test a (entering src (after src rule start k) a)) nodes
+unfoldable pub accepts : {A C : Type 0} (src : A → List A) (rule : A → List C → C) (start : C) (k : ℕ) (nodes : List A) → (A → List C → Bool) → Bool
+accepts src rule start k nodes test = all (settled src k) nodes && all (λ a. test a (entering src (after src rule start k) a)) nodes
 
+module _ {A C : Type 0} (src : A → List A) (rule : A → List C → C) (fits : A → List C → Type 0) (start : C) (k : ℕ) (nodes : List A) where
   module _ (test : A → List C → Bool) (reads : (a : A) (cs : List C) → Reads (test a cs) (fits a cs)) (closed : Closed src nodes) where
     pub reads-fits : (cluster : A → C) → Made src rule nodes cluster → (a : A) → a ∈ nodes → settled src k a ≡ true → Reads (test a (entering src (after src rule start k) a)) (fits a (entering src cluster a))
     reads-fits cluster made a l h =
@@ -139,7 +140,7 @@ module _ {A C : Type 0} (src : A → List A) (rule : A → List C → C) (fits :
         let r = reads a (entering src (after src rule start k) a) in
         record { says = λ e. both .1 (r .says e); denies = λ e f. r .denies e (both .0 f) }
 
-    pub reads-valid : length nodes ≤ k → Reads (accepts test) (Valid src rule fits nodes)
+    pub reads-valid : length nodes ≤ k → Reads (accepts src rule start k nodes test) (Valid src rule fits nodes)
     unfolding accepts
     reads-valid few =
         let parts = reads-and _ _
