@@ -114,15 +114,16 @@ module _ {A C : Type 0} (src : A → List A) (rule : A → List C → C) (fits :
             to v =
                 let h = ranked-settled src nodes closed k few (v .rank) (v .ranked) in
                 record { all-settled = h; all-fit = λ a l. fits-settled (v .cluster) (v .made) a l (h a l) .0 (v .kept a l) }
+
             from : Accepted nodes → Valid nodes
             from w =
                 let r = ranks-of src nodes k (w .all-settled) in
                 record {
-                    rank = r .0;
-                    ranked = r .1;
-                    cluster = after src rule start k;
-                    made = after-made src rule start nodes k (w .all-settled);
-                    kept = w .all-fit
+                  rank = r .0;
+                  ranked = r .1;
+                  cluster = after src rule start k;
+                  made = after-made src rule start nodes k (w .all-settled);
+                  kept = w .all-fit;
                 }
 
         pub valid-unique : (v w : Valid nodes) (a : A) → a ∈ nodes → v .cluster a ≡ w .cluster a
@@ -144,10 +145,10 @@ module _ {A C : Type 0} (src : A → List A) (rule : A → List C → C) (fits :
     unfolding accepts
     reads-valid few =
         let parts = reads-and _ _
-                (reads-all (settled src k) (λ a. settled src k a ≡ true) nodes (λ a l. record { says = λ e. e; denies = λ e f. true≠false (sym f ∙ e) }))
-                (reads-all (λ a. test a (entering src (after src rule start k) a)) (λ a. fits a (entering src (after src rule start k) a)) nodes (λ a l. reads a _)) in
+        (reads-all (settled src k) (λ a. settled src k a ≡ true) nodes (λ a l. record { says = λ e. e; denies = λ e f. true≠false (sym f ∙ e) }))
+        (reads-all (λ a. test a (entering src (after src rule start k) a)) (λ a. fits a (entering src (after src rule start k) a)) nodes (λ a l. reads a _)) in
         let both = valid-accepted src rule fits start k nodes closed few in
         record {
-            says = λ e. let p = parts .says e in both .1 (record { all-settled = p .0; all-fit = p .1 });
-            denies = λ e v. let w = both .0 v in parts .denies e (w .all-settled, w .all-fit)
+          says = λ e. let p = parts .says e in both .1 (record { all-settled = p .0; all-fit = p .1 });
+          denies = λ e v. let w = both .0 v in parts .denies e (w .all-settled, w .all-fit);
         }

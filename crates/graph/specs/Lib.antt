@@ -5,5 +5,6 @@ pub mod Ranks
 pub mod Clusters
 pub mod Renaming
 pub mod Order
+pub mod Tables
 pub mod Rounds
 pub mod Examples

@@ -65,8 +65,8 @@ module _ {A : Type 0} where
 
   pub reads-all : (p : A → Bool) (P : A → Type 0) (l : List A) → ((x : A) → x ∈ l → Reads (p x) (P x)) → Reads (all p l) ((x : A) → x ∈ l → P x)
   reads-all p P l r = record {
-      says = λ e x m. r x m .says (all-at p e m);
-      denies = λ e h. let x = all-misses p l e in r (x .0) (x .1) .denies (x .2) (h (x .0) (x .1))
+    says = λ e x m. r x m .says (all-at p e m);
+    denies = λ e h. let x = all-misses p l e in r (x .0) (x .1) .denies (x .2) (h (x .0) (x .1));
   }
 
   pub map-same : {C : Type 0} (f g : A → C) (l : List A) → ((x : A) → x ∈ l → f x ≡ g x) → map f l ≡ map g l

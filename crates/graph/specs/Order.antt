@@ -7,6 +7,7 @@
 --   ranked-part, made-part, kept-part, valid-part  ==  what holds over a graph holds over each part of it
 --   settled-part, after-part  ==  a part settles and gives out clusters as the whole does
 --   closed-order, ranked-order, valid-order  ==  over two lists with the same members the same rank and clusters serve
+--   swapped               ==  .. so each of the three goes both ways
 use Prim.Native.Nat.{ℕ}
 use mathlib.Core.Path.{_≡_, refl, sym, ap, _∙_, subst}
 use mathlib.Core.List.{List, map, map-id}
@@ -44,16 +45,22 @@ module _ {A : Type 0} (src : A → List A) (nodes : List A) (src′ : A → List
           same-fits a l (entering src cluster a) (subst (λ (s : List A). fits′ a (map cluster s)) (sym (part .sources a l)) (h a (part .members a l)))
 
       pub valid-part : (v : Valid src′ rule′ fits′ nodes′) → (w : Valid src rule fits nodes) × (w .rank ≡ v .rank) × (w .cluster ≡ v .cluster)
-      valid-part v =
-          (record {
-              rank = v .rank;
-              ranked = ranked-part (v .rank) (v .ranked);
-              cluster = v .cluster;
-              made = made-part (v .cluster) (v .made);
-              kept = kept-part (v .cluster) (v .kept)
-           }, refl, refl)
+      valid-part v = (
+        record {
+          rank = v .rank;
+          ranked = ranked-part (v .rank) (v .ranked);
+          cluster = v .cluster;
+          made = made-part (v .cluster) (v .made);
+          kept = kept-part (v .cluster) (v .kept);
+        },
+        refl,
+        refl,
+      )
 
 -- one graph, its nodes listed twice
+pub swapped : {A : Type 0} {l m : List A} → SameMembers l m → SameMembers m l
+swapped same a = (same a .1, same a .0)
+
 module _ {A : Type 0} (src : A → List A) (nodes nodes′ : List A) (same : SameMembers nodes nodes′) where
   part-order : Part src nodes src nodes′
   part-order = record { members = λ a. same a .0; sources = λ a l. refl }

@@ -88,6 +88,7 @@ module _ {A : Type 0} (src : A → List A) where
         more : d ≤ tally (settled src d) nodes → Still d ⊎ ((a : A) × a ∈ nodes × (settled src d a ≡ false) × (settled src (suc d) a ≡ true)) → ((e : ℕ) × (e ≤ suc d) × Still e) ⊎ (suc d ≤ tally (settled src (suc d)) nodes)
         more h (inl s) = inl (d, omega arith, s)
         more h (inr (a, l, x, y)) = inr (le-trans (suc-le-suc h) (tally-more (settled src d) (settled src (suc d)) (λ b m g. settled-suc src d b g) l x y))
+
         go : ((e : ℕ) × (e ≤ d) × Still e) ⊎ (d ≤ tally (settled src d) nodes) → ((e : ℕ) × (e ≤ suc d) × Still e) ⊎ (suc d ≤ tally (settled src (suc d)) nodes)
         go (inl (e, l, s)) = inl (e, omega arith, s)
         go (inr h) = more h (kept-or-gained (settled src d) (settled src (suc d)) nodes)
@@ -122,23 +123,25 @@ module _ {A : Type 0} (src : A → List A) where
         ranks-settled = (λ r. ranked-settled (r .0) (r .1), ranks-of k)
 
         pub longer-unsettled : (a : A) → a ∈ nodes → Longer src k a ↔ (settled src k a ≡ false)
-        longer-unsettled a l =
-            (λ c. unsettled src (chain-le src (omega arith) (c .2)),
-             λ e. (suc k, le-refl (suc k), unsettled-endless a l e (suc k)))
+        longer-unsettled a l = (
+          λ c. unsettled src (chain-le src (omega arith) (c .2)),
+          λ e. (suc k, le-refl (suc k), unsettled-endless a l e (suc k)),
+        )
 
         pub reads-longer : (a : A) → a ∈ nodes → Reads (settled src k a) (Longer src k a → ⊥)
         reads-longer a l = record {
-            says = λ e c. true≠false (sym e ∙ longer-unsettled a l .0 c);
-            denies = λ e f. f (longer-unsettled a l .1 e)
+          says = λ e c. true≠false (sym e ∙ longer-unsettled a l .0 c);
+          denies = λ e f. f (longer-unsettled a l .1 e);
         }
 
         pub ranks-chains : Ranks ↔ ((a : A) → a ∈ nodes → Longer src k a → ⊥)
-        ranks-chains =
-            (λ r a l. reads-longer a l .says (ranked-settled (r .0) (r .1) a l),
-             λ h. ranks-of k (λ a l. shows (reads-longer a l) (h a l)))
+        ranks-chains = (
+          λ r a l. reads-longer a l .says (ranked-settled (r .0) (r .1) a l),
+          λ h. ranks-of k (λ a l. shows (reads-longer a l) (h a l)),
+        )
 
         pub reads-ranks : Reads (all (settled src k) nodes) Ranks
         reads-ranks = record {
-            says = λ e. ranks-of k (λ a l. all-at (settled src k) e l);
-            denies = λ e r. true≠false (sym (all-of (settled src k) nodes (ranked-settled (r .0) (r .1))) ∙ e)
+          says = λ e. ranks-of k (λ a l. all-at (settled src k) e l);
+          denies = λ e r. true≠false (sym (all-of (settled src k) nodes (ranked-settled (r .0) (r .1))) ∙ e);
         }

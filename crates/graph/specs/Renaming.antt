@@ -39,9 +39,10 @@ module _ {A B : Type 0} (f : A → B) (src : A → List A) (src′ : B → List 
       ∙ all-same (λ b. settled src′ d (f b)) (settled src d) (src a) (λ b m. settled-renamed d b (closed a l b m))
 
   all-settled-renamed : (k : ℕ) → AllSettled src nodes k ↔ AllSettled src′ (map f nodes) k
-  all-settled-renamed k =
-      (λ h b l. let a = Memᴰ·of-map f nodes l in ap (settled src′ k) (sym (a .2)) ∙ settled-renamed k (a .0) (a .1) ∙ h (a .0) (a .1),
-       λ h a l. sym (settled-renamed k a l) ∙ h (f a) (Memᴰ·map f l))
+  all-settled-renamed k = (
+    λ h b l. let a = Memᴰ·of-map f nodes l in ap (settled src′ k) (sym (a .2)) ∙ settled-renamed k (a .0) (a .1) ∙ h (a .0) (a .1),
+    λ h a l. sym (settled-renamed k a l) ∙ h (f a) (Memᴰ·map f l),
+  )
 
   few-renamed : length (map f nodes) ≤ length nodes
   few-renamed = rw length-map (le-refl (length nodes))
@@ -71,20 +72,23 @@ module _ {A B : Type 0} (f : A → B) (src : A → List A) (src′ : B → List 
         where
           same : (a : A) → a ∈ nodes → entering src′ (after src′ rule′ start k) (f a) ≡ entering src (after src rule start k) a
           same a l = entering-renamed (after src rule start k) (after src′ rule′ start k) a l (after-renamed k)
+
           to : Kept src fits nodes (after src rule start k) → Kept src′ fits′ (map f nodes) (after src′ rule′ start k)
           to h b l =
               let a = Memᴰ·of-map f nodes l in
               subst (λ (x : B). fits′ x (entering src′ (after src′ rule′ start k) x)) (a .2)
               (subst (fits′ (f (a .0))) (sym (same (a .0) (a .1))) (same-fits (a .0) (a .1) _ .0 (h (a .0) (a .1))))
+
           from : Kept src′ fits′ (map f nodes) (after src′ rule′ start k) → Kept src fits nodes (after src rule start k)
           from h a l = same-fits a l _ .1 (subst (fits′ (f a)) (same a l) (h (f a) (Memᴰ·map f l)))
 
       pub accepted-renamed : (k : ℕ) → Accepted src rule fits start k nodes ↔ Accepted src′ rule′ fits′ start k (map f nodes)
       accepted-renamed k =
           let s = all-settled-renamed k in
-          let t = kept-renamed k in
-          (λ w. record { all-settled = s .0 (w .all-settled); all-fit = t .0 (w .all-fit) },
-           λ w. record { all-settled = s .1 (w .all-settled); all-fit = t .1 (w .all-fit) })
+          let t = kept-renamed k in (
+            λ w. record { all-settled = s .0 (w .all-settled); all-fit = t .0 (w .all-fit) },
+            λ w. record { all-settled = s .1 (w .all-settled); all-fit = t .1 (w .all-fit) },
+          )
 
       pub valid-renamed : Valid src rule fits nodes ↔ Valid src′ rule′ fits′ (map f nodes)
       valid-renamed =

@@ -75,6 +75,7 @@ module _ {A : Type 0} where
     where
       more : (q y ≡ true → p y ≡ true) → ((x : A) → x ∈ l → q x ≡ true → p x ≡ true) → (x : A) → x ∈ (y ∷ l) → q x ≡ true → p x ≡ true
       more here later x m e = ⊎-elim (λ z. ap p z ∙ here (ap q (sym z) ∙ e)) (λ i. later x i e) (List·Memᴰ·cases-cons m)
+
       go : ((x : A) → x ∈ l → q x ≡ true → p x ≡ true) ⊎ ((x : A) × x ∈ l × (p x ≡ false) × (q x ≡ true)) → (a : Bool) → p y ≡ a → (b : Bool) → q y ≡ b → ((x : A) → x ∈ (y ∷ l) → q x ≡ true → p x ≡ true) ⊎ ((x : A) × x ∈ (y ∷ l) × (p x ≡ false) × (q x ≡ true))
       go (inr (x, m, a, b)) u e v f = inr (x, List·Memᴰ·tail m, a, b)
       go (inl h) true e v f = inl (more (λ z. e) h)
