@@ -1,13 +1,14 @@
 -- Clusters, for any kind of cluster C and any edition's rules. A rule says what an entity gives out, from what enters it by
 -- its sources; a test says whether that may enter it. Document 01's "Clusters" is one choice of the two ("A Feature Unit
 -- gives out its source's cluster", "A Selector gives out pin 1's; all pins have the same c"), and nothing here knows which.
--- The theorem, `valid-accepted`: a rank and clusters that keep the rules exist exactly where the rounds settle every node
+-- The theorem, `decided-by-rounds`: a rank and clusters that keep the rules exist exactly where the rounds settle every node
 -- and the clusters that they compute pass every test; and those clusters are the only ones.
 --   entering src cluster a     ==  the clusters that enter a, in the order of its sources
 --   after src rule start d a   ==  what the rules give out at a after d rounds, from `start` everywhere
 --   Made src rule nodes cluster  ==  each node's cluster is what its rule makes of what enters it
 --   Kept src fits nodes cluster  ==  what enters each node passes its test
 --   Valid src rule fits nodes            ==  a rank and clusters that keep the rules
+--   Clusters src rule fits nodes         ==  the clusters alone; valid-parts: a rank, and these
 --   Accepted src rule fits start k nodes ==  k rounds settle every node, and each test holds at their clusters
 --   accepts src rule start k nodes test  ==  the second side as a test, where `fits` has one
 --   after-settled              ==  a settled entity's cluster does not change any more
@@ -15,8 +16,11 @@
 --   made-settled               ==  at a settled node the rounds' cluster is that of every assignment made by the rules
 --   made-exists, made-unique   ==  where a rank exists, clusters made by the rules do, and they are one (whatever `fits`
 --                                  says: "Each rule reads the declared bytes, even where those break a rule themselves")
+--   entering-settled           ==  .. and the same clusters enter it
 --   fits-settled, reads-fits   ==  so a settled node's test may be read off the rounds' clusters
---   valid-accepted, valid-cluster, valid-unique, reads-valid  ==  the theorem
+--   reads-clusters             ==  where all is settled, the tests at the rounds' clusters decide whether clusters exist
+--   valid-accepted, valid-cluster, valid-unique  ==  the theorem by parts; decided-by-rounds : Decided, whole
+--   reads-valid                ==  the theorem as a test and its statement
 use Prim.Native.Nat.{ℕ, zero, suc, _≤_, zero-le}
 use mathlib.Core.Path.{_≡_, refl, sym, ap, _∙_, subst}
 use mathlib.Core.List.{List, map}
@@ -69,7 +73,7 @@ module _ {A C : Type 0} (src : A → List A) (rule : A → List C → C) where
     settled-source zero a b h m = absurd (true≠false (sym h))
     settled-source (suc d) a b h m = settled-suc src d b (all-at (settled src d) h m)
 
-    entering-settled : (nodes : List A) → Closed src nodes → (cluster : A → C) → Made src rule nodes cluster → (d : ℕ) (a : A) → a ∈ nodes → settled src d a ≡ true → entering src cluster a ≡ entering src (after d) a
+    pub entering-settled : (nodes : List A) → Closed src nodes → (cluster : A → C) → Made src rule nodes cluster → (d : ℕ) (a : A) → a ∈ nodes → settled src d a ≡ true → entering src cluster a ≡ entering src (after d) a
     entering-settled nodes closed cluster made d a l h =
         map-same cluster (after d) (src a) (λ b m. made-settled nodes closed cluster made d b (closed a l b m) (settled-source d a b h m))
 
@@ -90,6 +94,15 @@ module _ {A C : Type 0} (src : A → List A) (rule : A → List C → C) (fits :
     pub cluster : A → C
     pub made : Made src rule nodes cluster
     pub kept : Kept src fits nodes cluster
+
+  abbrev pub Clusters : List A → Type 0
+  Clusters nodes = (cluster : A → C) × Made src rule nodes cluster × Kept src fits nodes cluster
+
+  pub valid-parts : (nodes : List A) → Valid nodes ↔ (Ranks src nodes × Clusters nodes)
+  valid-parts nodes = (
+    λ v. ((v .rank, v .ranked), (v .cluster, v .made, v .kept)),
+    λ p. record { rank = p .0 .0; ranked = p .0 .1; cluster = p .1 .0; made = p .1 .1; kept = p .1 .2 },
+  )
 
   module _ (start : C) (k : ℕ) where
     pub record Accepted (nodes : List A) : Type 0 where
@@ -129,6 +142,14 @@ module _ {A C : Type 0} (src : A → List A) (rule : A → List C → C) (fits :
         pub valid-unique : (v w : Valid nodes) (a : A) → a ∈ nodes → v .cluster a ≡ w .cluster a
         valid-unique v w a l = valid-cluster v a l ∙ sym (valid-cluster w a l)
 
+        pub record Decided : Type 0 where
+          pub exactly : Valid nodes ↔ Accepted nodes
+          pub computed : (v : Valid nodes) (a : A) → a ∈ nodes → v .cluster a ≡ after src rule start k a
+          pub unique : (v w : Valid nodes) (a : A) → a ∈ nodes → v .cluster a ≡ w .cluster a
+
+        pub decided-by-rounds : Decided
+        decided-by-rounds = record { exactly = valid-accepted; computed = valid-cluster; unique = valid-unique }
+
 -- as tests
 unfoldable pub accepts : {A C : Type 0} (src : A → List A) (rule : A → List C → C) (start : C) (k : ℕ) (nodes : List A) → (A → List C → Bool) → Bool
 accepts src rule start k nodes test = all (settled src k) nodes && all (λ a. test a (entering src (after src rule start k) a)) nodes
@@ -141,14 +162,22 @@ module _ {A C : Type 0} (src : A → List A) (rule : A → List C → C) (fits :
         let r = reads a (entering src (after src rule start k) a) in
         record { says = λ e. both .1 (r .says e); denies = λ e f. r .denies e (both .0 f) }
 
+    pub reads-clusters : AllSettled src nodes k → Reads (all (λ a. test a (entering src (after src rule start k) a)) nodes) (Clusters src rule fits nodes)
+    reads-clusters h =
+        let r = reads-all (λ a. test a (entering src (after src rule start k) a)) (λ a. fits a (entering src (after src rule start k) a)) nodes (λ a l. reads a _) in
+        record {
+          says = λ e. (after src rule start k, after-made src rule start nodes k h, r .says e);
+          denies = λ e c. r .denies e (λ a l. fits-settled src rule fits start k nodes closed (c .0) (c .1) a l (h a l) .0 (c .2 a l));
+        }
+
     pub reads-valid : length nodes ≤ k → Reads (accepts src rule start k nodes test) (Valid src rule fits nodes)
     unfolding accepts
-    reads-valid few =
-        let parts = reads-and _ _
-        (reads-all (settled src k) (λ a. settled src k a ≡ true) nodes (λ a l. record { says = λ e. e; denies = λ e f. true≠false (sym f ∙ e) }))
-        (reads-all (λ a. test a (entering src (after src rule start k) a)) (λ a. fits a (entering src (after src rule start k) a)) nodes (λ a l. reads a _)) in
-        let both = valid-accepted src rule fits start k nodes closed few in
-        record {
-          says = λ e. let p = parts .says e in both .1 (record { all-settled = p .0; all-fit = p .1 });
-          denies = λ e v. let w = both .0 v in parts .denies e (w .all-settled, w .all-fit);
-        }
+    reads-valid few = record {
+      says = λ e. let s = both .says e in valid-accepted src rule fits start k nodes closed few .1 (record { all-settled = s .0; all-fit = s .1 });
+      denies = λ e v. let w = valid-accepted src rule fits start k nodes closed few .0 v in both .denies e (w .all-settled, w .all-fit);
+    }
+      where
+        both : Reads (all (settled src k) nodes && all (λ a. test a (entering src (after src rule start k) a)) nodes) (AllSettled src nodes k × Kept src fits nodes (after src rule start k))
+        both = reads-and _ _
+            (reads-all (settled src k) (λ a. settled src k a ≡ true) nodes (λ a l. record { says = λ e. e; denies = λ e f. true≠false (sym f ∙ e) }))
+            (reads-all (λ a. test a (entering src (after src rule start k) a)) (λ a. fits a (entering src (after src rule start k) a)) nodes (λ a l. reads a _))

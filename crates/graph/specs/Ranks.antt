@@ -4,6 +4,7 @@
 --   Closed src nodes        ==  each source of a node is a node
 --   Ranked src nodes rank   ==  rank is lower at each source of a node than at the node
 --   Ranks src nodes         ==  a rank, and that it is one
+--   AllSettled src nodes k  ==  every node is settled after k rounds
 --   lag src d a             ==  of the first d rounds, how many a waits for
 --   ranks-of                ==  where every node settles within k rounds, what the nodes wait is a rank
 --   ranked-settled          ==  where there is a rank, every node settles within k rounds
@@ -11,7 +12,8 @@
 --   unsettled-endless       ==  from a node that does not settle within k rounds go chains of every length
 --   longer-unsettled        ==  some chain from a node is longer than k steps exactly where it does not settle in k rounds
 --   ranks-chains            ==  a rank exists exactly where from no node a chain is longer than k steps
---   reads-longer, reads-ranks  ==  the last three as tests and their statements
+--   reads-longer, reads-ranks  ==  the last two as tests and their statements
+--   no-ranks                ==  no rank exists exactly where "some upstream chain of sources is longer than" k steps
 use Prim.Native.Nat.{ℕ, zero, suc, _+_, _≤_, _<_, zero-le, suc-le-suc}
 use mathlib.Core.Path.{_≡_, refl, sym, ap, _∙_}
 use mathlib.Core.List.{List}
@@ -21,7 +23,7 @@ use native.Mathlib.Omega.{arith}
 use native.Mathlib.Nat.{zero-add, suc-add, le-refl, le-trans, le-of-suc-le-suc, lt-of-lt-of-le}
 use lib.ListN.{length}
 use Rattle.ground.specs.Pick.{Reads, shows, refutes, true≠false}
-use Rattle.graph.specs.Members.{_∈_, all, all-at, all-of, all-kept, reads-all}
+use Rattle.graph.specs.Members.{_∈_, all, all-at, all-of, all-misses, all-kept}
 use Rattle.graph.specs.Tallies.{tally, tally-more, tally-full, kept-or-gained}
 use Rattle.graph.specs.Chains.{settled, settled-suc, settled-le, reads-settled, Chain, Longer, chain-of, chain-le, unsettled}
 
@@ -145,3 +147,9 @@ module _ {A : Type 0} (src : A → List A) where
           says = λ e. ranks-of k (λ a l. all-at (settled src k) e l);
           denies = λ e r. true≠false (sym (all-of (settled src k) nodes (ranked-settled (r .0) (r .1))) ∙ e);
         }
+
+        pub no-ranks : (Ranks → ⊥) ↔ ((a : A) × a ∈ nodes × Longer src k a)
+        no-ranks = (
+          λ f. let x = all-misses (settled src k) nodes (refutes reads-ranks f) in (x .0, x .1, longer-unsettled (x .0) (x .1) .1 (x .2)),
+          λ x r. ranks-chains .0 r (x .0) (x .1) (x .2),
+        )

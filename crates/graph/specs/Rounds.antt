@@ -8,6 +8,7 @@
 --   rounds-hold         ==  what place i holds, for any `make` that looks at i's sources only
 --   settlingRound, settlingRounds, settling-holds  ==  the rounds that settle
 --   clusterRound, clusterRounds, cluster-holds     ==  the rounds that give out clusters
+--   entering-holds      ==  .. and what enters i, read off the array
 --   length-roundsOf     ==  an array of rounds has k places
 use Prim.Native.Nat.{ℕ, zero, suc, _≤_, _<_}
 use mathlib.Core.Path.{_≡_, refl, sym, ap, _∙_}
@@ -76,3 +77,7 @@ module _ (k : ℕ) (src : ℕ → List ℕ) where
     unfolding after
     cluster-holds start n room closed =
         rounds-hold k (λ i now. rule i (entering src now i)) blank n room src closed (λ i h c c′ e. ap (rule i) (map-same c c′ (src i) e)) start (after src rule start) (λ i. refl) (λ d i. refl)
+
+    pub entering-holds : (start : C) (n : ℕ) → n ≤ k → ClosedBelow src n → (d i : ℕ) → i < n → entering src (λ j. getD (clusterRounds start d) j blank) i ≡ entering src (after src rule start d) i
+    entering-holds start n room closed d i h =
+        map-same (λ j. getD (clusterRounds start d) j blank) (after src rule start d) (src i) (λ j m. cluster-holds start n room closed d j (closed i h j m))
