@@ -7,4 +7,5 @@ pub mod Renaming
 pub mod Order
 pub mod Tables
 pub mod Rounds
+pub mod Places
 pub mod Examples

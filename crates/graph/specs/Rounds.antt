@@ -10,12 +10,15 @@
 --   clusterRound, clusterRounds, cluster-holds     ==  the rounds that give out clusters
 --   entering-holds      ==  .. and what enters i, read off the array
 --   length-roundsOf     ==  an array of rounds has k places
-use Prim.Native.Nat.{ℕ, zero, suc, _≤_, _<_}
+--   AtRound k make blank start last now d  ==  the loop that makes `last` rounds has made d of them, and holds `now`
+--   round-none, round-more, round-last  ==  its start, its step and its end
+use Prim.Native.Nat.{ℕ, zero, suc, _+_, _≤_, _<_}
 use mathlib.Core.Path.{_≡_, refl, sym, ap, _∙_}
 use mathlib.Core.List.{List, map}
 use mathlib.Core.Logic.{_↔_}
 use mathlib.Core.Bool.{Bool, false}
 use native.Mathlib.Omega.{arith}
+use native.Mathlib.Numerals.{add-one}
 use native.Mathlib.Nat.{lt-of-lt-of-le}
 use lib.ListN.{length, getD, replicate, getD-replicate, length-replicate}
 use Rattle.graph.specs.Members.{_∈_, all, all-same, map-same}
@@ -53,6 +56,26 @@ module _ {X : Type 0} (k : ℕ) (make : ℕ → (ℕ → X) → X) (blank : X) w
         getD-tabulate k _ i blank (lt-of-lt-of-le h room)
         ∙ looks i h _ _ (λ j m. rounds-hold d j (closed i h j m))
         ∙ sym (later d i)
+
+-- the loop that makes `last` rounds has made d of them, and holds `now`
+pub record AtRound {X : Type 0} (k : ℕ) (make : ℕ → (ℕ → X) → X) (blank start : X) (last : ℕ) (now : List X) (d : ℕ) : Type 0 where
+  pub low : d ≤ last
+  pub same : now ≡ roundsOf k make blank start d
+
+module _ {X : Type 0} {k : ℕ} {make : ℕ → (ℕ → X) → X} {blank start : X} {last : ℕ} where
+  pub round-none : AtRound k make blank start last (replicate k start) 0
+  unfolding roundsOf
+  round-none = record { low = omega arith; same = refl }
+
+  pub round-more : {now next : List X} {d : ℕ} → AtRound k make blank start last now d → d < last → next ≡ nextRound k make blank now → AtRound k make blank start last next (d + 1)
+  unfolding roundsOf
+  round-more {now} {next} {d} r l e = record { low = omega arith; same = rw add-one (e ∙ ap (nextRound k make blank) (r .same)) }
+
+  pub round-last : {now : List X} {d : ℕ} → AtRound k make blank start last now d → last ≤ d → now ≡ roundsOf k make blank start last
+  round-last {now} {d} r l =
+      let h = r .low in
+      let q : d ≡ last = omega arith in
+      r .same ∙ ap (roundsOf k make blank start) q
 
 module _ (k : ℕ) (src : ℕ → List ℕ) where
   abbrev pub settlingRound : List Bool → List Bool
