@@ -8,9 +8,10 @@
 --   chain-of, unsettled    ==  a is not settled after d rounds exactly where a chain of d steps goes upstream from it
 --   reads-settled          ==  the same as a test and its statement
 --   settled-suc, settled-le  ==  what is settled stays settled
+--   settled-source         ==  the sources of a settled entity are settled
 --   chain-le               ==  a chain holds each shorter one
 use Prim.Native.Nat.{ℕ, zero, suc, _+_, _-_, _≤_, _<_}
-use mathlib.Core.Path.{_≡_, refl, sym, subst, _∙_}
+use mathlib.Core.Path.{_≡_, sym}
 use mathlib.Core.List.{List}
 use mathlib.Core.Bool.{Bool, true, false}
 use native.Mathlib.Omega.{arith}
@@ -50,6 +51,11 @@ module _ {A : Type 0} (src : A → List A) where
   unfolding settled
   settled-suc zero a e = absurd (true≠false (sym e))
   settled-suc (suc d) a e = all-kept (settled d) (settled (suc d)) (src a) (λ b m h. settled-suc d b h) e
+
+  pub settled-source : (d : ℕ) (a b : A) → settled d a ≡ true → b ∈ src a → settled d b ≡ true
+  unfolding settled
+  settled-source zero a b h m = absurd (true≠false (sym h))
+  settled-source (suc d) a b h m = settled-suc d b (all-at (settled d) h m)
 
   settled-add : (k d : ℕ) (a : A) → settled d a ≡ true → settled (k + d) a ≡ true
   settled-add zero d a e = rw zero-add e

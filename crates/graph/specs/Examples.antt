@@ -3,11 +3,12 @@
 -- each graph is a list of the sources of entity 0, 1, 2 and so on.
 --   sourcesIn g a    ==  the sources of a in g
 --   settles g        ==  whether the graph g settles, in as many rounds as it has entities
---   giveOut g c a    ==  what a gives out in g, where an entity with no source declares the number c of it, and each other
---                        adds up what enters it
---   four-graphs      ==  the four, in a table
---   diamond-counts   ==  the diamond's clusters, and that a forward source's user has them too
-use Prim.Native.Nat.{ℕ, zero, suc, _+_}
+--   itself, eachOther, diamond, forward  ==  the four graphs
+--   four-graphs : FourGraphs  ==  which of them settle
+--   giveOut g c a    ==  what a gives out in g, where an entity with no source declares c of it (declaredOr) and any other
+--                        gives out the sum of what enters it
+--   two-counts       ==  what comes out at the end of the diamond, and of the forward chain
+use Prim.Native.Nat.{ℕ, _+_}
 use mathlib.Core.Path.{_≡_, refl}
 use mathlib.Core.List.{List, [], _∷_}
 use mathlib.Core.Bool.{Bool, true, false}
@@ -23,7 +24,6 @@ sourcesIn g a = getD g a []
 unfoldable pub settles : List (List ℕ) → Bool
 settles g = all (settled (sourcesIn g) (length g)) (below (length g))
 
--- the graphs
 abbrev pub itself : List (List ℕ)
 itself = (0 ∷ []) ∷ []
 
@@ -59,6 +59,6 @@ declaredOr c a (x ∷ xs) = x + sum xs
 unfoldable pub giveOut : List (List ℕ) → (ℕ → ℕ) → ℕ → ℕ
 giveOut g c a = after (sourcesIn g) (declaredOr c) 0 (length g) a
 
-pub diamond-counts : (giveOut diamond (λ a. 2) 3 ≡ 4) × (giveOut forward (λ a. 2) 0 ≡ 2)
+pub two-counts : (giveOut diamond (λ a. 2) 3 ≡ 4) × (giveOut forward (λ a. 2) 0 ≡ 2)
 unfolding giveOut sourcesIn after
-diamond-counts = (refl, refl)
+two-counts = (refl, refl)

@@ -3,6 +3,7 @@ pub mod Tallies
 pub mod Chains
 pub mod Ranks
 pub mod Clusters
+pub mod Validity
 pub mod Renaming
 pub mod Order
 pub mod Tables

@@ -15,7 +15,8 @@ use mathlib.Core.Logic.{_↔_}
 use Rattle.graph.specs.Members.{_∈_, along}
 use Rattle.graph.specs.Chains.{settled}
 use Rattle.graph.specs.Ranks.{Closed, Ranked}
-use Rattle.graph.specs.Clusters.{entering, after, Made, Kept, Valid}
+use Rattle.graph.specs.Clusters.{entering, after, Made}
+use Rattle.graph.specs.Validity.{Kept, Valid}
 use Rattle.graph.specs.Renaming.{settled-renamed, after-renamed}
 
 abbrev pub SameMembers : {A : Type 0} → List A → List A → Type 0

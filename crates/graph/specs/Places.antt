@@ -9,7 +9,7 @@
 use Prim.Native.Nat.{ℕ, _≤_, _<_}
 use mathlib.Core.Path.{_≡_, sym, _∙_}
 use mathlib.Core.List.{List, map, Memᴰ·map}
-use mathlib.Core.Bool.{Bool, false}
+use mathlib.Core.Bool.{false}
 use lib.ListN.{length, getD, length-map}
 use Rattle.graph.specs.Members.{_∈_}
 use Rattle.graph.specs.Chains.{settled}

@@ -25,7 +25,7 @@ use lib.ListN.{length}
 use Rattle.ground.specs.Pick.{Reads, shows, refutes, true≠false}
 use Rattle.graph.specs.Members.{_∈_, all, all-at, all-of, all-misses, all-kept}
 use Rattle.graph.specs.Tallies.{tally, tally-more, tally-full, kept-or-gained}
-use Rattle.graph.specs.Chains.{settled, settled-suc, settled-le, reads-settled, Chain, Longer, chain-of, chain-le, unsettled}
+use Rattle.graph.specs.Chains.{settled, settled-suc, settled-le, Chain, Longer, chain-of, chain-le, unsettled}
 
 -- 1 for a round that is waited for
 abbrev waited : Bool → ℕ

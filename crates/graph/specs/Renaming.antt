@@ -13,13 +13,13 @@ use Prim.Native.Nat.{ℕ, zero, suc, _≤_}
 use mathlib.Core.Path.{_≡_, refl, sym, ap, _∙_, subst}
 use mathlib.Core.List.{List, map, map-map, Memᴰ·map, Memᴰ·of-map, Memᴰ·cast}
 use mathlib.Core.Logic.{_↔_}
-use mathlib.Core.Bool.{Bool, true}
 use native.Mathlib.Nat.{le-refl}
 use lib.ListN.{length, length-map}
 use Rattle.graph.specs.Members.{_∈_, along, all, all-same, all-map, map-same}
 use Rattle.graph.specs.Chains.{settled}
-use Rattle.graph.specs.Ranks.{Closed, Ranked, Ranks, AllSettled, ranks-settled}
-use Rattle.graph.specs.Clusters.{entering, after, Kept, Valid, Accepted, valid-accepted, valid-cluster}
+use Rattle.graph.specs.Ranks.{Closed, Ranks, AllSettled, ranks-settled}
+use Rattle.graph.specs.Clusters.{entering, after}
+use Rattle.graph.specs.Validity.{Kept, Valid, Accepted, valid-accepted, valid-cluster}
 
 abbrev pub Renames : {A B : Type 0} → (A → B) → (A → List A) → (B → List B) → List A → Type 0
 Renames {A} f src src′ nodes = (a : A) → a ∈ nodes → map f (src a) ≡ src′ (f a)

@@ -14,7 +14,7 @@
 --   round-none, round-more, round-last  ==  its start, its step and its end
 use Prim.Native.Nat.{ℕ, zero, suc, _+_, _≤_, _<_}
 use mathlib.Core.Path.{_≡_, refl, sym, ap, _∙_}
-use mathlib.Core.List.{List, map}
+use mathlib.Core.List.{List}
 use mathlib.Core.Logic.{_↔_}
 use mathlib.Core.Bool.{Bool, false}
 use native.Mathlib.Omega.{arith}

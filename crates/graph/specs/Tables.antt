@@ -3,7 +3,7 @@
 --   tabulate k f        ==  f 0, f 1, .. f (k - 1)
 --   tabulateFrom i k f  ==  f i, .. f (i + k - 1)
 --   below n             ==  0, 1, .. n - 1
---   getD-tabulate, length-tabulate  ==  what stands in a table, and its length
+--   getD-tabulate, getD-tabulateFrom, length-tabulate  ==  what stands in a table, and its length
 --   lt-below, below-lt, length-below  ==  the members of below n are the numbers below n
 --   Filled k f next i   ==  the loop that fills `next` with f has come to place i
 --   filled-none, filled-more, filled-full  ==  its start, its step and its end
