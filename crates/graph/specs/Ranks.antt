@@ -1,6 +1,6 @@
--- Ranks. The mission asks for "a rank on each entity lower at each source than at its user"; document 01's refusal 12 says
--- that there is none exactly where some upstream chain of sources is longer than 32 steps. Here that is a theorem, for any
--- number k that the entities do not pass, and both are what k rounds find out.
+-- Ranks. Demand 3 asks for a rank on each entity, lower at each source than at its user; document 01's refusal 12 is given
+-- where "some upstream chain of sources is longer than 32 steps (no ranks exist)". That the one is the other is a theorem
+-- here, for any number k of steps that the count of entities does not pass, and k rounds find out which it is.
 --   Closed src nodes        ==  each source of a node is a node
 --   Ranked src nodes rank   ==  rank is lower at each source of a node than at the node
 --   Ranks src nodes         ==  a rank, and that it is one

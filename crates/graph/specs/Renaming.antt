@@ -4,9 +4,9 @@
 --   Renames f src src′ nodes  ==  the sources of what f makes of a node are what f makes of its sources
 --   closed-renamed   ==  the renamed graph is closed where the graph is
 --   settled-renamed  ==  a node and what it is renamed to settle in the same rounds
---   ranks-renamed    ==  a rank exists for the one exactly where one does for the other
 --   after-renamed    ==  .. and give out the same cluster after each round, where their rules agree
---   entering-renamed ==  .. and the same clusters enter them
+--   entering-renamed ==  .. and the same clusters enter them, where those of the nodes are the same
+--   ranks-renamed    ==  a rank exists for the one graph exactly where one does for the other
 --   accepted-renamed, valid-renamed  ==  the one graph is valid exactly where the other is, where rules and tests agree
 --   cluster-renamed  ==  .. and then their clusters are the same
 use Prim.Native.Nat.{ℕ, zero, suc, _≤_}
@@ -55,7 +55,6 @@ module _ {A B : Type 0} (f : A → B) (src : A → List A) (src′ : B → List 
       let both = all-settled-renamed (length nodes) in
       (λ r. other .1 (both .0 (one .0 r)), λ r. one .1 (both .1 (other .0 r)))
 
-  -- clusters that agree on the nodes enter alike
   pub entering-renamed : {C : Type 0} (c : A → C) (c′ : B → C) (a : A) → a ∈ nodes → ((b : A) → b ∈ nodes → c′ (f b) ≡ c b) → entering src′ c′ (f a) ≡ entering src c a
   entering-renamed c c′ a l h =
       ap (map c′) (sym (renames a l)) ∙ map-map c′ f (src a) ∙ map-same (λ b. c′ (f b)) c (src a) (λ b m. h b (closed a l b m))

@@ -4,12 +4,14 @@
 --   tabulateFrom i k f  ==  f i, .. f (i + k - 1)
 --   below n             ==  0, 1, .. n - 1
 --   getD-tabulate, getD-tabulateFrom, length-tabulate  ==  what stands in a table, and its length
+--   tabulate-same, map-tabulate     ==  tables of functions that agree, and a mapped table
+--   tabulate-getD       ==  the table of a list's own places is that list
 --   lt-below, below-lt, length-below  ==  the members of below n are the numbers below n
 --   Filled k f next i   ==  the loop that fills `next` with f has come to place i
 --   filled-none, filled-more, filled-full  ==  its start, its step and its end
 use Prim.Native.Nat.{ℕ, zero, suc, _+_, _-_, _≤_, _<_}
 use mathlib.Core.Path.{_≡_, refl, sym, ap, _∙_}
-use mathlib.Core.List.{List, [], _∷_, _++_, append-assoc, append-nil, List·Memᴰ·head, List·Memᴰ·tail, List·Memᴰ·not-nil, List·Memᴰ·cases-cons}
+use mathlib.Core.List.{List, [], _∷_, _++_, map, append-assoc, append-nil, List·Memᴰ·head, List·Memᴰ·tail, List·Memᴰ·not-nil, List·Memᴰ·cases-cons}
 use mathlib.Core.Logic.{⊎-elim}
 use native.Mathlib.Omega.{arith}
 use native.Mathlib.Numerals.{add-one}
@@ -45,6 +47,26 @@ module _ {X : Type 0} where
   pub length-tabulate : (k : ℕ) (f : ℕ → X) → length (tabulate k f) ≡ k
   length-tabulate = length-tabulateFrom 0
 
+  pub tabulateFrom-same : (i k : ℕ) (f g : ℕ → X) → ((j : ℕ) → j < i + k → f j ≡ g j) → tabulateFrom i k f ≡ tabulateFrom i k g
+  unfolding tabulateFrom
+  tabulateFrom-same i zero f g h = refl
+  tabulateFrom-same i (suc k) f g h =
+      rw (h i (omega arith)) (ap (λ (r : List X). g i ∷ r) (tabulateFrom-same (suc i) k f g (λ j l. h j (omega arith))))
+
+  pub tabulate-same : (k : ℕ) (f g : ℕ → X) → ((j : ℕ) → j < k → f j ≡ g j) → tabulate k f ≡ tabulate k g
+  tabulate-same k f g h = tabulateFrom-same 0 k f g (λ j l. h j (omega arith))
+
+  tabulateFrom-suc : (i k : ℕ) (f : ℕ → X) → tabulateFrom (suc i) k f ≡ tabulateFrom i k (λ j. f (suc j))
+  unfolding tabulateFrom
+  tabulateFrom-suc i zero f = refl
+  tabulateFrom-suc i (suc k) f = ap (λ (r : List X). f (suc i) ∷ r) (tabulateFrom-suc (suc i) k f)
+
+  pub tabulate-getD : (xs : List X) (blank : X) → tabulate (length xs) (λ i. getD xs i blank) ≡ xs
+  unfolding tabulateFrom
+  tabulate-getD [] blank = refl
+  tabulate-getD (x ∷ xs) blank =
+      ap (λ (r : List X). x ∷ r) (tabulateFrom-suc 0 (length xs) (λ i. getD (x ∷ xs) i blank) ∙ tabulate-getD xs blank)
+
   pub record Filled (k : ℕ) (f : ℕ → X) (next : List X) (i : ℕ) : Type 0 where
     pub low : i ≤ k
     pub long : length next ≡ k
@@ -72,6 +94,14 @@ module _ {X : Type 0} where
       let a = h .low in
       let z : k - i ≡ 0 = omega arith in
       sym (h .same ∙ ap (λ (r : ℕ). take i next ++ tabulateFrom i r f) z ∙ append-nil (take i next) ∙ take-all i next (omega arith))
+
+map-tabulateFrom : {X Y : Type 0} (g : X → Y) (i k : ℕ) (f : ℕ → X) → map g (tabulateFrom i k f) ≡ tabulateFrom i k (λ j. g (f j))
+unfolding tabulateFrom
+map-tabulateFrom g i zero f = refl
+map-tabulateFrom {Y = Y} g i (suc k) f = ap (λ (r : List Y). g (f i) ∷ r) (map-tabulateFrom g (suc i) k f)
+
+pub map-tabulate : {X Y : Type 0} (g : X → Y) (k : ℕ) (f : ℕ → X) → map g (tabulate k f) ≡ tabulate k (λ j. g (f j))
+map-tabulate g = map-tabulateFrom g 0
 
 abbrev pub below : ℕ → List ℕ
 below n = tabulate n (λ i. i)

@@ -1,5 +1,5 @@
--- The theorem that every edition's demand 3 stands on: "there exist a rank on each entity lower at each source than at its
--- user, and a cluster on each entity's output, that keep every rule" exactly where k rounds settle every node and the
+-- The theorem that every edition's demand 3 stands on: there are a rank on each entity, lower at each source than at its
+-- user, and a cluster on each entity's output that keep every rule, exactly where k rounds settle every node and the
 -- clusters that they compute pass each node's test; and these clusters are the only ones. The kind of cluster, the rule by
 -- which a node gives one out and the test of what enters it ("all pins have the same c") are any.
 --   Kept src fits nodes cluster          ==  what enters each node passes its test
