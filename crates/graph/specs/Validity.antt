@@ -1,0 +1,124 @@
+-- The theorem that every edition's demand 3 stands on: there are a rank on each entity, lower at each source than at its
+-- user, and a cluster on each entity's output that keep every rule, exactly where k rounds settle every node and the
+-- clusters that they compute pass each node's test; and these clusters are the only ones. The kind of cluster, the rule by
+-- which a node gives one out and the test of what enters it ("all pins have the same c") are any.
+--   Kept src fits nodes cluster          ==  what enters each node passes its test
+--   Clusters src rule fits nodes         ==  clusters that are made by the rule and pass the tests
+--   Valid src rule fits nodes            ==  a rank, and such clusters
+--   Accepted src rule fits start k nodes ==  k rounds settle every node, and their clusters pass the tests
+--   Decided                              ==  the theorem: valid exactly where accepted; with the computed clusters; uniquely
+--   decided-by-rounds                    ==  .. and its proof, by valid-accepted, valid-cluster and valid-unique
+--   valid-parts              ==  valid is: there are a rank and clusters
+--   fits-settled             ==  a settled node's test may be read off the rounds' clusters
+--   accepts src rule start k nodes test  ==  Accepted as a test, where `test` decides `fits`
+--   reads-fits, reads-clusters, reads-valid  ==  what the tests at the rounds' clusters decide: one node's rule; whether
+--                                clusters exist, where all is settled; whether a rank and clusters do
+use Prim.Native.Nat.{ℕ, _≤_}
+use mathlib.Core.Path.{_≡_, sym, _∙_, subst}
+use mathlib.Core.List.{List}
+use mathlib.Core.Logic.{_↔_}
+use mathlib.Core.Bool.{Bool, true, _&&_}
+use lib.ListN.{length}
+use Rattle.ground.specs.Pick.{Reads, reads-and, true≠false}
+use Rattle.graph.specs.Members.{_∈_, all, reads-all}
+use Rattle.graph.specs.Chains.{settled}
+use Rattle.graph.specs.Ranks.{Closed, Ranked, Ranks, AllSettled, ranks-of, ranked-settled}
+use Rattle.graph.specs.Clusters.{entering, Made, after, after-made, made-settled, entering-settled}
+
+abbrev pub Kept : {A C : Type 0} → (A → List A) → (A → List C → Type 0) → List A → (A → C) → Type 0
+Kept {A} src fits nodes cluster = (a : A) → a ∈ nodes → fits a (entering src cluster a)
+
+module _ {A C : Type 0} (src : A → List A) (rule : A → List C → C) (fits : A → List C → Type 0) where
+  pub record Valid (nodes : List A) : Type 0 where
+    pub rank : A → ℕ
+    pub ranked : Ranked src nodes rank
+    pub cluster : A → C
+    pub made : Made src rule nodes cluster
+    pub kept : Kept src fits nodes cluster
+
+  abbrev pub Clusters : List A → Type 0
+  Clusters nodes = (cluster : A → C) × Made src rule nodes cluster × Kept src fits nodes cluster
+
+  pub valid-parts : (nodes : List A) → Valid nodes ↔ (Ranks src nodes × Clusters nodes)
+  valid-parts nodes = (
+    λ v. ((v .rank, v .ranked), (v .cluster, v .made, v .kept)),
+    λ p. record { rank = p .0 .0; ranked = p .0 .1; cluster = p .1 .0; made = p .1 .1; kept = p .1 .2 },
+  )
+
+  module _ (start : C) (k : ℕ) where
+    pub record Accepted (nodes : List A) : Type 0 where
+      pub all-settled : AllSettled src nodes k
+      pub all-fit : Kept src fits nodes (after src rule start k)
+
+    module _ (nodes : List A) (closed : Closed src nodes) where
+      pub fits-settled : (cluster : A → C) → Made src rule nodes cluster → (a : A) → a ∈ nodes → settled src k a ≡ true → fits a (entering src cluster a) ↔ fits a (entering src (after src rule start k) a)
+      fits-settled cluster made a l h =
+          let e = entering-settled src rule start nodes closed cluster made k a l h in
+          (subst (fits a) e, subst (fits a) (sym e))
+
+      module _ (few : length nodes ≤ k) where
+        pub valid-cluster : (v : Valid nodes) (a : A) → a ∈ nodes → v .cluster a ≡ after src rule start k a
+        valid-cluster v a l =
+            made-settled src rule start nodes closed (v .cluster) (v .made) k a l (ranked-settled src nodes closed k few (v .rank) (v .ranked) a l)
+
+        pub valid-accepted : Valid nodes ↔ Accepted nodes
+        valid-accepted = (to, from)
+          where
+            to : Valid nodes → Accepted nodes
+            to v =
+                let h = ranked-settled src nodes closed k few (v .rank) (v .ranked) in
+                record { all-settled = h; all-fit = λ a l. fits-settled (v .cluster) (v .made) a l (h a l) .0 (v .kept a l) }
+
+            from : Accepted nodes → Valid nodes
+            from w =
+                let r = ranks-of src nodes k (w .all-settled) in
+                record {
+                  rank = r .0;
+                  ranked = r .1;
+                  cluster = after src rule start k;
+                  made = after-made src rule start nodes k (w .all-settled);
+                  kept = w .all-fit;
+                }
+
+        pub valid-unique : (v w : Valid nodes) (a : A) → a ∈ nodes → v .cluster a ≡ w .cluster a
+        valid-unique v w a l = valid-cluster v a l ∙ sym (valid-cluster w a l)
+
+        pub record Decided : Type 0 where
+          pub exactly : Valid nodes ↔ Accepted nodes
+          pub computed : (v : Valid nodes) (a : A) → a ∈ nodes → v .cluster a ≡ after src rule start k a
+          pub unique : (v w : Valid nodes) (a : A) → a ∈ nodes → v .cluster a ≡ w .cluster a
+
+        pub decided-by-rounds : Decided
+        decided-by-rounds = record { exactly = valid-accepted; computed = valid-cluster; unique = valid-unique }
+
+-- as tests
+unfoldable pub accepts : {A C : Type 0} (src : A → List A) (rule : A → List C → C) (start : C) (k : ℕ) (nodes : List A) → (A → List C → Bool) → Bool
+accepts src rule start k nodes test = all (settled src k) nodes && all (λ a. test a (entering src (after src rule start k) a)) nodes
+
+module _ {A C : Type 0} (src : A → List A) (rule : A → List C → C) (fits : A → List C → Type 0) (start : C) (k : ℕ) (nodes : List A) where
+  module _ (test : A → List C → Bool) (reads : (a : A) (cs : List C) → Reads (test a cs) (fits a cs)) (closed : Closed src nodes) where
+    pub reads-fits : (cluster : A → C) → Made src rule nodes cluster → (a : A) → a ∈ nodes → settled src k a ≡ true → Reads (test a (entering src (after src rule start k) a)) (fits a (entering src cluster a))
+    reads-fits cluster made a l h =
+        let both = fits-settled src rule fits start k nodes closed cluster made a l h in
+        let r = reads a (entering src (after src rule start k) a) in
+        record { says = λ e. both .1 (r .says e); denies = λ e f. r .denies e (both .0 f) }
+
+    pub reads-clusters : AllSettled src nodes k → Reads (all (λ a. test a (entering src (after src rule start k) a)) nodes) (Clusters src rule fits nodes)
+    reads-clusters h =
+        let r = reads-all (λ a. test a (entering src (after src rule start k) a)) (λ a. fits a (entering src (after src rule start k) a)) nodes (λ a l. reads a _) in
+        record {
+          says = λ e. (after src rule start k, after-made src rule start nodes k h, r .says e);
+          denies = λ e c. r .denies e (λ a l. fits-settled src rule fits start k nodes closed (c .0) (c .1) a l (h a l) .0 (c .2 a l));
+        }
+
+    pub reads-valid : length nodes ≤ k → Reads (accepts src rule start k nodes test) (Valid src rule fits nodes)
+    unfolding accepts
+    reads-valid few = record {
+      says = λ e. let s = both .says e in valid-accepted src rule fits start k nodes closed few .1 (record { all-settled = s .0; all-fit = s .1 });
+      denies = λ e v. let w = valid-accepted src rule fits start k nodes closed few .0 v in both .denies e (w .all-settled, w .all-fit);
+    }
+      where
+        both : Reads (all (settled src k) nodes && all (λ a. test a (entering src (after src rule start k) a)) nodes) (AllSettled src nodes k × Kept src fits nodes (after src rule start k))
+        both = reads-and _ _
+            (reads-all (settled src k) (λ a. settled src k a ≡ true) nodes (λ a l. record { says = λ e. e; denies = λ e f. true≠false (sym f ∙ e) }))
+            (reads-all (λ a. test a (entering src (after src rule start k) a)) (λ a. fits a (entering src (after src rule start k) a)) nodes (λ a l. reads a _))
