@@ -3,19 +3,22 @@
 --   firstFrom t p b ds ==  the place of the first of ds that fails by the test t, where ds begin at place p behind the descriptors b
 --   Breaks w p ds q    ==  q is the place of the first of ds that is wrong by w, where ds begin at place p
 --   Sound w ds         ==  none of ds is wrong by w
+--   isBefore r at      ==  a search answered a place before at
 use Prim.Native.Nat.{ℕ, _+_, _≤_, _<_}
-use mathlib.Core.Path.{_≡_, refl, sym, ap, _∙_, subst}
-use mathlib.Core.Bool.{Bool, true, false}
+use mathlib.Core.Path.{_≡_, refl, sym, ap, _∙_}
+use mathlib.Core.Bool.{Bool, true, false, _||_}
 use mathlib.Core.Logic.{_↔_}
-use mathlib.Core.List.{List, [], _∷_, _++_, append-assoc, append-nil, List·Memᴰ, head-eq-of-cons-eq, tail-eq-of-cons-eq, nil≢cons}
+use mathlib.Core.List.{List, [], _∷_, _++_, append-nil, List·Memᴰ, List·Memᴰ·head, List·Memᴰ·tail, head-eq-of-cons-eq, tail-eq-of-cons-eq, nil≢cons}
 use lib.ListN.{length}
+use lib.Dec.{ltb}
+use borrow.Author.Tests.{le-ltb, lt-ltb}
 use lib.Seq.{append-snoc}
 use native.Mathlib.Omega.{arith}
 use native.Mathlib.Nat.{add-zero, add-assoc}
 use Rattle.ground.specs.declared.Place.{Place}
 use Rattle.ground.specs.declared.Place.the-variants.{Nowhere, At}
-use Rattle.ground.specs.Pick.{pick, yes, no, Reads, shows, refutes, true≠false}
-use Rattle.ground.specs.Lists.{total, any}
+use Rattle.ground.specs.Pick.{pick, yes, no, Reads, reads-true, shows, refutes}
+use Rattle.ground.specs.Lists.{total, any, reads-any, split-of, of-split}
 
 unfoldable pub firstFrom : (List (List ℕ) → List ℕ → Bool) → ℕ → List (List ℕ) → List (List ℕ) → Place
 firstFrom t p b [] = Nowhere
@@ -129,3 +132,63 @@ module _ (t : List (List ℕ) → List ℕ → Bool) (Wrong : List (List ℕ) �
 
       to : Breaks Wrong p ds q → firstFrom t p [] ds ≡ At q
       to k = rw (k .split) (at-place p [] (k .before) (k .offender) (k .after) (k .wrong) (k .none-before) ∙ ap At (sym (k .place)))
+
+-- Searches by a test that does not look at what stands before.
+module _ (t : List ℕ → Bool) where
+  abbrev alone : List (List ℕ) → List ℕ → Bool
+  alone b d = t d
+
+  pub first-none-any : (p : ℕ) (b ds : List (List ℕ)) → firstFrom (λ b d. t d) p b ds ≡ Nowhere → any t ds ≡ false
+  unfolding firstFrom any
+  first-none-any p b [] e = refl
+  first-none-any p b (d ∷ ds) e = go (t d) refl (λ h. first-none-any (p + length d) (b ++ d ∷ []) ds h)
+    where
+      go : (c : Bool) → t d ≡ c → (firstFrom (λ b d. t d) (p + length d) (b ++ d ∷ []) ds ≡ Nowhere → any t ds ≡ false) → t d || any t ds ≡ false
+      go true q ih = let z : At p ≡ Nowhere = sym (first-here alone p b d ds q) ∙ e in let y : _≡_ {A = ℕ} 0 1 = cc in absurd (omega arith)
+      go false q ih = rw q (ih (sym (first-on alone p b d ds q) ∙ e))
+
+  pub first-at-any : (p : ℕ) (b ds : List (List ℕ)) (q : ℕ) → firstFrom (λ b d. t d) p b ds ≡ At q → any t ds ≡ true
+  unfolding firstFrom any
+  first-at-any p b [] q e = let y : _≡_ {A = ℕ} 0 1 = cc in absurd (omega arith)
+  first-at-any p b (d ∷ ds) q e = go (t d) refl (λ h. first-at-any (p + length d) (b ++ d ∷ []) ds q h)
+    where
+      go : (c : Bool) → t d ≡ c → (firstFrom (λ b d. t d) (p + length d) (b ++ d ∷ []) ds ≡ At q → any t ds ≡ true) → t d || any t ds ≡ true
+      go true h ih = rw h refl
+      go false h ih = rw h (ih (sym (first-on alone p b d ds h) ∙ e))
+
+  -- where a search that began at p comes to: not before p
+  pub first-not-before : (p : ℕ) (b ds : List (List ℕ)) (q : ℕ) → firstFrom (λ b d. t d) p b ds ≡ At q → p ≤ q
+  unfolding firstFrom
+  first-not-before p b [] q e = let y : _≡_ {A = ℕ} 0 1 = cc in absurd (omega arith)
+  first-not-before p b (d ∷ ds) q e = go (t d) refl (λ h. first-not-before (p + length d) (b ++ d ∷ []) ds q h)
+    where
+      go : (c : Bool) → t d ≡ c → (firstFrom (λ b d. t d) (p + length d) (b ++ d ∷ []) ds ≡ At q → p + length d ≤ q) → p ≤ q
+      go true h ih = let z : At p ≡ At q = sym (first-here alone p b d ds h) ∙ e in let y : p ≡ q = cc in omega arith
+      go false h ih = let l = ih (sym (first-on alone p b d ds h) ∙ e) in omega arith
+
+-- whether a search came to a place before at
+unfoldable pub isBefore : Place → ℕ → Bool
+isBefore Nowhere at = false
+isBefore (At q) at = ltb q at
+
+-- among descriptors x, then y: the first that passes stands before y exactly where one of x passes
+pub first-before : (t : List ℕ → Bool) (p : ℕ) (b x y : List (List ℕ)) → ((d : List ℕ) → List·Memᴰ d x → 0 < length d) → isBefore (firstFrom (λ b d. t d) p b (x ++ y)) (p + total x) ≡ any t x
+unfolding isBefore any total
+first-before t p b [] y h = go (firstFrom (λ b d. t d) p b y) refl
+  where
+    go : (r : Place) → firstFrom (λ b d. t d) p b y ≡ r → isBefore r (p + 0) ≡ false
+    go Nowhere e = refl
+    go (At q) e = let l = first-not-before t p b y q e in le-ltb q (p + 0) (omega arith)
+first-before t p b (d ∷ x) y h = go (t d) refl (first-before t (p + length d) (b ++ d ∷ []) x y (λ e m. h e (List·Memᴰ·tail m)))
+  where
+    go : (c : Bool) → t d ≡ c → isBefore (firstFrom (λ b d. t d) (p + length d) (b ++ d ∷ []) (x ++ y)) (p + length d + total x) ≡ any t x → isBefore (firstFrom (λ b d. t d) p b (d ∷ (x ++ y))) (p + (length d + total x)) ≡ t d || any t x
+    go true q ih = rw (first-here (λ b d. t d) p b d (x ++ y) q, q) (let l = h d (List·Memᴰ·head refl) in lt-ltb p (p + (length d + total x)) (omega arith))
+    go false q ih = rw (first-on (λ b d. t d) p b d (x ++ y) q, q, ← (add-assoc p (length d) (total x))) ih
+
+-- where what is wrong does not hang on what stands before: nothing is wrong exactly where no descriptor is
+pub sound-each : (Wrong : List ℕ → Type 0) (ds : List (List ℕ)) → Sound (λ b d. Wrong d) ds ↔ ((d : List ℕ) → List·Memᴰ d ds → Wrong d → ⊥)
+unfolding Sound
+sound-each Wrong ds = (λ h d m. let k = split-of m in h (k .0) d (k .1) (k .2), λ h x d y e. h d (rw e (of-split x d y)))
+
+pub sound-none : (t : List ℕ → Bool) (ds : List (List ℕ)) → Sound (λ b d. t d ≡ true) ds → any t ds ≡ false
+sound-none t ds h = refutes (reads-any t (λ d. t d ≡ true) (λ d. reads-true (t d)) ds) (λ k. sound-each (λ d. t d ≡ true) ds .0 h (k .one) (k .among) (k .has))

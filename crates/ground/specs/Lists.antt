@@ -2,15 +2,14 @@
 --   any t l    ==  some element of l passes the test t
 --   total ds   ==  the lengths of the parts ds together
 --   part s a e ==  the bytes of s from place a up to place e
-use Prim.Native.Nat.{ℕ, _+_, _-_, _≤_, _<_}
+use Prim.Native.Nat.{ℕ, _+_, _-_, _≤_}
 use mathlib.Core.Path.{_≡_, refl, sym, ap, _∙_}
 use mathlib.Core.Bool.{Bool, true, false, _||_}
-use mathlib.Core.List.{List, [], _∷_, _++_, flatten, List·Memᴰ, List·Memᴰ·head, List·Memᴰ·tail, List·Memᴰ·not-nil, List·Memᴰ·cases-cons}
-use mathlib.Core.Logic.{_⊎_, inl, inr, ⊎-elim}
-use lib.ListN.{length, take, drop, getD, length-append, length-take, length-drop}
+use mathlib.Core.List.{List, [], _∷_, _++_, flatten, append-assoc, List·Memᴰ, List·Memᴰ·head, List·Memᴰ·tail, List·Memᴰ·not-nil, List·Memᴰ·cases-cons, Memᴰ·append-right}
+use mathlib.Core.Logic.{_⊎_, inl, inr}
+use lib.ListN.{length, take, drop, take-append-drop, length-append, length-take, length-drop}
 use lib.Seq.{take-add, drop-drop}
 use native.Mathlib.Omega.{arith}
-use native.Mathlib.Nat.{add-assoc}
 use Rattle.ground.specs.Pick.{Reads, true≠false}
 
 abbrev pub part : List ℕ → ℕ → ℕ → List ℕ
@@ -24,6 +23,16 @@ part-join s a b c h k =
     let n : c - a ≡ b - a + (c - b) = omega arith in
     let m : a + (b - a) ≡ b = omega arith in
     sym (ap (λ (i : ℕ). take i (drop a s)) n ∙ take-add (b - a) (c - b) (drop a s) ∙ ap (λ (l : List ℕ). part s a b ++ take (c - b) l) (drop-drop (b - a) a s ∙ ap (λ (i : ℕ). drop i s) m))
+
+pub part-drop : (s : List ℕ) (a e : ℕ) → a ≤ e → part s a e ++ drop e s ≡ drop a s
+part-drop s a e h =
+    let m : a + (e - a) ≡ e = omega arith in
+    ap (λ (l : List ℕ). part s a e ++ l) (sym (drop-drop (e - a) a s ∙ ap (λ (i : ℕ). drop i s) m)) ∙ take-append-drop (e - a) (drop a s)
+
+pub flatten-append : (x y : List (List ℕ)) → flatten (x ++ y) ≡ flatten x ++ flatten y
+unfolding flatten
+flatten-append [] y = refl
+flatten-append (d ∷ x) y = ap (λ (l : List ℕ). d ++ l) (flatten-append x y) ∙ sym (append-assoc d (flatten x) (flatten y))
 
 pub part-none : (s : List ℕ) (a : ℕ) → part s a a ≡ []
 part-none s a = let z : a - a ≡ 0 = omega arith in ap (λ (i : ℕ). take i (drop a s)) z
@@ -67,3 +76,11 @@ reads-any {A} t P r (x ∷ l) = go (t x) (r x) (reads-any t P r l)
         split : any t l ≡ false → (h : Some P (x ∷ l)) → (h .one ≡ x) ⊎ List·Memᴰ (h .one) l → ⊥
         split e h (inl m) = q .denies refl (rw m at (h .has))
         split e h (inr m) = ih .denies e (record { one = h .one; among = m; has = h .has })
+
+-- an element of a list stands somewhere in it
+pub split-of : {A : Type 0} {a : A} {l : List A} → List·Memᴰ a l → (x : List A) × (y : List A) × (l ≡ x ++ a ∷ y)
+split-of (List·Memᴰ·head {xs = l} e) = ([], l, ap (λ b. b ∷ l) (sym e))
+split-of (List·Memᴰ·tail {x = b} m) = let r = split-of m in (b ∷ r .0, r .1, ap (λ l. b ∷ l) (r .2))
+
+pub of-split : {A : Type 0} (x : List A) (a : A) (y : List A) → List·Memᴰ a (x ++ a ∷ y)
+of-split x a y = Memᴰ·append-right x (List·Memᴰ·head refl)

@@ -2,7 +2,8 @@
 --   pick b x y  ==  x where the test b holds, else y
 --   yes, no     ==  pick's two equations, from what the test says
 --   Reads b P   ==  the test b holds exactly where the statement P does
-use mathlib.Core.Path.{_≡_, refl, sym, ap, _∙_}
+--   within a n b ==  the test that n is a to b
+use mathlib.Core.Path.{_≡_, refl, sym, ap}
 use mathlib.Core.Bool.{Bool, true, false, not, _&&_, _||_}
 use mathlib.Core.Logic.{_⊎_, inl, inr}
 use Prim.Native.Nat.{ℕ, _≤_, _<_}
@@ -47,6 +48,11 @@ pub decided : {P : Type 0} (b : Bool) → Reads b P → P ⊎ (P → ⊥)
 decided true r = inl (r .says refl)
 decided false r = inr (r .denies refl)
 
+-- a test decides that it holds
+pub reads-true : (b : Bool) → Reads b (b ≡ true)
+reads-true true = record { says = λ e. refl; denies = λ e. absurd (true≠false e) }
+reads-true false = record { says = λ e. e; denies = λ e h. true≠false (sym h) }
+
 pub reads-eq : (a b : ℕ) → Reads (eqb a b) (a ≡ b)
 reads-eq a b = record { says = eqb-true a b; denies = eqb-false a b }
 
@@ -71,3 +77,10 @@ reads-or {P} {Q} false b r s = record { says = λ e. inr (s .says e); denies = �
 pub reads-not : {P : Type 0} (a : Bool) → Reads a P → Reads (not a) (P → ⊥)
 reads-not true r = record { says = λ e. absurd (true≠false (sym e)); denies = λ e f. f (r .says refl) }
 reads-not false r = record { says = λ e. r .denies refl; denies = λ e. absurd (true≠false e) }
+
+-- a number from low to high
+abbrev pub within : ℕ → ℕ → ℕ → Bool
+within low n high = leb low n && leb n high
+
+pub reads-within : (low n high : ℕ) → Reads (within low n high) ((low ≤ n) × (n ≤ high))
+reads-within low n high = reads-and (leb low n) (leb n high) (reads-le low n) (reads-le n high)

@@ -7,7 +7,7 @@
 --   reach s at     ==  the place up to which they stand
 --   breach3 s      ==  nowhere, or the place where a descriptor's length is below 2 or runs past L
 --   Misfit s p     ==  descriptors stand up to place p, p is not the end, and none stands there
-use Prim.Native.Nat.{ℕ, zero, suc, _+_, _-_, _≤_, _<_}
+use Prim.Native.Nat.{ℕ, zero, suc, _+_, _≤_, _<_}
 use mathlib.Core.Path.{_≡_}
 use mathlib.Core.List.{List, [], _∷_, flatten, List·Memᴰ}
 use lib.ListN.{length, take}

@@ -1,17 +1,16 @@
 -- Laws of the cutting: what stands at a place, that there is one cutting at most, and that rule 3 holds exactly where the scan
 -- reaches the end.
 use Prim.Native.Nat.{ℕ, zero, suc, _+_, _-_, _≤_, _<_}
-use mathlib.Core.Path.{_≡_, refl, sym, ap, _∙_, subst}
+use mathlib.Core.Path.{_≡_, refl, sym, ap, _∙_}
 use mathlib.Core.Bool.{Bool, true, false}
 use mathlib.Core.List.{List, [], _∷_, _++_, flatten, append-assoc, append-nil, append-cancel-left, cons≢nil, List·Memᴰ, List·Memᴰ·head, List·Memᴰ·tail, List·Memᴰ·not-nil, List·Memᴰ·cases-cons}
-use mathlib.Core.Logic.{_⊎_, inl, inr, ⊎-elim, _↔_}
-use lib.ListN.{length, take, drop, getD, List·getD-append, List·getD-eq-default, length-append, length-take, length-drop, take-append-drop}
-use lib.Seq.{take-append-seam, drop-append-seam, drop-drop, getD-drop, getD-take, take-add, take-all, length-take-le}
+use mathlib.Core.Logic.{⊎-elim, _↔_}
+use lib.ListN.{length, take, drop, List·getD-append, List·getD-eq-default, length-append, length-drop, take-append-drop}
+use lib.Seq.{take-append-seam, drop-append-seam, drop-drop, getD-drop, getD-take, take-all, length-take-le}
 use lib.Dec.{ltb, eqb}
 use native.Mathlib.Omega.{arith}
-use native.Mathlib.Nat.{add-zero, zero-add, add-assoc, add-sub-cancel-left}
-use borrow.Author.Tests.{eq-eqb, ne-eqb, lt-ltb, le-ltb, ltb-true, ltb-false, eqb-true, eqb-false}
-use Rattle.ground.specs.declared.Place.{Place}
+use native.Mathlib.Nat.{add-zero, add-assoc, add-sub-cancel-left}
+use borrow.Author.Tests.{eq-eqb, ne-eqb, le-ltb, ltb-true, ltb-false, eqb-true, eqb-false}
 use Rattle.ground.specs.declared.Place.the-variants.{Nowhere, At}
 use Rattle.ground.specs.Pick.{pick, yes, no}
 use Rattle.ground.specs.Numbers.{byte}

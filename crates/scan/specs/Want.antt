@@ -13,7 +13,7 @@ use mathlib.Core.Bool.{Bool, not, _&&_, _||_}
 use mathlib.Core.List.{List}
 use mathlib.Core.Logic.{_⊎_}
 use lib.Dec.{eqb}
-use Rattle.ground.specs.Pick.{Reads, reads-eq, reads-and, reads-or, reads-not}
+use Rattle.ground.specs.Pick.{Reads, reads-eq, reads-and, reads-or}
 use Rattle.ground.specs.Numbers.{byte}
 use Rattle.ground.specs.declared.Place.{Place}
 use Rattle.scan.specs.Search.{searched}

@@ -1,6 +1,5 @@
 use borrow.Author.Needs.{needs}
-use Prim.Native.Nat.{ℕ}
-use mathlib.Core.Path.{_≡_, refl, sym, ap, _∙_}
+use mathlib.Core.Path.{_≡_, sym, _∙_}
 use mathlib.Core.Bool.{Bool, true, false, _||_}
 use Rattle.scan.proofs.class_or_interface.Statement.{statement}
 use Rattle.scan.proofs.class_or_interface.Tie as tie

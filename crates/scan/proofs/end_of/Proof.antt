@@ -1,12 +1,10 @@
 -- `end_of` by its three answers; a length of 2 or more stands inside the slice.
 use borrow.Author.Needs.{needs}
-use Prim.Native.Nat.{ℕ, _+_, _-_, _≤_, _<_, _^_}
-use mathlib.Core.Path.{_≡_, refl, sym, ap, _∙_}
+use Prim.Native.Nat.{ℕ, _+_, _-_, _≤_, _<_}
+use mathlib.Core.Path.{_≡_, sym}
 use mathlib.Core.List.{List}
 use native.Mathlib.Omega.{arith}
 use lib.ListN.{length}
-use mir.Val.{Fits}
-use mir.Syntax.{w64}
 use Rattle.ground.specs.Numbers.{byte}
 use Rattle.scan.specs.Cutting.{endAt}
 use Rattle.scan.specs.CuttingLaws.{end-none, end-stands, byte-inside}

@@ -1,0 +1,114 @@
+-- What the reader computes for the rules 1 to 7: for each, nowhere or the place of the refusal (document 01's table).
+--   breach1 s .. breach7 s f  ==  where rule 1 .. 7 is broken first; f is the frame: where the AudioControl group's parts stand
+--   frameOf s                 ==  control: the AudioControl interface; header: 9 bytes behind it, where the header should stand;
+--                                 run: where the header ends; end: where the run of type 24 descriptors behind it ends
+--   headerOf s f              ==  the descriptor that stands where the header should
+--   listedOf h                ==  the numbers that the header h lists
+--   judged s r                ==  the lowest number of 1 to 7 that applies, with its place; r where none does
+use Prim.Native.Nat.{ℕ, _+_}
+use mathlib.Core.Bool.{Bool, true, false, not, _&&_, _||_}
+use mathlib.Core.List.{List, [], _∷_}
+use lib.ListN.{length, drop}
+use lib.Dec.{eqb}
+use Rattle.ground.specs.declared.Place.{Place}
+use Rattle.ground.specs.declared.Place.the-variants.{Nowhere, At}
+use Rattle.ground.specs.Pick.{pick, within}
+use Rattle.ground.specs.Numbers.{byte, word}
+use Rattle.ground.specs.Lists.{part, any}
+use Rattle.ground.specs.declared.Refusal.{Refusal}
+use Rattle.ground.specs.First.{isBefore}
+use Rattle.ground.specs.Refuse.{refuse, placeOr}
+use Rattle.scan.specs.Cutting.{endAt, rest, breach3}
+use Rattle.scan.specs.Search.{searched}
+use Rattle.scan.specs.Want.{isInterface, isAudio, isSetting, isMember, foundFrom}
+use Rattle.scan.specs.declared.Want.the-variants as want
+use Rattle.groups.specs.Rules.{mostBytes}
+use Rattle.groups.specs.declared.Frame.{Frame}
+
+-- a rule with one place: kept, or broken there
+abbrev pub keptAt : Bool → ℕ → Place
+keptAt kept p = pick kept Nowhere (At p)
+
+unfoldable pub breach1 : List ℕ → Place
+breach1 s = keptAt (within 9 (length s) mostBytes) 0
+
+unfoldable pub breach2 : List ℕ → Place
+breach2 s = keptAt (eqb (byte s 0) 9 && (eqb (byte s 1) 2 && eqb (word s 2) (length s))) 0
+
+unfoldable pub wrongInterface : List (List ℕ) → List ℕ → Bool
+wrongInterface earlier i =
+    isInterface i
+    && (not (eqb (length i) 9)
+    || (any (isSetting (byte i 2) (byte i 3)) earlier
+    || (isAudio 1 i && (any (isAudio 1) earlier || not (eqb (byte i 3) 0)))))
+
+-- the same, where what stands before is told by two searches from the first byte on
+unfoldable pub wrongAt : List ℕ → ℕ → List ℕ → Bool
+wrongAt s at i =
+    isInterface i
+    && (not (eqb (length i) 9)
+    || (isBefore (foundFrom s 0 (want.Setting (byte i 2) (byte i 3))) at
+    || (isAudio 1 i && (isBefore (foundFrom s 0 (want.Audio 1)) at || not (eqb (byte i 3) 0)))))
+
+-- first such descriptor; L if only the AudioControl one is missing
+unfoldable pub breach4 : List ℕ → Place
+breach4 s =
+    elim (searched wrongInterface s 0) [
+      | Nowhere ↦ keptAt (any (isAudio 1) (rest s 0)) (length s)
+      | At p ↦ At p
+    ]
+
+unfoldable pub runEnd : List ℕ → ℕ → ℕ
+runEnd s run = placeOr (foundFrom s run want.NotClass) (length s)
+
+unfoldable pub frameFrom : List ℕ → ℕ → Frame
+frameFrom s control = record { control = control; header = control + 9; run = endAt s (control + 9); end = runEnd s (endAt s (control + 9)) }
+
+unfoldable pub frameOf : List ℕ → Frame
+frameOf s = frameFrom s (placeOr (foundFrom s 0 (want.Audio 1)) (length s))
+
+abbrev pub headerOf : List ℕ → Frame → List ℕ
+headerOf s f = part s (f .header) (f .run)
+
+unfoldable pub opens : List ℕ → Bool
+opens h = eqb (byte h 1) 0x24 && (eqb (byte h 2) 1 && (eqb (byte h 3) 0 && eqb (byte h 4) 1))
+
+unfoldable pub isHeader : List ℕ → Bool
+isHeader h = opens h && eqb (length h) (8 + byte h 7)
+
+unfoldable pub breach5 : List ℕ → Frame → Place
+breach5 s f = keptAt (isHeader (headerOf s f)) (f .header)
+
+-- whether a type 24 descriptor stands behind place e in the group
+unfoldable pub straysFrom : List ℕ → ℕ → Bool
+straysFrom s e = elim (foundFrom s e want.ClassOrInterface) [ Nowhere ↦ false | At q ↦ eqb (byte s (q + 1)) 0x24 ]
+
+unfoldable pub breach6 : List ℕ → Frame → Place
+breach6 s f = keptAt (eqb (f .header + word (headerOf s f) 5) (f .end) && not (straysFrom s (f .end))) (f .header)
+
+abbrev pub listedOf : List ℕ → List ℕ
+listedOf h = drop 8 h
+
+unfoldable pub isDistinct : List ℕ → Bool
+isDistinct [] = true
+isDistinct (k ∷ l) = not (any (eqb k) l) && isDistinct l
+
+unfoldable pub allKnown : List (List ℕ) → List ℕ → Bool
+allKnown ds [] = true
+allKnown ds (k ∷ l) = any (isMember k) ds && allKnown ds l
+
+-- the interface descriptor of a streaming or MIDI group whose number is not listed
+unfoldable pub unlisted : List ℕ → List ℕ → Bool
+unlisted listed d = (isAudio 2 d || isAudio 3 d) && not (any (eqb (byte d 2)) listed)
+
+unfoldable pub collects : List ℕ → List ℕ → Bool
+collects s listed = isDistinct listed && (allKnown (rest s 0) listed && not (any (unlisted listed) (rest s 0)))
+
+unfoldable pub breach7 : List ℕ → Frame → Place
+breach7 s f = keptAt (collects s (listedOf (headerOf s f))) (f .header)
+
+unfoldable pub groupJudged : List ℕ → Frame → Refusal → Refusal
+groupJudged s f r = refuse 5 (breach5 s f) (refuse 6 (breach6 s f) (refuse 7 (breach7 s f) r))
+
+unfoldable pub judged : List ℕ → Refusal → Refusal
+judged s r = refuse 1 (breach1 s) (refuse 2 (breach2 s) (refuse 3 (breach3 s) (refuse 4 (breach4 s) (groupJudged s (frameOf s) r))))

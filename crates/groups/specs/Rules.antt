@@ -1,0 +1,75 @@
+-- The rules 1 to 7 of a configuration, as document 01 writes them: statements over the bytes s, over a cutting ds of them into
+-- descriptors, or over the stretch of the cutting that a rule speaks of. Nothing here searches.
+--   Rule1 s            ==  L is 9 to 4,096
+--   Rule2 s            ==  the bytes open with 09 02, and bytes 2..3 are L
+--   Rule3 s            ==  there is a cutting of s into descriptors
+--   WrongInterface b i ==  i, behind the descriptors b, is an interface descriptor that refusal 4 names
+--   Rule4 ds           ==  no interface descriptor is wrong, and there is an AudioControl one
+--   Header h           ==  bytes 1 to 4 are 24 01 00 01, byte 7 is n, length 8+n
+--   Rule5 tail         ==  the descriptors tail behind the AudioControl interface begin with the header
+--   Rule6 h others     ==  behind the header h: the run, then the group's other descriptors, none of type 24, then the next group;
+--                          bytes 5..6 are the length of header and run together
+--   Rule7 ds h         ==  the listed numbers are distinct, each is that of a streaming or MIDI group, and each such group's is listed
+use Prim.Native.Nat.{ℕ, _+_, _≤_}
+use mathlib.Core.Path.{_≡_}
+use mathlib.Core.List.{List, [], _∷_, _++_, List·Memᴰ}
+use mathlib.Core.Logic.{_⊎_}
+use lib.ListN.{length, take, drop}
+use Rattle.ground.specs.Numbers.{byte, word}
+use Rattle.ground.specs.Lists.{total, Some}
+use Rattle.ground.specs.First.{Sound}
+use Rattle.scan.specs.Cutting.{Cutting}
+use Rattle.scan.specs.Want.{Interface, Class, Audio, Setting, Member}
+
+-- the most bytes that a configuration may have
+abbrev pub mostBytes : ℕ
+mostBytes = 4096
+
+abbrev pub Rule1 : List ℕ → Type 0
+Rule1 s = (9 ≤ length s) × (length s ≤ mostBytes)
+
+abbrev pub Rule2 : List ℕ → Type 0
+Rule2 s = (byte s 0 ≡ 9) × ((byte s 1 ≡ 2) × (word s 2 ≡ length s))
+
+abbrev pub Rule3 : List ℕ → Type 0
+Rule3 s = (ds : List (List ℕ)) × Cutting s ds
+
+pub data WrongInterface (earlier : List (List ℕ)) (i : List ℕ) : Type 0 where
+  not-nine : Interface i → (length i ≡ 9 → ⊥) → WrongInterface earlier i
+  repeats : Interface i → Some (Setting (byte i 2) (byte i 3)) earlier → WrongInterface earlier i
+  second-control : Audio 1 i → Some (Audio 1) earlier → WrongInterface earlier i
+  other-setting : Audio 1 i → (byte i 3 ≡ 0 → ⊥) → WrongInterface earlier i
+
+pub record Rule4 (ds : List (List ℕ)) : Type 0 where
+  pub right : Sound WrongInterface ds
+  pub control : Some (Audio 1) ds
+
+pub record Header (h : List ℕ) : Type 0 where
+  pub opening : take 4 (drop 1 h) ≡ 0x24 ∷ 1 ∷ 0 ∷ 1 ∷ []
+  pub long : length h ≡ 8 + byte h 7
+
+pub record Rule5 (tail : List (List ℕ)) : Type 0 where
+  pub header : List ℕ
+  pub others : List (List ℕ)
+  pub stands : tail ≡ header ∷ others
+  pub right : Header header
+
+-- a group ends where the next one opens, or with the configuration
+pub data GroupEnds : List (List ℕ) → Type 0 where
+  last : GroupEnds []
+  next : {i : List ℕ} {ds : List (List ℕ)} → Interface i → GroupEnds (i ∷ ds)
+
+pub record Rule6 (header : List ℕ) (others : List (List ℕ)) : Type 0 where
+  pub run : List (List ℕ)
+  pub later : List (List ℕ)
+  pub after : List (List ℕ)
+  pub split : others ≡ run ++ (later ++ after)
+  pub class : (d : List ℕ) → List·Memᴰ d run → Class d
+  pub no-class : (d : List ℕ) → List·Memᴰ d later → (Class d → ⊥) × (Interface d → ⊥)
+  pub ends : GroupEnds after
+  pub length-told : word header 5 ≡ length header + total run
+
+pub record Rule7 (ds : List (List ℕ)) (listed : List ℕ) : Type 0 where
+  pub distinct : (x y : List ℕ) (k : ℕ) → listed ≡ x ++ k ∷ y → List·Memᴰ k y → ⊥
+  pub known : (k : ℕ) → List·Memᴰ k listed → Some (Member k) ds
+  pub all-listed : (d : List ℕ) → List·Memᴰ d ds → Audio 2 d ⊎ Audio 3 d → List·Memᴰ (byte d 2) listed
