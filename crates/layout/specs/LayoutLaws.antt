@@ -84,3 +84,43 @@ module _ (d : List ℕ) where
   pub feature-wrong : ((1 ≤ byte d 5) × (byte d 5 ≤ 4) → 7 ≤ length d → ⊥) → featureOf d ≡ Unknown
   unfolding featureOf
   feature-wrong n = wrong-two _ (reads-within 1 (byte d 5) 4) (reads-le 7 (length d)) n
+
+  -- byte 2 is the kind
+  pub kind-input : byte d 2 ≡ 2 → entityOf d ≡ inputOf d
+  unfolding entityOf
+  kind-input k = yes _ _ (shows (reads-eq (byte d 2) 2) k)
+
+  -- the test for one kind fails where the kind is another
+  other-kind : {k : ℕ} (j : ℕ) (x y : Entity) → byte d 2 ≡ k → (k ≡ j → ⊥) → pick (eqb (byte d 2) j) x y ≡ y
+  other-kind j x y e n = no _ _ (refutes (reads-eq (byte d 2) j) (λ h. n (sym e ∙ h)))
+
+  pub kind-output : byte d 2 ≡ 3 → entityOf d ≡ outputOf d
+  unfolding entityOf
+  kind-output k = other-kind 2 _ _ k (λ h. omega arith) ∙ yes _ _ (shows (reads-eq (byte d 2) 3) k)
+
+  pub kind-mixer : byte d 2 ≡ 4 → entityOf d ≡ mixerOf d
+  unfolding entityOf
+  kind-mixer k = other-kind 2 _ _ k (λ h. omega arith) ∙ other-kind 3 _ _ k (λ h. omega arith) ∙ yes _ _ (shows (reads-eq (byte d 2) 4) k)
+
+  pub kind-selector : byte d 2 ≡ 5 → entityOf d ≡ selectorOf d
+  unfolding entityOf
+  kind-selector k =
+      other-kind 2 _ _ k (λ h. omega arith) ∙ other-kind 3 _ _ k (λ h. omega arith) ∙ other-kind 4 _ _ k (λ h. omega arith)
+      ∙ yes _ _ (shows (reads-eq (byte d 2) 5) k)
+
+  pub kind-feature : byte d 2 ≡ 6 → entityOf d ≡ featureOf d
+  unfolding entityOf
+  kind-feature k =
+      other-kind 2 _ _ k (λ h. omega arith) ∙ other-kind 3 _ _ k (λ h. omega arith) ∙ other-kind 4 _ _ k (λ h. omega arith)
+      ∙ other-kind 5 _ _ k (λ h. omega arith) ∙ yes _ _ (shows (reads-eq (byte d 2) 6) k)
+
+  -- each kind's own part gives Unknown: so does the whole
+  all-wrong : (byte d 2 ≡ 2 → inputOf d ≡ Unknown) → (byte d 2 ≡ 3 → outputOf d ≡ Unknown) → (byte d 2 ≡ 4 → mixerOf d ≡ Unknown) → (byte d 2 ≡ 5 → selectorOf d ≡ Unknown) → (byte d 2 ≡ 6 → featureOf d ≡ Unknown) → entityOf d ≡ Unknown
+  unfolding entityOf
+  all-wrong i o m s f = step 2 i (step 3 o (step 4 m (step 5 s (step 6 f refl))))
+    where
+      step : (j : ℕ) {x y : Entity} → (byte d 2 ≡ j → x ≡ Unknown) → y ≡ Unknown → pick (eqb (byte d 2) j) x y ≡ Unknown
+      step j h u = ⊎-elim (λ k. yes _ _ (shows (reads-eq (byte d 2) j) k) ∙ h k) (λ n. no _ _ (refutes (reads-eq (byte d 2) j) n) ∙ u) (decided _ (reads-eq (byte d 2) j))
+
+  pub kind-other : (byte d 2 ≡ 2 → ⊥) → (byte d 2 ≡ 3 → ⊥) → (byte d 2 ≡ 4 → ⊥) → (byte d 2 ≡ 5 → ⊥) → (byte d 2 ≡ 6 → ⊥) → entityOf d ≡ Unknown
+  kind-other a b c e f = all-wrong (λ k. absurd (a k)) (λ k. absurd (b k)) (λ k. absurd (c k)) (λ k. absurd (e k)) (λ k. absurd (f k))
