@@ -37,13 +37,13 @@ on ids places i g h =
     let f = g .fits in
     let z : i ≡ 0 + i = omega arith in
     record {
-        passed = omega arith;
-        fits = f;
-        same =
-            ap (λ (l : List ℕ). set l i (getD ids i 0)) (g .same)
-            ∙ ap (λ (k : ℕ). set (paste blank 0 ids i) k (getD ids i 0)) z
-            ∙ paste-suc blank 0 ids i 0 (omega arith) h
-            ∙ ap (paste blank 0 ids) (sym (add-one i))
+      passed = omega arith;
+      fits = f;
+      same =
+          ap (λ (l : List ℕ). set l i (getD ids i 0)) (g .same)
+          ∙ ap (λ (k : ℕ). set (paste blank 0 ids i) k (getD ids i 0)) z
+          ∙ paste-suc blank 0 ids i 0 (omega arith) h
+          ∙ ap (paste blank 0 ids) (sym (add-one i));
     }
 
 over : (ids places : List ℕ) (i : ℕ) → Copied ids places i → length ids ≤ i → _≡_ {A = Sources} (record { pins = i; ids = places }) (sourcesIn ids)
