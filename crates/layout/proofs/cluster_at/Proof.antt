@@ -1,3 +1,4 @@
+-- The cluster is its three fields, each read at its offset.
 use borrow.Author.Needs.{needs}
 use Prim.Native.Nat.{ℕ, _+_}
 use mathlib.Core.Path.{_≡_}

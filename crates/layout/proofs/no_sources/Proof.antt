@@ -1,3 +1,4 @@
+-- No source: eight zeros.
 use borrow.Author.Needs.{needs}
 use Rattle.layout.specs.Sources.{sourcesIn, padded}
 use Rattle.layout.proofs.no_sources.Statement.{statement}

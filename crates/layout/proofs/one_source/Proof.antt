@@ -1,3 +1,4 @@
+-- One source: its ID in the first of eight places.
 use borrow.Author.Needs.{needs}
 use Rattle.layout.specs.Sources.{sourcesIn, padded}
 use Rattle.layout.proofs.one_source.Statement.{statement}

@@ -1,3 +1,4 @@
+-- The kind is byte 2: each kind's reader answers for the whole, and any other kind is Unknown.
 use borrow.Author.Needs.{needs}
 use Prim.Native.Nat.{ℕ}
 use mathlib.Core.Path.{_≡_, sym, _∙_}

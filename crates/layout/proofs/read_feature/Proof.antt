@@ -1,3 +1,4 @@
+-- Four ways out: no control size, one above 4, a length below 7, or the layout is right.
 use borrow.Author.Needs.{needs}
 use Prim.Native.Nat.{ℕ, _≤_, _<_}
 use mathlib.Core.Path.{_≡_, sym}

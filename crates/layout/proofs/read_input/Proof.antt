@@ -1,3 +1,4 @@
+-- The length is 12 or it is not; the fields are the callees' answers.
 use borrow.Author.Needs.{needs}
 use Prim.Native.Nat.{ℕ}
 use mathlib.Core.Path.{_≡_, sym}

@@ -1,3 +1,4 @@
+-- Five ways out: wrong pins, length 6+p, neither 6+p nor 7+p, a byte 5 that is not 0, and the printed Selector.
 use borrow.Author.Needs.{needs}
 use Prim.Native.Nat.{ℕ, _+_, _≤_, _<_}
 use mathlib.Core.Path.{_≡_, sym, _∙_}

@@ -1,3 +1,4 @@
+-- `right_pins` by its two answers: the lower bound fails, or the upper one decides.
 use borrow.Author.Needs.{needs}
 use Prim.Native.Nat.{ℕ, _≤_, _<_}
 use mathlib.Core.Path.{_≡_, sym, ap}
