@@ -1,2 +1,5 @@
 pub mod Layout
 pub mod Sources
+pub mod LayoutLaws
+pub mod SourcesLaws
+pub mod Examples

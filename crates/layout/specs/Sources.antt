@@ -1,6 +1,7 @@
 -- The sources of an entity, in the order of its pins.
 --   sourceList e d ==  their IDs: none for an Input Terminal, one for an Output Terminal and a Feature Unit, p of them from offset 5
 --                      for a Mixer and a Selector, from 6 for the printed Selector
+--   pinsOf e       ==  how many there are: the pins
 --   padded l       ==  eight places: the IDs l, then 00
 --   sourcesOf d    ==  what the reader hands on: how many there are, and the eight places
 use Prim.Native.Nat.{ℕ, _+_, _≤_}
@@ -20,6 +21,15 @@ sourceList (Mixer i p c l) d = take p (drop 5 d)
 sourceList (Selector i p) d = take p (drop 5 d)
 sourceList (Printed i p) d = take p (drop 6 d)
 sourceList (Feature i s n l) d = s ∷ []
+
+unfoldable pub pinsOf : Entity → ℕ
+pinsOf Unknown = 0
+pinsOf (Input i t c) = 0
+pinsOf (Output i t s) = 1
+pinsOf (Mixer i p c l) = p
+pinsOf (Selector i p) = p
+pinsOf (Printed i p) = p
+pinsOf (Feature i s n l) = 1
 
 unfoldable pub padded : List ℕ → List ℕ
 padded l = l ++ drop (length l) (replicate mostPins 0)

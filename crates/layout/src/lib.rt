@@ -233,38 +233,20 @@ pub fn read_sources(d: &[u8]) -> Sources
     let entity = read(d);
     match entity {
         Entity::Unknown => no_sources(),
-        Entity::Input {
-            id: _,
-            terminal: _,
-            cluster: _,
-        } => no_sources(),
-        Entity::Output {
-            id: _,
-            terminal: _,
-            source,
-        } => one_source(source),
-        Entity::Mixer {
-            id: _,
-            pins,
-            cluster: _,
-            length: _,
-        } => {
+        Entity::Input { .. } => no_sources(),
+        Entity::Output { source, .. } => one_source(source),
+        Entity::Mixer { pins, .. } => {
             let end = 5 + pins as usize;
             sources_in(&d[5..end])
         }
-        Entity::Selector { id: _, pins } => {
+        Entity::Selector { pins, .. } => {
             let end = 5 + pins as usize;
             sources_in(&d[5..end])
         }
-        Entity::Printed { id: _, pins } => {
+        Entity::Printed { pins, .. } => {
             let end = 6 + pins as usize;
             sources_in(&d[6..end])
         }
-        Entity::Feature {
-            id: _,
-            source,
-            size: _,
-            length: _,
-        } => one_source(source),
+        Entity::Feature { source, .. } => one_source(source),
     }
 }

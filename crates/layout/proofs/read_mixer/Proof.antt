@@ -1,0 +1,86 @@
+-- Three ways out: the pins are not 1 to 8, the length is below 10+p, or the layout is right.
+use borrow.Author.Needs.{needs}
+use Prim.Native.Nat.{ℕ, _+_, _≤_, _<_}
+use mathlib.Core.Path.{_≡_, sym, _∙_}
+use mathlib.Core.Bool.{Bool, true, false, not}
+use mathlib.Core.List.{List}
+use lib.ListN.{length}
+use borrow.Author.Tests.{not-true, not-false}
+use native.Mathlib.Omega.{arith}
+use Rattle.ground.specs.Numbers.{byte}
+use Rattle.ground.specs.Pick.{Reads}
+use Rattle.layout.specs.declared.Cluster.{Cluster}
+use Rattle.layout.specs.declared.Entity.the-variants.{Unknown, Mixer}
+use Rattle.layout.specs.Layout.{Pins, mixerOf, clusterAt, within, mostPins}
+use Rattle.layout.specs.LayoutLaws.{mixer-right, mixer-wrong, reads-within}
+use Rattle.layout.proofs.read_mixer.Statement.{statement}
+use Rattle.layout.proofs.read_mixer.Tie as tie
+
+module _ (d : List ℕ) (p : ℕ) (e : p ≡ byte d 4) (b : Bool) (t : b ≡ within 1 p mostPins) where
+  pins-wrong : not b ≡ true → Unknown ≡ mixerOf d
+  pins-wrong h = sym (mixer-wrong d (λ q l. reads-within 1 p mostPins .denies (sym t ∙ not-true b h) (rw e q)))
+
+  module _ (h : not b ≡ false) where
+    pins-right : Pins p
+    pins-right = reads-within 1 p mostPins .says (sym t ∙ not-false b h)
+
+    too-short : length d < 10 + p → Unknown ≡ mixerOf d
+    too-short l = sym (mixer-wrong d (λ q m. omega arith))
+
+    right : (i n : ℕ) (k : Cluster) → 10 + p ≤ length d → i ≡ byte d 3 → k ≡ clusterAt d (5 + p) → n ≡ byte d 0 → Mixer i p k n ≡ mixerOf d
+    right i n k l f g m = rw (f, g, m, e) (sym (mixer-right d (rw e at pins-right) (rw e at l)))
+
+ruleset laws = (pins-wrong, pins-right, too-short, right, needs)
+
+byte-at-requires : tie.Need-byte-at-requires
+byte-at-requires c κs = search laws
+
+right-pins-requires : tie.Need-right-pins-requires
+right-pins-requires c κs = search laws
+
+returns : tie.Need-returns
+returns c = search laws
+
+cast-if2 : tie.Need-cast-if2
+cast-if2 c = search laws
+
+add-if2 : tie.Need-add-if2
+add-if2 c = search laws
+
+returns-2 : tie.Need-returns-2
+returns-2 c = search laws
+
+cast-cluster-at : tie.Need-cast-cluster-at
+cast-cluster-at c = search laws
+
+add-cluster-at : tie.Need-add-cluster-at
+add-cluster-at c = search laws
+
+cluster-at-requires : tie.Need-cluster-at-requires
+cluster-at-requires c κs = search laws
+
+byte-at-requires-2 : tie.Need-byte-at-requires-2
+byte-at-requires-2 c κs = search laws
+
+byte-at-requires-3 : tie.Need-byte-at-requires-3
+byte-at-requires-3 c κs = search laws
+
+returns-3 : tie.Need-returns-3
+returns-3 c = search laws
+
+pub read-mixer-spec : {M : Type 1} → statement M
+read-mixer-spec =
+    tie.close
+    (tie.spec
+    byte-at-requires
+    right-pins-requires
+    returns
+    cast-if2
+    add-if2
+    returns-2
+    cast-cluster-at
+    add-cluster-at
+    cluster-at-requires
+    byte-at-requires-2
+    byte-at-requires-3
+    returns-3)

@@ -1,0 +1,165 @@
+-- The sources of an entity are as many as its pins, and stand inside its descriptor.
+--   sourcesEnd e    ==  the offset behind the last source of a Mixer or a Selector
+--   sources-inside  ==  the sources of what a descriptor is end inside it
+--   pins-few        ==  at most eight pins
+--   sources-length  ==  as many sources as pins; sources-input .. sources-feature: for each layout
+--   source-below    ==  a source is a byte
+--   padded-length, padded-at ==  the eight places hold the sources, 00 behind them
+use Prim.Native.Nat.{ℕ, suc, _+_, _-_, _≤_, _<_}
+use mathlib.Core.Path.{_≡_, refl, sym, ap, _∙_}
+use mathlib.Core.Logic.{_⊎_, ⊎-elim}
+use mathlib.Core.List.{List, [], _∷_, _++_, List·Memᴰ, List·Memᴰ·not-nil, List·Memᴰ·cases-cons}
+use lib.ListN.{length, take, drop, getD, replicate, length-take, length-drop, length-append, length-replicate, getD-replicate, List·getD-eq-default, List·getD-append}
+use lib.Seq.{getD-take, getD-drop, getD-append-add}
+use native.Mathlib.Omega.{arith}
+use Rattle.ground.specs.Pick.{decided, reads-lt}
+use Rattle.ground.specs.Numbers.{byte}
+use Rattle.layout.specs.declared.Entity.{Entity}
+use Rattle.layout.specs.declared.Entity.the-variants.{Unknown, Input, Output, Mixer, Selector, Printed, Feature}
+use Rattle.layout.specs.Layout.{mostPins, Pins, entityOf}
+use Rattle.layout.specs.LayoutLaws.{Told, told, unknown, input, output, mixer, selector, printed, feature, entity-input, entity-output, entity-mixer, entity-selector, entity-printed, entity-feature}
+use Rattle.layout.specs.Sources.{sourceList, pinsOf, padded}
+
+unfoldable pub sourcesEnd : Entity → ℕ
+sourcesEnd Unknown = 0
+sourcesEnd (Input i t c) = 0
+sourcesEnd (Output i t s) = 0
+sourcesEnd (Mixer i p c l) = 5 + p
+sourcesEnd (Selector i p) = 5 + p
+sourcesEnd (Printed i p) = 6 + p
+sourcesEnd (Feature i s n l) = 0
+
+pub sources-inside : (d : List ℕ) → sourcesEnd (entityOf d) ≤ length d
+unfolding sourcesEnd
+sources-inside d = of (told d)
+  where
+    of : {e : Entity} → Told d e → sourcesEnd e ≤ length d
+    of (unknown n) = omega arith
+    of (input k l) = omega arith
+    of (output k l) = omega arith
+    of (mixer k q l) = omega arith
+    of (selector k q l) = omega arith
+    of (printed k q l z) = omega arith
+    of (feature k q l) = omega arith
+
+pub pins-few : (d : List ℕ) → pinsOf (entityOf d) ≤ mostPins
+unfolding pinsOf
+pins-few d = of (told d)
+  where
+    of : {e : Entity} → Told d e → pinsOf e ≤ mostPins
+    of (unknown n) = omega arith
+    of (input k l) = omega arith
+    of (output k l) = omega arith
+    of (mixer k q l) = q .1
+    of (selector k q l) = q .1
+    of (printed k q l z) = q .1
+    of (feature k q l) = omega arith
+
+stretch-length : (d : List ℕ) (a n : ℕ) → a + n ≤ length d → length (take n (drop a d)) ≡ n
+stretch-length d a n h = simp (length-take, length-drop) (omega arith)
+
+pub sources-length : (d : List ℕ) → length (sourceList (entityOf d) d) ≡ pinsOf (entityOf d)
+unfolding sourceList pinsOf
+sources-length d = of (told d)
+  where
+    of : {e : Entity} → Told d e → length (sourceList e d) ≡ pinsOf e
+    of (unknown n) = refl
+    of (input k l) = refl
+    of (output k l) = refl
+    of (mixer k q l) = stretch-length d 5 (byte d 4) (omega arith)
+    of (selector k q l) = stretch-length d 5 (byte d 4) (omega arith)
+    of (printed k q l z) = stretch-length d 6 (byte d 4) (omega arith)
+    of (feature k q l) = refl
+
+pub sources-few : (d : List ℕ) → length (sourceList (entityOf d) d) ≤ mostPins
+sources-few d = let e = sources-length d in let h = pins-few d in omega arith
+
+-- for each layout: none, one, or p sources
+module _ (d : List ℕ) where
+  pub sources-input : byte d 2 ≡ 2 → length d ≡ 12 → length (sourceList (entityOf d) d) ≡ 0
+  unfolding pinsOf
+  sources-input k l = sources-length d ∙ ap pinsOf (entity-input d k l)
+
+  pub sources-output : byte d 2 ≡ 3 → length d ≡ 9 → length (sourceList (entityOf d) d) ≡ 1
+  unfolding pinsOf
+  sources-output k l = sources-length d ∙ ap pinsOf (entity-output d k l)
+
+  pub sources-mixer : byte d 2 ≡ 4 → Pins (byte d 4) → 10 + byte d 4 ≤ length d → length (sourceList (entityOf d) d) ≡ byte d 4
+  unfolding pinsOf
+  sources-mixer k q l = sources-length d ∙ ap pinsOf (entity-mixer d k q l)
+
+  pub sources-selector : byte d 2 ≡ 5 → Pins (byte d 4) → length d ≡ 6 + byte d 4 → length (sourceList (entityOf d) d) ≡ byte d 4
+  unfolding pinsOf
+  sources-selector k q l = sources-length d ∙ ap pinsOf (entity-selector d k q l)
+
+  pub sources-printed : byte d 2 ≡ 5 → Pins (byte d 4) → length d ≡ 7 + byte d 4 → byte d 5 ≡ 0 → length (sourceList (entityOf d) d) ≡ byte d 4
+  unfolding pinsOf
+  sources-printed k q l z = sources-length d ∙ ap pinsOf (entity-printed d k q l z)
+
+  pub sources-feature : byte d 2 ≡ 6 → (1 ≤ byte d 5) × (byte d 5 ≤ 4) → 7 ≤ length d → length (sourceList (entityOf d) d) ≡ 1
+  unfolding pinsOf
+  sources-feature k q l = sources-length d ∙ ap pinsOf (entity-feature d k q l)
+
+-- each element of l is a byte
+abbrev Bytes : List ℕ → Type 0
+Bytes l = (s : ℕ) → List·Memᴰ s l → s < 256
+
+bytes-one : (s : ℕ) → s < 256 → Bytes (s ∷ [])
+bytes-one s h t m = ⊎-elim (λ e. omega arith) (λ n. absurd (List·Memᴰ·not-nil n)) (List·Memᴰ·cases-cons m)
+
+bytes-of : (l : List ℕ) → ((k : ℕ) → k < length l → byte l k < 256) → Bytes l
+bytes-of [] h s m = absurd (List·Memᴰ·not-nil m)
+bytes-of (x ∷ l) h s m =
+    ⊎-elim
+    (λ e. let z : x < 256 = h 0 (omega arith) in omega arith)
+    (λ n. bytes-of l (λ k j. h (suc k) (omega arith)) s n)
+    (List·Memᴰ·cases-cons m)
+
+module _ (d : List ℕ) (bytes : (k : ℕ) → byte d k < 256) where
+  bytes-stretch : (a n : ℕ) → Bytes (take n (drop a d))
+  bytes-stretch a n =
+      bytes-of (take n (drop a d)) (λ k h.
+      let s : length (take n (drop a d)) ≤ n = simp length-take (omega arith) in
+      let e : byte (take n (drop a d)) k ≡ byte d (a + k) = getD-take n (drop a d) k 0 (omega arith) ∙ getD-drop a d k 0 in
+      let b : byte d (a + k) < 256 = bytes (a + k) in
+      omega arith)
+
+  pub source-below : (s : ℕ) → List·Memᴰ s (sourceList (entityOf d) d) → s < 256
+  unfolding sourceList
+  source-below = of (told d)
+    where
+      of : {e : Entity} → Told d e → Bytes (sourceList e d)
+      of (unknown n) = λ s m. absurd (List·Memᴰ·not-nil m)
+      of (input k l) = λ s m. absurd (List·Memᴰ·not-nil m)
+      of (output k l) = bytes-one _ (bytes 7)
+      of (mixer k q l) = bytes-stretch 5 (byte d 4)
+      of (selector k q l) = bytes-stretch 5 (byte d 4)
+      of (printed k q l z) = bytes-stretch 6 (byte d 4)
+      of (feature k q l) = bytes-one _ (bytes 4)
+
+pub padded-length : (l : List ℕ) → length l ≤ mostPins → length (padded l) ≡ mostPins
+unfolding padded
+padded-length l h = simp (length-append, length-drop) (omega arith)
+
+zeros : (n i : ℕ) → byte (replicate n 0) i ≡ 0
+zeros n i = ⊎-elim (λ h. getD-replicate n i 0 0 h) past (decided _ (reads-lt i n))
+  where
+    past : (i < n → ⊥) → byte (replicate n 0) i ≡ 0
+    past g = List·getD-eq-default (replicate n 0) 0 (simp length-replicate (omega arith))
+
+pub padded-at : (l : List ℕ) (i : ℕ) → byte (padded l) i ≡ byte l i
+unfolding padded
+padded-at l i = ⊎-elim (λ h. List·getD-append l rest 0 i h) past (decided _ (reads-lt i (length l)))
+  where
+    rest : List ℕ
+    rest = drop (length l) (replicate mostPins 0)
+
+    past : (i < length l → ⊥) → byte (l ++ rest) i ≡ byte l i
+    past g =
+        let k : ℕ = i - length l in
+        let e : i ≡ length l + k = omega arith in
+        ap (byte (l ++ rest)) e
+        ∙ getD-append-add l rest k 0
+        ∙ getD-drop (length l) (replicate mostPins 0) k 0
+        ∙ zeros mostPins (length l + k)
+        ∙ sym (List·getD-eq-default l 0 (omega arith))
