@@ -5,11 +5,12 @@
 --   blankNode        ==  a spare place: all zeros, of no kind
 --   runIn p ds       ==  how many there are, and the first 32 of them, spare places blank
 use Prim.Native.Nat.{ℕ, _+_}
-use mathlib.Core.List.{List, [], _∷_, _++_}
-use lib.ListN.{length, take, drop, replicate}
+use mathlib.Core.List.{List, [], _∷_}
+use lib.ListN.{length, replicate}
+use Rattle.ground.specs.Lists.{pad}
 use Rattle.layout.specs.declared.Entity.the-variants.{Unknown}
 use Rattle.layout.specs.Layout.{entityOf}
-use Rattle.layout.specs.Sources.{sourcesIn, sourcesOf}
+use Rattle.layout.specs.Sources.{sourcesOf}
 use Rattle.entities.specs.declared.Node.{Node}
 use Rattle.entities.specs.declared.Run.{Run}
 
@@ -27,4 +28,4 @@ unfoldable pub blankNode : Node
 blankNode = record { place = 0; entity = Unknown; sources = record { pins = 0; ids = replicate 8 0 } }
 
 unfoldable pub runIn : ℕ → List (List ℕ) → Run
-runIn p ds = record { count = length ds; nodes = take mostEntities (nodesFrom p ds ++ replicate mostEntities blankNode) }
+runIn p ds = record { count = length ds; nodes = pad blankNode mostEntities (nodesFrom p ds) }

@@ -1,5 +1,6 @@
 // The run of entities by value: where each stands, what it is, and its sources. The layer above decides by these.
 ghost use mathlib.Core.Path.{_≡_};
+ghost use lib.ListN.{set};
 ghost use Rattle.scan.specs.Cutting.{rest};
 ghost use Rattle.entities.specs.Run.{blankNode, nodeOf, runIn};
 use layout::Entity;
@@ -19,4 +20,62 @@ pub struct Node {
 pub struct Run {
     pub count: usize,
     pub nodes: [Node; 32],
+}
+
+// A spare place.
+pub fn blank() -> Node
+    ensures { λ r. ⌜ r ≡ blankNode ⌝ }
+{
+    Node {
+        place: 0,
+        entity: Entity::Unknown,
+        sources: Sources {
+            pins: 0,
+            ids: [0u8; 8],
+        },
+    }
+}
+
+// The descriptor d that stands at a place.
+pub fn node_at(d: &[u8], place: usize) -> Node
+    ensures { λ r. ⌜ r ≡ nodeOf place (now (d .entry)) ⌝ }
+{
+    let entity = layout::read(d);
+    let sources = layout::read_sources(d);
+    Node {
+        place,
+        entity,
+        sources,
+    }
+}
+
+// The places with a node put in one of them; past the last place nothing changes.
+fn keep(nodes: [Node; 32], i: usize, node: Node) -> [Node; 32]
+    ensures { λ r. ⌜ r ≡ set nodes i node ⌝ }
+{
+    let mut kept = nodes;
+    if i < MOST_ENTITIES {
+        kept[i] = node;
+    }
+    kept
+}
+
+// The descriptors that stand one after another from a place on, as entities.
+pub fn read_run(s: &[u8], from: usize) -> Run
+    ensures { λ r. ⌜ r ≡ runIn from (rest (now (s .entry)) from) ⌝ }
+{
+    let spare = blank();
+    let mut nodes = [spare; 32];
+    let mut count: usize = 0;
+    let mut at = from;
+    loop {
+        let e = scan::end_of(s, at);
+        if e == at {
+            return Run { count, nodes };
+        }
+        let next = keep(nodes, count, node_at(&s[at..e], at));
+        nodes = next;
+        count += 1;
+        at = e;
+    }
 }

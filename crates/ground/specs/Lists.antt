@@ -2,14 +2,16 @@
 --   any t l    ==  some element of l passes the test t
 --   total ds   ==  the lengths of the parts ds together
 --   part s a e ==  the bytes of s from place a up to place e
-use Prim.Native.Nat.{ℕ, _+_, _-_, _≤_}
+--   pad b n l  ==  n places: the elements of l, then b
+use Prim.Native.Nat.{ℕ, zero, suc, _+_, _-_, _≤_, _<_}
 use mathlib.Core.Path.{_≡_, refl, sym, ap, _∙_}
 use mathlib.Core.Bool.{Bool, true, false, _||_}
 use mathlib.Core.List.{List, [], _∷_, _++_, flatten, append-assoc, List·Memᴰ, List·Memᴰ·head, List·Memᴰ·tail, List·Memᴰ·not-nil, List·Memᴰ·cases-cons, Memᴰ·append-right}
 use mathlib.Core.Logic.{_⊎_, inl, inr}
-use lib.ListN.{length, take, drop, take-append-drop, length-append, length-take, length-drop}
+use lib.ListN.{length, getD, set, replicate, take, drop, take-append-drop, length-append, length-take, length-drop}
 use lib.Seq.{take-add, drop-drop}
 use native.Mathlib.Omega.{arith}
+use native.Mathlib.Nat.{le-of-suc-le-suc}
 use Rattle.ground.specs.Pick.{Reads, true≠false}
 
 abbrev pub part : List ℕ → ℕ → ℕ → List ℕ
@@ -84,3 +86,35 @@ split-of (List·Memᴰ·tail {x = b} m) = let r = split-of m in (b ∷ r .0, r .
 
 pub of-split : {A : Type 0} (x : List A) (a : A) (y : List A) → List·Memᴰ a (x ++ a ∷ y)
 of-split x a y = Memᴰ·append-right x (List·Memᴰ·head refl)
+
+-- n places: the elements of l, the spare places b
+unfoldable pub pad : {A : Type 0} → A → ℕ → List A → List A
+pad b zero l = []
+pad b (suc n) [] = b ∷ pad b n []
+pad b (suc n) (x ∷ l) = x ∷ pad b n l
+
+pub pad-length : {A : Type 0} (b : A) (n : ℕ) (l : List A) → length (pad b n l) ≡ n
+unfolding pad
+pad-length b zero l = refl
+pad-length b (suc n) [] = ap suc (pad-length b n [])
+pad-length b (suc n) (x ∷ l) = ap suc (pad-length b n l)
+
+pub pad-blank : {A : Type 0} (b : A) (n : ℕ) → replicate n b ≡ pad b n []
+unfolding pad
+pad-blank b zero = refl
+pad-blank b (suc n) = ap (λ l. b ∷ l) (pad-blank b n)
+
+-- the next spare place is filled; past the last place nothing changes
+pub pad-set : {A : Type 0} (b : A) (n : ℕ) (l : List A) (v : A) → set (pad b n l) (length l) v ≡ pad b n (l ++ v ∷ [])
+unfolding pad
+pad-set b zero l v = refl
+pad-set b (suc n) [] v = refl
+pad-set b (suc n) (x ∷ l) v = ap (λ r. x ∷ r) (pad-set b n l v)
+
+pub pad-at : {A : Type 0} (b : A) (n : ℕ) (l : List A) (i : ℕ) → i < n → getD (pad b n l) i b ≡ getD l i b
+unfolding pad
+pad-at b zero l i h = absurd (omega arith)
+pad-at b (suc n) [] zero h = refl
+pad-at b (suc n) [] (suc i) h = pad-at b n [] i (le-of-suc-le-suc h)
+pad-at b (suc n) (x ∷ l) zero h = refl
+pad-at b (suc n) (x ∷ l) (suc i) h = pad-at b n l i (le-of-suc-le-suc h)

@@ -13,7 +13,7 @@ use mathlib.Core.Bool.{Bool, true, false, _&&_}
 use mathlib.Core.List.{List}
 use lib.ListN.{length}
 use lib.Dec.{leb, eqb}
-use Rattle.ground.specs.Pick.{pick}
+use Rattle.ground.specs.Pick.{pick, within}
 use Rattle.ground.specs.Numbers.{byte, word}
 use Rattle.layout.specs.declared.Cluster.{Cluster}
 use Rattle.layout.specs.declared.Entity.{Entity}
@@ -34,9 +34,6 @@ pub data LaidOut (d : List ℕ) : Type 0 where
   selector : byte d 2 ≡ 5 → Pins (byte d 4) → length d ≡ 6 + byte d 4 → LaidOut d
   printed : byte d 2 ≡ 5 → Pins (byte d 4) → length d ≡ 7 + byte d 4 → byte d 5 ≡ 0 → LaidOut d
   feature : byte d 2 ≡ 6 → (1 ≤ byte d 5) × (byte d 5 ≤ 4) → 7 ≤ length d → LaidOut d
-
-abbrev pub within : ℕ → ℕ → ℕ → Bool
-within low n high = leb low n && leb n high
 
 abbrev pub clusterAt : List ℕ → ℕ → Cluster
 clusterAt d k = record { channels = byte d k; locations = word d (k + 1); names = byte d (k + 3) }

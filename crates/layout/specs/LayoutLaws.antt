@@ -13,11 +13,11 @@ use mathlib.Core.List.{List}
 use lib.ListN.{length}
 use lib.Dec.{leb, eqb}
 use native.Mathlib.Omega.{arith}
-use Rattle.ground.specs.Pick.{pick, yes, no, Reads, shows, refutes, decided, true≠false, reads-eq, reads-le, reads-and, reads-or}
+use Rattle.ground.specs.Pick.{pick, yes, no, Reads, shows, refutes, decided, true≠false, reads-eq, reads-le, reads-and, reads-or, within}
 use Rattle.ground.specs.Numbers.{byte, word}
 use Rattle.layout.specs.declared.Entity.{Entity}
 use Rattle.layout.specs.declared.Entity.the-variants.{Unknown, Input, Output, Mixer, Selector, Printed, Feature}
-use Rattle.layout.specs.Layout.{mostPins, Pins, LaidOut, within, clusterAt, inputOf, outputOf, mixerOf, selectorOf, featureOf, entityOf, idOf, isUnknown}
+use Rattle.layout.specs.Layout.{mostPins, Pins, LaidOut, clusterAt, inputOf, outputOf, mixerOf, selectorOf, featureOf, entityOf, idOf, isUnknown}
 use Rattle.layout.specs.Layout as layout
 
 pub reads-within : (low n high : ℕ) → Reads (within low n high) ((low ≤ n) × (n ≤ high))

@@ -8,9 +8,9 @@ use lib.ListN.{length}
 use borrow.Author.Tests.{not-true, not-false}
 use native.Mathlib.Omega.{arith}
 use Rattle.ground.specs.Numbers.{byte}
-use Rattle.ground.specs.Pick.{Reads}
+use Rattle.ground.specs.Pick.{Reads, within}
 use Rattle.layout.specs.declared.Entity.the-variants.{Unknown, Selector, Printed}
-use Rattle.layout.specs.Layout.{Pins, selectorOf, within, mostPins}
+use Rattle.layout.specs.Layout.{Pins, selectorOf, mostPins}
 use Rattle.layout.specs.LayoutLaws.{selector-right, printed-right, selector-wrong, reads-within}
 use Rattle.layout.proofs.read_selector.Statement.{statement}
 use Rattle.layout.proofs.read_selector.Tie as tie

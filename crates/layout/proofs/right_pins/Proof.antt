@@ -5,7 +5,7 @@ use mathlib.Core.Path.{_≡_, sym, ap}
 use mathlib.Core.Bool.{Bool, true, false, _&&_}
 use lib.Dec.{leb}
 use borrow.Author.Tests.{le-leb, lt-leb}
-use Rattle.layout.specs.Layout.{within}
+use Rattle.ground.specs.Pick.{within}
 use Rattle.layout.proofs.right_pins.Statement.{statement}
 use Rattle.layout.proofs.right_pins.Tie as tie
 
