@@ -1,1 +1,4 @@
 pub mod Setting
+pub mod Grid
+pub mod Height
+pub mod Legal
