@@ -4,3 +4,6 @@ pub mod Grid
 pub mod Height
 pub mod Legal
 pub mod Lift
+pub mod Values
+pub mod Means
+pub mod Cases

@@ -63,6 +63,12 @@ module _ (b : ℕ) where
   lift-lt (negsuc m) (pos n) h g p q r = omega (arith, lift-neg b m h p, lift-pos b n g q)
   lift-lt (negsuc m) (negsuc n) h g p q r = let t = ltb→lt n m (r .lt) in omega (arith, lift-neg b m h p, lift-neg b n g q)
 
+  pub lt-lift : (z w : ℤ) (h g : ℕ) → Lift b z h → Lift b w g → h < g → z <ℤ w
+  lt-lift (pos m) (pos n) h g p q r = record { lt = lt→ltb m n (omega (arith, lift-pos b m h p, lift-pos b n g q)) }
+  lt-lift (pos m) (negsuc n) h g p q r = absurd (omega (arith, lift-pos b m h p, lift-neg b n g q))
+  lt-lift (negsuc m) (pos n) h g p q r = record { lt = tt }
+  lt-lift (negsuc m) (negsuc n) h g p q r = record { lt = lt→ltb n m (omega (arith, lift-neg b m h p, lift-neg b n g q)) }
+
   pub lift-apart : (z w : ℤ) (h g : ℕ) → Lift b z h → Lift b w g → natAbs (z -ℤ w) ≡ apart h g
   lift-apart (pos m) (pos zero) h g p q = omega (arith, lift-pos b m h p, lift-pos b zero g q)
   lift-apart (pos m) (pos (suc n)) h g p q = omega (arith, sub-apart m (suc n), lift-pos b m h p, lift-pos b (suc n) g q)
