@@ -10,7 +10,7 @@ use Prim.Native.Nat.{ℕ, suc, _+_, _-_, _*_, _/_, _≤_, _<_, min}
 use mathlib.Core.Path.{_≡_, refl, _∙_, sym, ap}
 use mathlib.Core.Bool.{Bool, true, false, _&&_}
 use mathlib.Core.Logic.{_⊎_, inl, inr, ⊎-elim}
-use native.Mathlib.Nat.{mul-le-mul-right, suc-mul, zero-mul, mul-zero, mul-div-cancel, div-mul-le-self, lt-div-mul-add}
+use native.Mathlib.Nat.{mul-le-mul-right, suc-mul, zero-mul, mul-zero, mul-div-cancel, div-eq-of-lt-le, div-mul-le-self, lt-div-mul-add}
 use native.Mathlib.Omega.{arith}
 use lib.Dec.{eqb, leb, ltb}
 use borrow.Author.Tests.{leb-true, leb-false, lt-ltb, le-ltb, le-leb, lt-leb, eq-eqb, ne-eqb}
@@ -58,6 +58,13 @@ whole-steps-of k step = ⊎-elim (λ h. none (omega arith)) (λ h. ap (λ (n : �
   where
     none : step ≡ 0 → k * step / step * step ≡ k * step
     none e = rw e (mul-zero (k * 0 / 0) ∙ sym (mul-zero k))
+
+-- and there is one largest
+pub whole-steps-one : (k room step r : ℕ) → r ≡ k * step → r ≤ room → room < r + step → wholeSteps room step ≡ r
+unfolding wholeSteps
+whole-steps-one k room step r e l u =
+    let q : room / step ≡ k = div-eq-of-lt-le step (omega arith) (omega (arith, suc-mul k step)) in
+    ap (λ (n : ℕ). n * step) q ∙ sym e
 
 -- ---- the grid
 

@@ -1,4 +1,9 @@
 -- Heights: how far a number's value lies above the lowest value of its sort.
+--   span-some, span-small, bias-small, bias-twice  ==  what the three sorts have in common
+--   height-below  ==  a height is below the span
+--   height-up     ==  the height of a number that does not come round
+--   height-round  ==  the height of one that does
+--   height-back   ==  there and back is the number
 use Prim.Native.Nat.{ℕ, _+_, _-_, _*_, _%_, _≤_, _<_}
 use mathlib.Core.Path.{_≡_, refl, _∙_, sym, ap}
 use mathlib.Core.Logic.{_⊎_, inl, inr, ⊎-elim}
@@ -33,19 +38,17 @@ bias-twice Delay = inr refl
 pub height-below : (s : Sort) (n : ℕ) → heightOf s n < spanOf s
 height-below s n = mod-lt (n + biasOf s) (span-some s)
 
--- a number that does not come round, and one that does
 pub height-up : (s : Sort) (n : ℕ) → n + biasOf s < spanOf s → heightOf s n ≡ n + biasOf s
 height-up s n h = mod-eq-of-lt h
 
 pub height-round : (s : Sort) (n : ℕ) → n < spanOf s → spanOf s ≤ n + biasOf s → heightOf s n ≡ n + biasOf s - spanOf s
 height-round s n f h = mod-eq-sub-mod h ∙ mod-eq-of-lt (let b = bias-small s in omega arith)
 
--- there and back
 pub height-back : (s : Sort) (n : ℕ) → n < spanOf s → atHeight s (heightOf s n) ≡ n
-height-back s n f = ⊎-elim up round (ordered (spanOf s) (n + biasOf s))
+height-back s n f = ⊎-elim round up (ordered (spanOf s) (n + biasOf s))
   where
-    up : spanOf s ≤ n + biasOf s → atHeight s (heightOf s n) ≡ n
-    up h =
+    round : spanOf s ≤ n + biasOf s → atHeight s (heightOf s n) ≡ n
+    round h =
         let e = height-round s n f h in
         let g = height-below s n in
         ⊎-elim
@@ -53,8 +56,8 @@ height-back s n f = ⊎-elim up round (ordered (spanOf s) (n + biasOf s))
         (λ z. absurd (omega arith))
         (bias-twice s)
 
-    round : n + biasOf s < spanOf s → atHeight s (heightOf s n) ≡ n
-    round h =
+    up : n + biasOf s < spanOf s → atHeight s (heightOf s n) ≡ n
+    up h =
         let e = height-up s n h in
         ⊎-elim
         (λ t. height-round s (heightOf s n) (height-below s n) (omega arith) ∙ omega arith)

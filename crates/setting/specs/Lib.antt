@@ -1,9 +1,11 @@
 pub mod Setting
 pub mod Meaning
-pub mod Grid
-pub mod Height
-pub mod Legal
-pub mod Lift
-pub mod Values
-pub mod Means
 pub mod Cases
+pub mod Closest
+pub mod Available
+pub mod Legal
+pub mod Silence
+pub mod Values
+pub mod Height
+pub mod Lift
+pub mod Grid

@@ -1,5 +1,5 @@
 -- What ranges and settings mean, over the integers, in the words of document 01, "Controls and settings". No search and no
--- computed answer stands here. That the tests and the numbers of Setting have these meanings is proved in Means.
+-- computed answer stands here. That what Setting computes means this is proved in Legal, Available and Closest.
 --   value s n             ==  what the number n says: "volume (signed 16 bits), bass, mid, treble (signed 8), delay (unsigned 16)"
 --   Legal s range         ==  "Legal: MIN ≤ MAX; RES 1 to 32767 (127 for one byte, 65535 for delay); volume MIN at least −32767",
 --                             and no number "too wide for the control"
