@@ -1,0 +1,4 @@
+pub mod Controls
+pub mod First
+pub mod Sound
+pub mod FirstLaws
