@@ -2,3 +2,4 @@ pub mod Controls
 pub mod First
 pub mod Sound
 pub mod FirstLaws
+pub mod Meaning

@@ -2,7 +2,7 @@
 // refusal 30, the test that every entry point makes of a table, since everything in it is public. What this crate promises
 // to the layer above: each function answers, for every table whatever, as the definitions of specs/ say.
 ghost use mathlib.Core.Path.{_≡_};
-ghost use Rattle.table.specs.Controls.{blankControl, emptyTable, at, senseOf, sizeOf, answersTo};
+ghost use Rattle.table.specs.Controls.{blankControl, emptyTable, at, placed, senseOf, sizeOf, answersTo};
 ghost use Rattle.table.specs.First.{foundIn, unitIn};
 ghost use Rattle.table.specs.Sound.{narrowOf, soundYesNo, soundPin, soundRanged, soundControl, firstThere, soundPlace, soundOf};
 use setting::Range;
@@ -84,6 +84,17 @@ pub fn control_at(table: Table, place: usize) -> Control
         return table.controls[place];
     }
     blank()
+}
+
+// The table with the control at a place, and else as it was; past the last place nothing can be put.
+pub fn put(table: Table, place: usize, control: Control) -> Table
+    ensures { λ r. ⌜ r ≡ placed table place control ⌝ }
+{
+    let mut changed = table;
+    if place < CONTROLS {
+        changed.controls[place] = control;
+    }
+    changed
 }
 
 // What a control with this selector holds.
