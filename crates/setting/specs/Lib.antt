@@ -1,1 +1,11 @@
 pub mod Setting
+pub mod Meaning
+pub mod Cases
+pub mod Closest
+pub mod Available
+pub mod Legal
+pub mod Silence
+pub mod Values
+pub mod Height
+pub mod Lift
+pub mod Grid

@@ -1,21 +1,22 @@
 -- Ranges and settings, as the code computes them: on heights. A control's numbers are held as on the wire (two's
 -- complement where the control is signed); the height of a number is how far its value lies above the lowest value that
 -- the control can hold. Heights are ordered and spaced as the values are, and none is negative, so one definition serves the
--- three sorts. What the tests and numbers of this file mean over the integers is said and proved in Meaning.
---   spanOf s               ==  how many numbers a control of the sort s has
---   biasOf s               ==  how far its lowest value lies below 0
---   mostRes s              ==  "RES 1 to 32767 (127 for one byte, 65535 for delay)"
---   heightOf s n           ==  the height of the number n
---   atHeight s h           ==  the number of that height
---   silenceOf s n          ==  "For volume −32768 means silence"
---   fitsOf s n             ==  n is not "too wide for the control"
---   legalOf s range        ==  the range is legal
---   wholeSteps room step   ==  the largest multiple of step that is not above room
+-- three sorts. What all this means over the integers is said in Meaning, and proved in Legal, Available and Closest.
+--   spanOf s                         ==  how many numbers a control of the sort s has
+--   biasOf s                         ==  how far its lowest value lies below 0
+--   mostRes s                        ==  "RES 1 to 32767 (127 for one byte, 65535 for delay)"
+--   silenceOf s n                    ==  "For volume −32768 means silence"
+--   heightOf s n                     ==  the height of the number n
+--   atHeight s h                     ==  the number of that height
+--   fitsOf s n                       ==  n is not "too wide for the control"
+--   legalOf s range                  ==  the range is legal
+--   wholeSteps room step             ==  the largest multiple of step that is not above room
 --   onGrid least most step x         ==  x is least + k·step, up to most
---   closestHeight least most step x  ==  the closest such to x, "at a tie the lower"
+--   availableOf s range n            ==  n is a setting: "MIN + k·RES up to MAX", or silence
+--   nearer most step x low           ==  of the point low and the next, the closer to x
+--   closestHeight least most step x  ==  the closest point to x, "at a tie the lower"
 --   closestSetting s range n         ==  the number at the closest height
---   availableOf s range n  ==  n is a setting: "MIN + k·RES up to MAX", or silence
---   closestTo s range n    ==  what is stored where n is wanted
+--   closestTo s range n              ==  what is stored where n is wanted
 use Prim.Native.Nat.{ℕ, _+_, _-_, _*_, _/_, _%_, min}
 use mathlib.Core.Bool.{Bool, true, false, not, _&&_, _||_}
 use lib.Dec.{eqb, leb, ltb}
@@ -71,8 +72,7 @@ unfoldable pub availableOf : Sort → Range → ℕ → Bool
 availableOf s range n =
     silenceOf s n || (fitsOf s n && onGrid (heightOf s (range .min)) (heightOf s (range .max)) (range .res) (heightOf s n))
 
--- of low, the last grid point at or below both x and most, and the next one, if that is not above most: the closer to x, at
--- a tie low
+-- low is the last point that is above neither x nor most; the next point counts if it is not above most
 unfoldable pub nearer : ℕ → ℕ → ℕ → ℕ → ℕ
 nearer most step x low = pick (ltb (most - low) step) low (pick (ltb (low + step - x) (x - low)) (low + step) low)
 

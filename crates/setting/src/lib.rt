@@ -1,6 +1,7 @@
 // Ranges and the closest available setting (document 01, "Controls and settings"), once over the width. What this crate
-// promises to the layer above: for every input whatever each function answers as specs/Setting.antt defines it; what those
-// definitions mean over the integers is proved in specs/Meaning.antt and the files that it names.
+// promises to the layer above: each public function takes every input and answers what specs/Setting.antt defines. What
+// those definitions mean over the integers stands in specs/Meaning.antt, and that they mean it in specs/Legal.antt,
+// specs/Available.antt and specs/Closest.antt. Which sort a control is of is for the layer above to say.
 ghost use mathlib.Core.Path.{_≡_};
 ghost use mathlib.Core.Bool.{true};
 ghost use Prim.Native.Nat.{_≤_, _<_, min};
