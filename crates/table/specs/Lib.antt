@@ -3,3 +3,4 @@ pub mod First
 pub mod Sound
 pub mod FirstLaws
 pub mod Meaning
+pub mod Placed

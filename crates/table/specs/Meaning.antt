@@ -23,6 +23,7 @@ use lib.ListN.{length, getD, List·getD-eq-default}
 use borrow.Author.Tests.{not-true, not-false, eqb-true}
 use Rattle.ground.specs.Pick.{true≠false, Reads, shows, refutes, decided, reads-eq, reads-le, reads-and, reads-not}
 use Rattle.setting.specs.Setting.{fitsOf, legalOf, availableOf}
+use Rattle.setting.specs.Legal.{reads-itself}
 use Rattle.setting.specs.declared.Sort.{Sort}
 use Rattle.table.specs.declared.Control.{Control}
 use Rattle.table.specs.declared.Table.{Table}
@@ -80,9 +81,6 @@ pub record Sound (t : Table) : Type 0 where
 -- a test that decides one statement decides another that says the same
 restated : {P Q : Type 0} {b : Bool} → (P → Q) → (Q → P) → Reads b P → Reads b Q
 restated f g r = record { says = λ e. f (r .says e); denies = λ e q. r .denies e (g q) }
-
-reads-itself : (b : Bool) → Reads b (b ≡ true)
-reads-itself b = record { says = λ e. e; denies = λ e h. true≠false (sym h ∙ e) }
 
 reads-if : {P : Type 0} (a b : Bool) → Reads b P → Reads (not a || b) (a ≡ true → P)
 reads-if true b r = record { says = λ e h. r .says e; denies = λ e h. r .denies e (h refl) }
