@@ -12,17 +12,27 @@
 --   numbersIn k st    ==  the number that the step asks k to take, if it is a load or a Set of k
 --   told f t run      ==  what f finds in the accepted steps of the run, in their order
 --   lastOf x xs       ==  the last of xs, or x where there is none
+--   Held s c x        ==  the ranged control's CUR is the closest setting to x, which is not too wide; silence as it is
+--   StandsFor k c x   ==  the control's CUR is what is stored where x is wanted: of a ranged control that is loaded the
+--                         closest setting to x, of another x itself
 --   Bytes d           ==  every element of d is a byte, as in every lent slice
 --   Wired run         ==  the data of every request of the run are bytes
 use Prim.Native.Nat.{ℕ, _<_}
+use mathlib.Core.Path.{_≡_}
 use mathlib.Core.List.{List, [], _∷_, _++_, List·Memᴰ}
 use mathlib.Core.Bool.{Bool, true, false, _&&_}
 use lib.Dec.{eqb}
 use lib.ListN.{getD}
 use Rattle.ground.specs.Pick.{pick}
+use Rattle.setting.specs.Setting.{fitsOf, closestTo}
 use Rattle.setting.specs.declared.Range.{Range}
+use Rattle.setting.specs.declared.Sort.{Sort}
+use Rattle.table.specs.declared.Control.{Control}
+use Rattle.table.specs.declared.Sense.{Sense}
+use Rattle.table.specs.declared.Sense.the-variants as sense
 use Rattle.table.specs.declared.Table.{Table}
 use Rattle.table.specs.declared.Found.{Found}
+use Rattle.table.specs.Controls.{rangeOf}
 use Rattle.table.specs.First.{foundIn}
 use Rattle.request.specs.declared.Target.{Target}
 use Rattle.request.specs.declared.Asked.{Asked}
@@ -89,6 +99,16 @@ told f t (st ∷ run) = heard f t st ++ told f (tableNext t st) run
 unfoldable pub lastOf : {A : Type 0} → A → List A → A
 lastOf x [] = x
 lastOf x (y ∷ ys) = lastOf y ys
+
+pub record Held (s : Sort) (c : Control) (x : ℕ) : Type 0 where
+  pub fits : fitsOf s x ≡ true
+  pub closest : c .cur ≡ closestTo s (rangeOf c) x
+
+abbrev pub StandsFor : Sense → Control → ℕ → Type 0
+StandsFor sense.Unknown c x = c .cur ≡ x
+StandsFor sense.YesNo c x = c .cur ≡ x
+StandsFor (sense.Ranged s) c x = c .loaded ≡ true → Held s c x
+StandsFor sense.Pin c x = c .cur ≡ x
 
 abbrev pub Bytes : List ℕ → Type 0
 Bytes d = (i : ℕ) → getD d i 0 < 256
