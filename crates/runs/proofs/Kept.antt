@@ -1,0 +1,128 @@
+-- What an accepted load or Set leaves: a table that 30 has nothing against.
+--   load-same, set-same    ==  the control that is stored is the same control
+--   load-sound, set-sound  ==  30 has nothing against it
+--   place-below, place-inside  ==  a control that is found stands below the count, and in the array
+--   sent-fits              ==  the data of a Set are not too wide for the control
+use Prim.Native.Nat.{ℕ, _+_, _*_, _≤_, _<_, min}
+use mathlib.Core.Path.{_≡_, refl, sym, ap, _∙_}
+use mathlib.Core.List.{List}
+use mathlib.Core.Bool.{Bool, true, false, not, _&&_}
+use native.Mathlib.Omega.{arith}
+use lib.Dec.{eqb, leb}
+use lib.ListN.{length, getD}
+use borrow.Author.Tests.{eq-eqb, ne-eqb, eqb-true}
+use Rattle.ground.specs.Pick.{pick, yes, no, shows, true≠false, reads-and, reads-le}
+use Rattle.setting.specs.Setting.{spanOf, fitsOf, legalOf, availableOf, closestTo}
+use Rattle.setting.specs.Legal.{fits-reads}
+use Rattle.setting.specs.Closest.{closest-fits, closest-available}
+use Rattle.setting.specs.declared.Sort.{Sort}
+use Rattle.setting.specs.declared.Sort.the-variants.{Volume, Tone, Delay}
+use Rattle.setting.specs.declared.Range.{Range}
+use Rattle.table.specs.declared.Control.{Control}
+use Rattle.table.specs.declared.Table.{Table}
+use Rattle.table.specs.declared.Sense.{Sense}
+use Rattle.table.specs.declared.Sense.the-variants.{Unknown, YesNo, Ranged, Pin}
+use Rattle.table.specs.declared.Found.the-variants as found
+use Rattle.table.specs.Controls.{at, placed, senseOf, sizeOf, rangeOf, answersTo}
+use Rattle.table.specs.First.{places, foundIn}
+use Rattle.table.specs.FirstLaws.{first-at}
+use Rattle.table.specs.Meaning.{Same, SoundAs, SoundYesNo, SoundPin, SoundRanged, SoundLoaded, Sound, sound-counted}
+use Rattle.request.specs.declared.Settled.{Settled}
+use Rattle.request.specs.declared.Settled.the-variants.{NoSetting, To}
+use Rattle.request.specs.Load.{loadedWith}
+use Rattle.request.specs.Request.{unready, valueIn, settledBetween, settledOf, withCur}
+use Rattle.runs.specs.Runs.{Key, whereIs, Bytes}
+
+pub load-same : (s : Sort) (range : Range) (w : ℕ) (c : Control) → Same (loadedWith s range w c) c
+load-same s range w c = record { unit = refl; channel = refl; selector = refl }
+
+pub set-same : (x : ℕ) (c : Control) → Same (withCur x c) c
+set-same x c = record { unit = refl; channel = refl; selector = refl }
+
+-- a place that was found
+module _ (t : Table) (k : Key) (p : ℕ) (f : whereIs t k ≡ found.At p) where
+  pub place-answers : answersTo (k .unit) (k .channel) (k .selector) (at t p) ≡ true
+  unfolding foundIn
+  place-answers = first-at _ (places t) 0 p f .holds
+
+  pub place-below : p < t .count
+  unfolding foundIn
+  place-below = let h = first-at _ (places t) 0 p f .inside in omega arith
+
+  pub place-inside : Sound t → p < length (t .controls)
+  place-inside s = sound-counted t s p place-below
+
+-- the number of one byte, and of two
+one-byte : (d : List ℕ) → Bytes d → length d ≡ 1 → valueIn d < 256
+unfolding valueIn
+one-byte d h l = let b = h 0 in rw (yes (getD d 0 0) (pick (eqb (length d) 2) (getD d 0 0 + getD d 1 0 * 256) 0) (eq-eqb _ _ l)) b
+
+two-bytes : (d : List ℕ) → Bytes d → length d ≡ 2 → valueIn d < 65536
+unfolding valueIn
+two-bytes d h l =
+    let n : length d ≡ 1 → ⊥ = λ e. omega arith in
+    let a = h 0 in
+    let b = h 1 in
+    let q : getD d 0 0 + getD d 1 0 * 256 < 65536 = omega arith in
+    rw (no (getD d 0 0) (pick (eqb (length d) 2) (getD d 0 0 + getD d 1 0 * 256) 0) (ne-eqb _ _ n), yes (getD d 0 0 + getD d 1 0 * 256) 0 (eq-eqb _ _ l)) q
+
+-- "a number too wide for the control" is none that its bytes can hold
+pub sent-fits : (s : Sort) (d : List ℕ) → Bytes d → length d ≡ sizeOf (Ranged s) → fitsOf s (valueIn d) ≡ true
+sent-fits Volume d h l = shows (fits-reads Volume (valueIn d)) (two-bytes d h l)
+sent-fits Tone d h l = shows (fits-reads Tone (valueIn d)) (one-byte d h l)
+sent-fits Delay d h l = shows (fits-reads Delay (valueIn d)) (two-bytes d h l)
+
+-- a loaded control is a setting's again, whatever is wanted of it
+settled-loaded : (s : Sort) (c : Control) (range : Range) (w : ℕ) → rangeOf c ≡ range → c .cur ≡ closestTo s range w → legalOf s range ≡ true
+    → fitsOf s w ≡ true → SoundLoaded s c
+settled-loaded s c range w e f l h = record {
+  legal = rw e l;
+  fits = rw f (closest-fits s range w h);
+  setting = rw (e, f) (closest-available s range l w h);
+}
+
+pub load-sound : (s : Sort) (range : Range) (w : ℕ) (c : Control) → senseOf (c .selector) ≡ Ranged s → SoundAs (senseOf (c .selector)) c
+    → legalOf s range ≡ true → fitsOf s w ≡ true → SoundAs (senseOf (loadedWith s range w c .selector)) (loadedWith s range w c)
+load-sound s range w c e h l f =
+    let old : SoundRanged s c = rw e at h in
+    rw e (record { channel = old .channel; loaded = λ z. settled-loaded s (loadedWith s range w c) range w refl refl l f })
+
+-- what a Set may store, by what the control holds
+pub between-only : (least most x y : ℕ) → settledBetween least most x ≡ To y → (y ≡ x) × ((least ≤ x) × (x ≤ most))
+unfolding settledBetween
+between-only least most x y e = go (leb least x && leb x most) refl e
+  where
+    go : (b : Bool) → (leb least x && leb x most) ≡ b → pick b (To x) NoSetting ≡ To y → (y ≡ x) × ((least ≤ x) × (x ≤ most))
+    go true h q = (cc, reads-and _ _ (reads-le least x) (reads-le x most) .says h)
+    go false h q = absurd (let z : _≡_ {A = ℕ} 0 1 = cc in omega arith)
+
+set-by-sound : (k : Sense) (c : Control) (d : List ℕ) (x : ℕ) → SoundAs k c → unready k c ≡ false → Bytes d → length d ≡ sizeOf k
+    → settledOf k c (valueIn d) ≡ To x → SoundAs k (withCur x c)
+unfolding settledOf
+set-by-sound Unknown c d x h r b l e = h
+set-by-sound YesNo c d x h r b l e =
+    let q = between-only 0 1 (valueIn d) x e in
+    let n = h .narrow in
+    record {
+      channel = h .channel;
+      narrow = record { min = n .min; max = n .max; res = n .res; cur = omega arith };
+      setting = omega arith;
+    }
+set-by-sound (Ranged s) c d x h r b l e =
+    let f : x ≡ closestTo s (rangeOf c) (valueIn d) = cc in
+    record { channel = h .channel; loaded = λ z. settled-loaded s (withCur x c) (rangeOf c) (valueIn d) refl f (h .loaded z .legal) (sent-fits s d b l) }
+set-by-sound Pin c d x h r b l e =
+    let q = between-only 1 (c .pins) (valueIn d) x e in
+    let n = h .narrow in
+    let p = h .pins in
+    record {
+      channel = h .channel;
+      pins = p;
+      narrow = record { min = n .min; max = n .max; res = n .res; cur = omega arith };
+      setting = (omega arith, omega arith);
+    }
+
+pub set-sound : (c : Control) (d : List ℕ) (x : ℕ) → SoundAs (senseOf (c .selector)) c → unready (senseOf (c .selector)) c ≡ false → Bytes d
+    → length d ≡ sizeOf (senseOf (c .selector)) → settledOf (senseOf (c .selector)) c (valueIn d) ≡ To x
+    → SoundAs (senseOf (withCur x c .selector)) (withCur x c)
+set-sound c d x h r b l e = set-by-sound (senseOf (c .selector)) c d x h r b l e

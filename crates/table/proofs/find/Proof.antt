@@ -1,0 +1,98 @@
+-- The search has come to a place, and what is left of it is the whole search.
+use borrow.Author.Needs.{needs}
+use Prim.Native.Nat.{ℕ, _+_, _-_, _≤_, _<_}
+use mathlib.Core.Path.{_≡_, refl, sym, _∙_}
+use mathlib.Core.Bool.{Bool, true, false}
+use native.Mathlib.Nat.{sub-zero}
+use native.Mathlib.Omega.{arith}
+use Rattle.table.specs.declared.Table.{Table}
+use Rattle.table.specs.declared.Found.the-variants.{Nothing, At}
+use Rattle.table.specs.Controls.{at, answersTo}
+use Rattle.table.specs.First.{firstFrom, places, foundIn}
+use Rattle.table.specs.FirstLaws.{first-here, first-on, first-over}
+use Rattle.table.proofs.find.Statement.{statement}
+use Rattle.table.proofs.find.Tie as tie
+use Rattle.table.proofs.find.Reads as reads
+use Rattle.table.proofs.find.Lts as lts
+use Rattle.table.proofs.answers.Reads as answers-reads
+
+module _ (t : Table) (u ch s : ℕ) where
+  abbrev wanted : ℕ → Bool
+  wanted p = answersTo u ch s (at t p)
+
+  record Come (p : ℕ) : Type 0 where
+    low : p ≤ 128
+    same : foundIn t u ch s ≡ firstFrom wanted (places t - p) p
+
+  start : Come 0
+  unfolding foundIn
+  start = record { low = omega arith; same = rw sub-zero }
+
+  module _ (p : ℕ) (g : Come p) where
+    none-left : t .count ≤ p → Nothing ≡ foundIn t u ch s
+    none-left h = sym (g .same ∙ first-over wanted (places t) p (omega arith))
+
+    no-place : 128 ≤ p → Nothing ≡ foundIn t u ch s
+    no-place h = sym (g .same ∙ first-over wanted (places t) p (omega arith))
+
+    module _ (h : p < 128) (k : p < t .count) (b : Bool) (e : b ≡ wanted p) where
+      here : b ≡ true → At p ≡ foundIn t u ch s
+      here f = sym (g .same ∙ first-here wanted (places t) p (omega arith) (sym e ∙ f))
+
+      on : b ≡ false → Come (p + 1)
+      on f = record { low = omega arith; same = g .same ∙ first-on wanted (places t) p (omega arith) (sym e ∙ f) }
+
+ruleset laws = (start, none-left, no-place, here, on, needs)
+
+abbrev Inv-loop : tie.InvT-loop
+Inv-loop unit channel selector table count place₀ place = Come table unit channel selector place
+
+abbrev μ-loop : tie.MeasureT-loop
+μ-loop unit channel selector table count place₀ place = 128 - place
+
+loop-holds : tie.Need-loop-holds Inv-loop μ-loop
+loop-holds c = search laws
+
+returns : tie.Need-returns Inv-loop μ-loop
+returns c = search laws
+
+mul-control : tie.Need-mul-control Inv-loop μ-loop
+mul-control c = search laws
+
+element-copy-out-control : tie.Need-element-copy-out-control Inv-loop μ-loop
+element-copy-out-control c = search laws
+
+answers-requires : tie.Need-answers-requires Inv-loop μ-loop
+answers-requires c κs = search laws
+
+returns-2 : tie.Need-returns-2 Inv-loop μ-loop
+returns-2 c = search laws
+
+add-place : tie.Need-add-place Inv-loop μ-loop
+add-place c = search laws
+
+loop-less : tie.Need-loop-less Inv-loop μ-loop
+loop-less c = search laws
+
+loop-again : tie.Need-loop-again Inv-loop μ-loop
+loop-again c = search laws
+
+returns-3 : tie.Need-returns-3 Inv-loop μ-loop
+returns-3 c = search laws
+
+pub find-spec : {M : Type 1} → statement M
+find-spec =
+    tie.close
+    (tie.spec
+    Inv-loop
+    μ-loop
+    loop-holds
+    returns
+    mul-control
+    element-copy-out-control
+    answers-requires
+    returns-2
+    add-place
+    loop-less
+    loop-again
+    returns-3)

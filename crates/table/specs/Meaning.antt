@@ -1,0 +1,224 @@
+-- What refusal 30 means: a table that it does not turn away, in document 01's words, with no search. The paper's row, part by
+-- part: "over 128 controls" few; "a control twice" once; "an unknown selector" SoundAs; "a channel over 16 (over 0 for a
+-- Selector's)" channel; "a pin count no Selector may have" pins; "in a loaded control, an illegal range" legal; "in an
+-- unranged or loaded one, a number too wide for the control or a value that is no setting" narrow, fits, setting.
+--   Narrow c        ==  no number of the control is too wide for one byte
+--   SoundYesNo c    ==  what 30 asks of a yes/no control
+--   SoundPin c      ==  what it asks of a Selector's
+--   SoundLoaded s c ==  what it asks of a loaded control of sort s
+--   SoundRanged s c ==  what it asks of a ranged control of sort s, loaded or not
+--   SoundAs k c     ==  what it asks of a control that holds k
+--   Same a b        ==  two places hold one control
+--   Sound t         ==  30 has nothing against the table
+--   sound-reads     ==  the test holds exactly there
+--   sound-empty     ==  the empty table is one
+--   sound-counted   ==  each control of such a table stands in the array
+use Prim.Native.Nat.{ℕ, zero, suc, _+_, _-_, _≤_, _<_, min}
+use mathlib.Core.Path.{_≡_, refl, sym, ap, _∙_}
+use mathlib.Core.Bool.{Bool, true, false, not, _&&_, _||_}
+use mathlib.Core.Logic.{_⊎_, inl, inr, ⊎-elim}
+use native.Mathlib.Omega.{arith}
+use lib.Dec.{eqb, leb}
+use lib.ListN.{length, getD, List·getD-eq-default}
+use borrow.Author.Tests.{not-true, not-false, eqb-true}
+use Rattle.ground.specs.Pick.{true≠false, Reads, shows, refutes, decided, reads-eq, reads-le, reads-and, reads-not}
+use Rattle.setting.specs.Setting.{fitsOf, legalOf, availableOf}
+use Rattle.setting.specs.Legal.{reads-itself}
+use Rattle.setting.specs.declared.Sort.{Sort}
+use Rattle.table.specs.declared.Control.{Control}
+use Rattle.table.specs.declared.Table.{Table}
+use Rattle.table.specs.declared.Sense.{Sense}
+use Rattle.table.specs.declared.Sense.the-variants.{Unknown, YesNo, Ranged, Pin}
+use Rattle.table.specs.declared.Found.{Found}
+use Rattle.table.specs.declared.Found.the-variants.{Nothing, At}
+use Rattle.table.specs.Controls.{mostControls, mostPins, blankControl, emptyTable, at, senseOf, rangeOf, answersTo}
+use Rattle.table.specs.First.{firstFrom, isSome, places, foundIn}
+use Rattle.table.specs.FirstLaws.{FirstAt, NoneOf, first-none, none-first, first-at, at-first}
+use Rattle.table.specs.Sound.{narrowOf, soundYesNo, soundPin, soundRanged, soundBy, soundControl, isAt, firstThere, soundPlace, soundOf}
+
+pub record Narrow (c : Control) : Type 0 where
+  pub min : c .min ≤ 255
+  pub max : c .max ≤ 255
+  pub res : c .res ≤ 255
+  pub cur : c .cur ≤ 255
+
+pub record SoundYesNo (c : Control) : Type 0 where
+  pub channel : c .channel ≤ 16
+  pub narrow : Narrow c
+  pub setting : c .cur ≤ 1
+
+pub record SoundPin (c : Control) : Type 0 where
+  pub channel : c .channel ≡ 0
+  pub pins : (1 ≤ c .pins) × (c .pins ≤ mostPins)
+  pub narrow : Narrow c
+  pub setting : (1 ≤ c .cur) × (c .cur ≤ c .pins)
+
+pub record SoundLoaded (s : Sort) (c : Control) : Type 0 where
+  pub legal : legalOf s (rangeOf c) ≡ true
+  pub fits : fitsOf s (c .cur) ≡ true
+  pub setting : availableOf s (rangeOf c) (c .cur) ≡ true
+
+pub record SoundRanged (s : Sort) (c : Control) : Type 0 where
+  pub channel : c .channel ≤ 16
+  pub loaded : c .loaded ≡ true → SoundLoaded s c
+
+abbrev pub SoundAs : Sense → Control → Type 0
+SoundAs Unknown c = ⊥
+SoundAs YesNo c = SoundYesNo c
+SoundAs (Ranged s) c = SoundRanged s c
+SoundAs Pin c = SoundPin c
+
+pub record Same (a b : Control) : Type 0 where
+  pub unit : a .unit ≡ b .unit
+  pub channel : a .channel ≡ b .channel
+  pub selector : a .selector ≡ b .selector
+
+pub record Sound (t : Table) : Type 0 where
+  pub few : t .count ≤ mostControls
+  pub once : (p q : ℕ) → p < q → q < t .count → Same (at t p) (at t q) → ⊥
+  pub each : (p : ℕ) → p < t .count → SoundAs (senseOf (at t p .selector)) (at t p)
+
+-- a test that decides one statement decides another that says the same
+restated : {P Q : Type 0} {b : Bool} → (P → Q) → (Q → P) → Reads b P → Reads b Q
+restated f g r = record { says = λ e. f (r .says e); denies = λ e q. r .denies e (g q) }
+
+reads-if : {P : Type 0} (a b : Bool) → Reads b P → Reads (not a || b) (a ≡ true → P)
+reads-if true b r = record { says = λ e h. r .says e; denies = λ e h. r .denies e (h refl) }
+reads-if false b r = record { says = λ e h. absurd (true≠false (sym h)); denies = λ e. absurd (true≠false e) }
+
+module _ (c : Control) where
+  reads-narrow : Reads (narrowOf c) (Narrow c)
+  unfolding narrowOf
+  reads-narrow =
+      restated
+      (λ h. record { min = h .0; max = h .1 .0; res = h .1 .1 .0; cur = h .1 .1 .1 })
+      (λ h. (h .min, (h .max, (h .res, h .cur))))
+      (reads-and _ _ (reads-le _ _) (reads-and _ _ (reads-le _ _) (reads-and _ _ (reads-le _ _) (reads-le _ _))))
+
+  reads-yes-no : Reads (soundYesNo c) (SoundYesNo c)
+  unfolding soundYesNo
+  reads-yes-no =
+      restated
+      (λ h. record { channel = h .0; narrow = h .1 .0; setting = h .1 .1 })
+      (λ h. (h .channel, (h .narrow, h .setting)))
+      (reads-and _ _ (reads-le _ _) (reads-and _ _ reads-narrow (reads-le _ _)))
+
+  reads-pin : Reads (soundPin c) (SoundPin c)
+  unfolding soundPin
+  reads-pin =
+      restated
+      (λ h. record { channel = h .0; pins = (h .1 .0, h .1 .1 .0); narrow = h .1 .1 .1 .0; setting = h .1 .1 .1 .1 })
+      (λ h. (h .channel, (h .pins .0, (h .pins .1, (h .narrow, h .setting)))))
+      (reads-and _ _ (reads-eq _ _)
+      (reads-and _ _ (reads-le _ _)
+      (reads-and _ _ (reads-le _ _) (reads-and _ _ reads-narrow (reads-and _ _ (reads-le _ _) (reads-le _ _))))))
+
+  reads-loaded : (s : Sort) → Reads (legalOf s (rangeOf c) && (fitsOf s (c .cur) && availableOf s (rangeOf c) (c .cur))) (SoundLoaded s c)
+  reads-loaded s =
+      restated
+      (λ h. record { legal = h .0; fits = h .1 .0; setting = h .1 .1 })
+      (λ h. (h .legal, (h .fits, h .setting)))
+      (reads-and _ _ (reads-itself _) (reads-and _ _ (reads-itself _) (reads-itself _)))
+
+  reads-ranged : (s : Sort) → Reads (soundRanged s c) (SoundRanged s c)
+  unfolding soundRanged
+  reads-ranged s =
+      restated
+      (λ h. record { channel = h .0; loaded = h .1 })
+      (λ h. (h .channel, h .loaded))
+      (reads-and _ _ (reads-le _ _) (reads-if _ _ (reads-loaded s)))
+
+  reads-as : (k : Sense) → Reads (soundBy k c) (SoundAs k c)
+  unfolding soundBy
+  reads-as Unknown = record { says = λ e. true≠false (sym e); denies = λ e h. h }
+  reads-as YesNo = reads-yes-no
+  reads-as (Ranged s) = reads-ranged s
+  reads-as Pin = reads-pin
+
+  pub sound-control : Reads (soundControl c) (SoundAs (senseOf (c .selector)) c)
+  unfolding soundControl
+  sound-control = reads-as (senseOf (c .selector))
+
+-- a control answers to another's unit, channel and selector exactly where the two are the same
+pub reads-same : (a b : Control) → Reads (answersTo (b .unit) (b .channel) (b .selector) a) (Same a b)
+unfolding answersTo
+reads-same a b =
+    restated
+    (λ h. record { unit = h .0; channel = h .1 .0; selector = h .1 .1 })
+    (λ h. (h .unit, (h .channel, h .selector)))
+    (reads-and _ _ (reads-eq _ _) (reads-and _ _ (reads-eq _ _) (reads-eq _ _)))
+
+-- "every place passes" is that the search finds none that does not
+reads-every : (f : ℕ → Bool) (n : ℕ) → Reads (not (isSome (firstFrom (λ p. not (f p)) n 0))) ((p : ℕ) → p < n → f p ≡ true)
+reads-every f n = record {
+  says = λ e. passed (firstFrom (λ p. not (f p)) n 0) refl e;
+  denies = λ e h.
+      true≠false
+      (sym (ap (λ (x : Found). not (isSome x)) (none-first (λ p. not (f p)) n 0 (λ j l m. ap not (h j (omega arith))))) ∙ e);
+}
+  where
+    passed : (x : Found) → firstFrom (λ p. not (f p)) n 0 ≡ x → not (isSome x) ≡ true → (p : ℕ) → p < n → f p ≡ true
+    passed Nothing e h p l = not-false (f p) (first-none (λ p. not (f p)) n 0 e p (omega arith) (omega arith))
+    passed (At q) e h p l = absurd (true≠false (sym h))
+
+module _ (t : Table) (few : t .count ≤ mostControls) where
+  -- a control stands at no earlier place than where the search finds it
+  reads-first : (p : ℕ) → p < t .count → Reads (firstThere t p (at t p)) ((q : ℕ) → q < p → Same (at t q) (at t p) → ⊥)
+  unfolding firstThere foundIn
+  reads-first p l = record { says = λ e. alone (firstFrom twin (places t) 0) refl e; denies = λ e h. true≠false (sym (found h) ∙ e) }
+    where
+      twin : ℕ → Bool
+      twin q = answersTo (at t p .unit) (at t p .channel) (at t p .selector) (at t q)
+
+      alone : (x : Found) → firstFrom twin (places t) 0 ≡ x → isAt p x ≡ true → (q : ℕ) → q < p → Same (at t q) (at t p) → ⊥
+      alone Nothing e h q m = absurd (true≠false (sym h))
+      alone (At r) e h q m =
+          let k = eqb-true r p h in
+          reads-same (at t q) (at t p) .denies (first-at twin (places t) 0 r e .before q (omega arith) (omega arith))
+
+      itself : Same (at t p) (at t p)
+      itself = record { unit = refl; channel = refl; selector = refl }
+
+      found : ((q : ℕ) → q < p → Same (at t q) (at t p) → ⊥) → isAt p (firstFrom twin (places t) 0) ≡ true
+      found h =
+          ap (isAt p)
+          (at-first twin (places t) 0 p
+          (record {
+            from = omega arith;
+            inside = omega arith;
+            holds = shows (reads-same (at t p) (at t p)) itself;
+            before = λ j n m. refutes (reads-same (at t j) (at t p)) (h j m);
+          }))
+          ∙ shows (reads-eq p p) refl
+
+  reads-place : (p : ℕ) (l : p < t .count)
+      → Reads (soundPlace t p) (SoundAs (senseOf (at t p .selector)) (at t p) × ((q : ℕ) → q < p → Same (at t q) (at t p) → ⊥))
+  unfolding soundPlace
+  reads-place p l = reads-and _ _ (sound-control (at t p)) (reads-first p l)
+
+pub sound-reads : (t : Table) → Reads (soundOf t) (Sound t)
+unfolding soundOf
+sound-reads t =
+    restated
+    (λ h. record {
+      few = h .0;
+      once = λ p q l m. reads-place t (h .0) q m .says (h .1 q m) .1 p l;
+      each = λ p l. reads-place t (h .0) p l .says (h .1 p l) .0;
+    })
+    (λ h. (h .few, λ p l. shows (reads-place t (h .few) p l) (h .each p l, λ q m. h .once q p m l)))
+    (reads-and _ _ (reads-le _ _) (reads-every (soundPlace t) (t .count)))
+
+pub sound-empty : Sound emptyTable
+sound-empty = record { few = omega arith; once = λ p q l m. absurd (omega arith); each = λ p l. absurd (omega arith) }
+
+-- past the array's end the model reads a spare place, and 30 has something against that as a control
+pub sound-counted : (t : Table) → Sound t → (p : ℕ) → p < t .count → p < length (t .controls)
+unfolding senseOf
+sound-counted t h p l = ⊎-elim (λ (k : length (t .controls) ≤ p). absurd (past k)) (λ (k : length (t .controls) ≤ p → ⊥). omega arith) (decided (leb (length (t .controls)) p) (reads-le _ _))
+  where
+    past : length (t .controls) ≤ p → ⊥
+    past k =
+        let e : at t p ≡ blankControl = List·getD-eq-default (t .controls) blankControl k in
+        let s : SoundPin blankControl = rw e at (h .each p l) in
+        let n = s .pins .0 in
+        omega arith

@@ -1,0 +1,68 @@
+-- What a control that is put in the place of the same control changes: nothing else, and not what 30 says.
+--   same-by, same-back, same-self  ==  Same is transitive, symmetric and reflexive
+--   placed-here      ==  the control stands at its place
+--   placed-elsewhere ==  at every other place stands what stood there, spare places among them
+--   placed-keeps     ==  each place holds the control that it held
+--   placed-found     ==  each control is found where it was
+--   placed-sound     ==  30 has nothing against the table if it had nothing and has nothing against the control
+use Prim.Native.Nat.{ℕ, _≤_, _<_}
+use mathlib.Core.Path.{_≡_, refl, sym, ap, _∙_}
+use mathlib.Core.Bool.{Bool, true, false}
+use mathlib.Core.Logic.{⊎-elim}
+use native.Mathlib.Omega.{arith}
+use lib.Dec.{eqb}
+use lib.ListN.{length, getD, set}
+use lib.Seq.{getD-set-same, getD-set-other}
+use Rattle.ground.specs.Pick.{decided, reads-eq}
+use Rattle.table.specs.declared.Control.{Control}
+use Rattle.table.specs.declared.Table.{Table}
+use Rattle.table.specs.Controls.{blankControl, at, placed, senseOf, answersTo}
+use Rattle.table.specs.First.{firstFrom, places, foundIn}
+use Rattle.table.specs.FirstLaws.{first-same}
+use Rattle.table.specs.Meaning.{Same, SoundAs, Sound, sound-counted}
+
+pub same-self : (a : Control) → Same a a
+same-self a = record { unit = refl; channel = refl; selector = refl }
+
+pub same-back : {a b : Control} → Same a b → Same b a
+same-back h = record { unit = sym (h .unit); channel = sym (h .channel); selector = sym (h .selector) }
+
+pub same-by : {a b c : Control} → Same a b → Same b c → Same a c
+same-by h k = record { unit = h .unit ∙ k .unit; channel = h .channel ∙ k .channel; selector = h .selector ∙ k .selector }
+
+same-answers : (u ch s : ℕ) (a b : Control) → Same a b → answersTo u ch s a ≡ answersTo u ch s b
+unfolding answersTo
+same-answers u ch s a b h = rw (h .unit, h .channel, h .selector)
+
+pub placed-elsewhere : (t : Table) (p : ℕ) (c : Control) (q : ℕ) → (q ≡ p → ⊥) → at (placed t p c) q ≡ at t q
+placed-elsewhere t p c q h = getD-set-other (t .controls) p q c blankControl h
+
+module _ (t : Table) (p : ℕ) (inside : p < length (t .controls)) (c : Control) where
+  pub placed-here : at (placed t p c) p ≡ c
+  placed-here = getD-set-same (t .controls) p c blankControl inside
+
+  module _ (h : Same c (at t p)) where
+    pub placed-keeps : (q : ℕ) → Same (at (placed t p c) q) (at t q)
+    placed-keeps q =
+        ⊎-elim
+        (λ (e : q ≡ p). rw (e, placed-here) h)
+        (λ (e : q ≡ p → ⊥). rw (placed-elsewhere t p c q e) (same-self (at t q)))
+        (decided (eqb q p) (reads-eq q p))
+
+    pub placed-found : (u ch s : ℕ) → foundIn (placed t p c) u ch s ≡ foundIn t u ch s
+    unfolding foundIn
+    placed-found u ch s =
+        first-same (λ q. answersTo u ch s (at (placed t p c) q)) (λ q. answersTo u ch s (at t q)) (places t) 0
+        (λ j l m. same-answers u ch s (at (placed t p c) j) (at t j) (placed-keeps j))
+
+    pub placed-sound : Sound t → SoundAs (senseOf (c .selector)) c → Sound (placed t p c)
+    placed-sound s k = record {
+      few = s .few;
+      once = λ i j l m n.
+          s .once i j l m (same-by (same-back (placed-keeps i)) (same-by n (placed-keeps j)));
+      each = λ i l.
+          ⊎-elim
+          (λ (e : i ≡ p). rw (e, placed-here) k)
+          (λ (e : i ≡ p → ⊥). rw (placed-elsewhere t p c i e) (s .each i l))
+          (decided (eqb i p) (reads-eq i p));
+    }

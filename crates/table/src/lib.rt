@@ -1,0 +1,300 @@
+// The table of controls (document 01, "Controls and settings"): what stands in it, how a control is found in it, and
+// refusal 30, the test that every entry point makes of a table, since everything in it is public. What this crate promises
+// to the layer above: each function answers, for every table whatever, as the definitions of specs/ say.
+ghost use mathlib.Core.Path.{_≡_};
+ghost use Rattle.table.specs.Controls.{blankControl, emptyTable, at, placed, senseOf, sizeOf, answersTo};
+ghost use Rattle.table.specs.First.{foundIn, unitIn};
+ghost use Rattle.table.specs.Sound.{narrowOf, soundYesNo, soundPin, soundRanged, soundControl, firstThere, soundPlace, soundOf};
+use setting::Range;
+use setting::Sort;
+
+// How many controls a table has room for.
+pub const CONTROLS: usize = 128;
+
+// How many pins a Selector may have.
+pub const PINS: u8 = 8;
+
+// One control: which it is (a Selector's has selector 0 and channel 0), how many pins a Selector has, and its numbers, as
+// on the wire: two bytes each, two's complement where the control is signed.
+pub struct Control {
+    pub unit: u8,
+    pub channel: u8,
+    pub selector: u8,
+    pub pins: u8,
+    pub loaded: bool,
+    pub min: u16,
+    pub max: u16,
+    pub res: u16,
+    pub cur: u16,
+}
+
+// The first count places hold the controls; the others are spare.
+pub struct Table {
+    pub count: usize,
+    pub controls: [Control; CONTROLS],
+}
+
+// What a selector's control holds.
+pub enum Sense {
+    Unknown,
+    YesNo,
+    Ranged(Sort),
+    Pin,
+}
+
+// Where something stands in a table.
+pub enum Found {
+    Nothing,
+    At(usize),
+}
+
+// A spare place.
+pub fn blank() -> Control
+    ensures { λ r. ⌜ r ≡ blankControl ⌝ }
+{
+    Control {
+        unit: 0,
+        channel: 0,
+        selector: 0,
+        pins: 0,
+        loaded: false,
+        min: 0,
+        max: 0,
+        res: 0,
+        cur: 0,
+    }
+}
+
+// The table with no control.
+pub fn empty() -> Table
+    ensures { λ r. ⌜ r ≡ emptyTable ⌝ }
+{
+    let spare = blank();
+    Table {
+        count: 0,
+        controls: [spare; CONTROLS],
+    }
+}
+
+// What stands at a place; past the last place, what a spare place holds.
+pub fn control_at(table: Table, place: usize) -> Control
+    ensures { λ r. ⌜ r ≡ at table place ⌝ }
+{
+    if place < CONTROLS {
+        return table.controls[place];
+    }
+    blank()
+}
+
+// The table with the control at a place, and else as it was; past the last place nothing can be put.
+pub fn put(table: Table, place: usize, control: Control) -> Table
+    ensures { λ r. ⌜ r ≡ placed table place control ⌝ }
+{
+    let mut changed = table;
+    if place < CONTROLS {
+        changed.controls[place] = control;
+    }
+    changed
+}
+
+// What a control with this selector holds.
+pub fn sense_of(selector: u8) -> Sense
+    ensures { λ r. ⌜ r ≡ senseOf selector ⌝ }
+{
+    match selector {
+        0 => Sense::Pin,
+        1 => Sense::YesNo,
+        2 => Sense::Ranged(Sort::Volume),
+        3 => Sense::Ranged(Sort::Tone),
+        4 => Sense::Ranged(Sort::Tone),
+        5 => Sense::Ranged(Sort::Tone),
+        7 => Sense::YesNo,
+        8 => Sense::Ranged(Sort::Delay),
+        9 => Sense::YesNo,
+        10 => Sense::YesNo,
+        _ => Sense::Unknown,
+    }
+}
+
+// How many bytes such a control's value has on the wire.
+pub fn size(held: Sense) -> usize
+    ensures { λ r. ⌜ r ≡ sizeOf held ⌝ }
+{
+    match held {
+        Sense::Unknown => 1,
+        Sense::YesNo => 1,
+        Sense::Ranged(sort) => match sort {
+            Sort::Volume => 2,
+            Sort::Tone => 1,
+            Sort::Delay => 2,
+        },
+        Sense::Pin => 1,
+    }
+}
+
+// Whether the control is the one of this unit, channel and selector.
+fn answers(control: Control, unit: u8, channel: u8, selector: u8) -> bool
+    ensures { λ r. ⌜ r ≡ answersTo unit channel selector control ⌝ }
+{
+    if control.unit != unit {
+        return false;
+    }
+    if control.channel != channel {
+        return false;
+    }
+    control.selector == selector
+}
+
+// Where the control of this unit, channel and selector first stands.
+pub fn find(table: Table, unit: u8, channel: u8, selector: u8) -> Found
+    ensures { λ r. ⌜ r ≡ foundIn table unit channel selector ⌝ }
+{
+    let count = table.count;
+    let mut place = 0;
+    while place < CONTROLS {
+        if count <= place {
+            return Found::Nothing;
+        }
+        let control = table.controls[place];
+        if answers(control, unit, channel, selector) {
+            return Found::At(place);
+        }
+        place += 1;
+    }
+    Found::Nothing
+}
+
+// Whether the unit has a control in the table.
+pub fn has_unit(table: Table, unit: u8) -> bool
+    ensures { λ r. ⌜ r ≡ unitIn table unit ⌝ }
+{
+    let count = table.count;
+    let mut place = 0;
+    while place < CONTROLS {
+        if count <= place {
+            return false;
+        }
+        let control = table.controls[place];
+        if control.unit == unit {
+            return true;
+        }
+        place += 1;
+    }
+    false
+}
+
+// Whether no number of the control is too wide for one byte.
+fn narrow(control: Control) -> bool
+    ensures { λ r. ⌜ r ≡ narrowOf control ⌝ }
+{
+    if 255 < control.min {
+        return false;
+    }
+    if 255 < control.max {
+        return false;
+    }
+    if 255 < control.res {
+        return false;
+    }
+    control.cur <= 255
+}
+
+fn sound_yes_no(control: Control) -> bool
+    ensures { λ r. ⌜ r ≡ soundYesNo control ⌝ }
+{
+    if 16 < control.channel {
+        return false;
+    }
+    if !narrow(control) {
+        return false;
+    }
+    control.cur <= 1
+}
+
+fn sound_pin(control: Control) -> bool
+    ensures { λ r. ⌜ r ≡ soundPin control ⌝ }
+{
+    if control.channel != 0 {
+        return false;
+    }
+    if control.pins < 1 {
+        return false;
+    }
+    if PINS < control.pins {
+        return false;
+    }
+    if !narrow(control) {
+        return false;
+    }
+    if control.cur < 1 {
+        return false;
+    }
+    control.cur <= control.pins as u16
+}
+
+fn sound_ranged(sort: Sort, control: Control) -> bool
+    ensures { λ r. ⌜ r ≡ soundRanged sort control ⌝ }
+{
+    if 16 < control.channel {
+        return false;
+    }
+    if !control.loaded {
+        return true;
+    }
+    let range = Range {
+        min: control.min,
+        max: control.max,
+        res: control.res,
+    };
+    if !setting::legal(sort, range) {
+        return false;
+    }
+    if !setting::fits(sort, control.cur) {
+        return false;
+    }
+    setting::available(sort, range, control.cur)
+}
+
+// Whether refusal 30 has nothing against this control by itself.
+fn sound_control(control: Control) -> bool
+    ensures { λ r. ⌜ r ≡ soundControl control ⌝ }
+{
+    match sense_of(control.selector) {
+        Sense::Unknown => false,
+        Sense::YesNo => sound_yes_no(control),
+        Sense::Ranged(sort) => sound_ranged(sort, control),
+        Sense::Pin => sound_pin(control),
+    }
+}
+
+// Whether this is the first place of the control that stands there: no control stands twice where each is at its first.
+fn first_there(table: Table, place: usize, control: Control) -> bool
+    ensures { λ r. ⌜ r ≡ firstThere table place control ⌝ }
+{
+    match find(table, control.unit, control.channel, control.selector) {
+        Found::Nothing => false,
+        Found::At(first) => first == place,
+    }
+}
+
+// Whether refusal 30 has nothing against the table.
+pub fn sound(table: Table) -> bool
+    ensures { λ r. ⌜ r ≡ soundOf table ⌝ }
+{
+    let count = table.count;
+    if CONTROLS < count {
+        return false;
+    }
+    let mut place = 0;
+    while place < count {
+        let control = table.controls[place];
+        if !sound_control(control) {
+            return false;
+        }
+        if !first_there(table, place, control) {
+            return false;
+        }
+        place += 1;
+    }
+    true
+}
