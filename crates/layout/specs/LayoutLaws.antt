@@ -4,6 +4,7 @@
 --   laid-out      ==  a descriptor has a layout or it has none
 --   reads-unknown ==  the reader's "wrong layout" is the rule's: d has none of the layouts (refusal 9)
 --   entity-input .. entity-feature ==  one equation for each layout; entity-unknown where there is none
+--   kind-told     ==  byte 2 is the kind, in every layout but the printed Selector's
 --   id-told       ==  byte 3 is the ID, in every layout
 use Prim.Native.Nat.{ℕ, _+_, _≤_}
 use mathlib.Core.Path.{_≡_, refl, sym, ap, _∙_}
@@ -17,7 +18,7 @@ use Rattle.ground.specs.Pick.{pick, yes, no, Reads, shows, refutes, decided, tr
 use Rattle.ground.specs.Numbers.{byte, word}
 use Rattle.layout.specs.declared.Entity.{Entity}
 use Rattle.layout.specs.declared.Entity.the-variants.{Unknown, Input, Output, Mixer, Selector, Printed, Feature}
-use Rattle.layout.specs.Layout.{mostPins, Pins, LaidOut, within, clusterAt, inputOf, outputOf, mixerOf, selectorOf, featureOf, entityOf, idOf, isUnknown}
+use Rattle.layout.specs.Layout.{mostPins, Pins, LaidOut, within, clusterAt, inputOf, outputOf, mixerOf, selectorOf, featureOf, entityOf, kindOf, idOf, isUnknown}
 use Rattle.layout.specs.Layout as layout
 
 pub reads-within : (low n high : ℕ) → Reads (within low n high) ((low ≤ n) × (n ≤ high))
@@ -229,6 +230,15 @@ reads-unknown d = of (told d)
     of (selector k q l) = known (layout.selector k q l)
     of (printed k q l z) = known (layout.printed k q l z)
     of (feature k q l) = known (layout.feature k q l)
+
+pub kind-told : (d : List ℕ) → LaidOut d → (kindOf (entityOf d) ≡ byte d 2) ⊎ (entityOf d ≡ Printed (byte d 3) (byte d 4))
+unfolding kindOf
+kind-told d (layout.input k l) = inl (ap kindOf (entity-input d k l) ∙ sym k)
+kind-told d (layout.output k l) = inl (ap kindOf (entity-output d k l) ∙ sym k)
+kind-told d (layout.mixer k q l) = inl (ap kindOf (entity-mixer d k q l) ∙ sym k)
+kind-told d (layout.selector k q l) = inl (ap kindOf (entity-selector d k q l) ∙ sym k)
+kind-told d (layout.printed k q l z) = inr (entity-printed d k q l z)
+kind-told d (layout.feature k q l) = inl (ap kindOf (entity-feature d k q l) ∙ sym k)
 
 pub id-told : (d : List ℕ) → LaidOut d → idOf (entityOf d) ≡ byte d 3
 unfolding idOf
