@@ -117,12 +117,18 @@ module _ (d : List ℕ) where
       ∙ other-kind 5 _ _ k (λ h. omega arith) ∙ yes _ _ (shows (reads-eq (byte d 2) 6) k)
 
   -- each kind's own part gives Unknown: so does the whole
-  all-wrong : (byte d 2 ≡ 2 → inputOf d ≡ Unknown) → (byte d 2 ≡ 3 → outputOf d ≡ Unknown) → (byte d 2 ≡ 4 → mixerOf d ≡ Unknown) → (byte d 2 ≡ 5 → selectorOf d ≡ Unknown) → (byte d 2 ≡ 6 → featureOf d ≡ Unknown) → entityOf d ≡ Unknown
+  all-wrong : (byte d 2 ≡ 2 → inputOf d ≡ Unknown) → (byte d 2 ≡ 3 → outputOf d ≡ Unknown)
+      → (byte d 2 ≡ 4 → mixerOf d ≡ Unknown) → (byte d 2 ≡ 5 → selectorOf d ≡ Unknown)
+      → (byte d 2 ≡ 6 → featureOf d ≡ Unknown) → entityOf d ≡ Unknown
   unfolding entityOf
   all-wrong i o m s f = step 2 i (step 3 o (step 4 m (step 5 s (step 6 f refl))))
     where
       step : (j : ℕ) {x y : Entity} → (byte d 2 ≡ j → x ≡ Unknown) → y ≡ Unknown → pick (eqb (byte d 2) j) x y ≡ Unknown
-      step j h u = ⊎-elim (λ k. yes _ _ (shows (reads-eq (byte d 2) j) k) ∙ h k) (λ n. no _ _ (refutes (reads-eq (byte d 2) j) n) ∙ u) (decided _ (reads-eq (byte d 2) j))
+      step j h u =
+          ⊎-elim
+          (λ k. yes _ _ (shows (reads-eq (byte d 2) j) k) ∙ h k)
+          (λ n. no _ _ (refutes (reads-eq (byte d 2) j) n) ∙ u)
+          (decided _ (reads-eq (byte d 2) j))
 
   pub kind-other : (byte d 2 ≡ 2 → ⊥) → (byte d 2 ≡ 3 → ⊥) → (byte d 2 ≡ 4 → ⊥) → (byte d 2 ≡ 5 → ⊥) → (byte d 2 ≡ 6 → ⊥) → entityOf d ≡ Unknown
   kind-other a b c e f = all-wrong (λ k. absurd (a k)) (λ k. absurd (b k)) (λ k. absurd (c k)) (λ k. absurd (e k)) (λ k. absurd (f k))
@@ -175,7 +181,12 @@ module _ (d : List ℕ) where
       pins : Reads (within 1 p mostPins) (Pins p)
       pins = reads-within 1 p mostPins
 
-      none : ((byte d 2 ≡ 2) × (length d ≡ 12) → ⊥) → ((byte d 2 ≡ 3) × (length d ≡ 9) → ⊥) → ((byte d 2 ≡ 4) × (Pins p × (10 + p ≤ length d)) → ⊥) → ((byte d 2 ≡ 5) × (Pins p × (length d ≡ 6 + p)) → ⊥) → ((byte d 2 ≡ 5) × (Pins p × ((length d ≡ 7 + p) × (byte d 5 ≡ 0))) → ⊥) → ((byte d 2 ≡ 6) × (((1 ≤ byte d 5) × (byte d 5 ≤ 4)) × (7 ≤ length d)) → ⊥) → LaidOut d → ⊥
+      none : ((byte d 2 ≡ 2) × (length d ≡ 12) → ⊥) → ((byte d 2 ≡ 3) × (length d ≡ 9) → ⊥)
+          → ((byte d 2 ≡ 4) × (Pins p × (10 + p ≤ length d)) → ⊥)
+          → ((byte d 2 ≡ 5) × (Pins p × (length d ≡ 6 + p)) → ⊥)
+          → ((byte d 2 ≡ 5) × (Pins p × ((length d ≡ 7 + p) × (byte d 5 ≡ 0))) → ⊥)
+          → ((byte d 2 ≡ 6) × (((1 ≤ byte d 5) × (byte d 5 ≤ 4)) × (7 ≤ length d)) → ⊥)
+          → LaidOut d → ⊥
       none i o m s t f (layout.input k l) = i (k, l)
       none i o m s t f (layout.output k l) = o (k, l)
       none i o m s t f (layout.mixer k q l) = m (k, (q, l))

@@ -17,7 +17,7 @@ use Rattle.layout.proofs.read_selector.Tie as tie
 
 module _ (d : List ℕ) (p : ℕ) (e : p ≡ byte d 4) (b : Bool) (t : b ≡ within 1 p mostPins) where
   pins-wrong : not b ≡ true → Unknown ≡ selectorOf d
-  pins-wrong h = sym (selector-wrong d (λ q l. reads-within 1 p mostPins .denies (sym t ∙ not-true b h) (rw e q)) (λ q l z. reads-within 1 p mostPins .denies (sym t ∙ not-true b h) (rw e q)))
+  pins-wrong h = let n : Pins (byte d 4) → ⊥ = λ q. reads-within 1 p mostPins .denies (sym t ∙ not-true b h) (rw e q) in sym (selector-wrong d (λ q l. n q) (λ q l z. n q))
 
   module _ (h : not b ≡ false) where
     pins-right : Pins p

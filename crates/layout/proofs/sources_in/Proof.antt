@@ -52,7 +52,11 @@ over ids places i g h =
     let p = g .passed in
     let e : i ≡ length ids = omega arith in
     let z : 0 + length ids ≡ length ids = omega arith in
-    let s : places ≡ ids ++ drop (length ids) blank = g .same ∙ ap (paste blank 0 ids) e ∙ ap (λ (l : List ℕ). l ++ drop (0 + length ids) blank) (take-length ids) ∙ ap (λ (k : ℕ). ids ++ drop k blank) z in
+    let s : places ≡ ids ++ drop (length ids) blank =
+    g .same
+    ∙ ap (paste blank 0 ids) e
+    ∙ ap (λ (l : List ℕ). l ++ drop (0 + length ids) blank) (take-length ids)
+    ∙ ap (λ (k : ℕ). ids ++ drop k blank) z in
     rw (s, e)
 
 ruleset laws = (start, room, on, over, needs)
