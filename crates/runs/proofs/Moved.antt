@@ -189,7 +189,7 @@ module _ (t : Table) (k : Key) (p : ℕ) (s : Sound t) (f : whereIs t k ≡ foun
 selector-at : (t : Table) (k : Key) (p : ℕ) → whereIs t k ≡ found.At p → at t p .selector ≡ k .selector
 selector-at t k p f = answers-key k (at t p) (place-answers t k p f) .selector
 
-sense-at : (t : Table) (k : Key) (p : ℕ) → whereIs t k ≡ found.At p → senseOf (at t p .selector) ≡ senseOf (k .selector)
+pub sense-at : (t : Table) (k : Key) (p : ℕ) → whereIs t k ≡ found.At p → senseOf (at t p .selector) ≡ senseOf (k .selector)
 sense-at t k p f = ap senseOf (selector-at t k p f)
 
 -- a load of the control tells it a range and a number
