@@ -4,3 +4,4 @@ pub mod Moved
 pub mod Alone
 pub mod Refusals
 pub mod Answers
+pub mod Rows
