@@ -4,7 +4,7 @@ use mathlib.Core.List.{List}
 use native.Mathlib.Omega.{arith}
 use lib.ListN.{length, length-map, getD, List·getD-eq-default}
 use Rattle.table.specs.declared.Control.{Control}
-use Rattle.table.specs.Controls.{blankControl}
+use Rattle.table.specs.Controls.{mostControls, blankControl}
 use borrow.Author.Needs.{needs}
 use Rattle.table.proofs.control_at.Statement.{statement}
 use Rattle.table.proofs.control_at.Tie as tie
@@ -12,7 +12,7 @@ use Rattle.table.proofs.control_at.Reads as reads
 use Rattle.table.proofs.control_at.Lts as lts
 use Rattle.table.proofs.blank.Reads as blank-reads
 
-past-end : (l : List Control) (p : ℕ) (b : Control) → length l ≡ 128 → 128 ≤ p → b ≡ blankControl
+past-end : (l : List Control) (p : ℕ) (b : Control) → length l ≡ mostControls → mostControls ≤ p → b ≡ blankControl
     → b ≡ getD l p blankControl
 past-end l p b h k e = e ∙ sym (List·getD-eq-default l blankControl (omega arith))
 

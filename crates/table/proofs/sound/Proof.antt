@@ -8,7 +8,7 @@ use native.Mathlib.Omega.{arith}
 use borrow.Author.Tests.{le-leb, lt-leb, not-true, not-false}
 use Rattle.table.specs.declared.Table.{Table}
 use Rattle.table.specs.declared.Found.{Found}
-use Rattle.table.specs.Controls.{at}
+use Rattle.table.specs.Controls.{mostControls, at}
 use Rattle.table.specs.First.{firstFrom, isSome}
 use Rattle.table.specs.FirstLaws.{first-here, first-on, first-over}
 use Rattle.table.specs.Sound.{soundControl, firstThere, soundPlace, soundOf}
@@ -24,15 +24,15 @@ module _ (t : Table) where
   bad p = not (soundPlace t p)
 
   record Come (p : ℕ) : Type 0 where
-    few : t .count ≤ 128
+    few : t .count ≤ mostControls
     low : p ≤ t .count
     same : soundOf t ≡ not (isSome (firstFrom bad (t .count - p) p))
 
-  too-many : 128 < t .count → false ≡ soundOf t
+  too-many : mostControls < t .count → false ≡ soundOf t
   unfolding soundOf
   too-many h = simp (lt-leb _ _ h)
 
-  start : t .count ≤ 128 → Come 0
+  start : t .count ≤ mostControls → Come 0
   unfolding soundOf
   start h = record { few = h; low = omega arith; same = rw (sub-zero, le-leb _ _ h) }
 
@@ -64,7 +64,7 @@ module _ (t : Table) where
             }
 
 -- a place of the table is one of the array
-inside : (t : Table) (p : ℕ) → Come t p → p < t .count → p < 128
+inside : (t : Table) (p : ℕ) → Come t p → p < t .count → p < mostControls
 inside t p g h = let k = g .few in omega arith
 
 ruleset laws = (too-many, start, over, unsound, twin, on, inside, needs)
