@@ -6,7 +6,7 @@ use super::build::{
     working, GroupPlan, Part, Plan, Telephone,
 };
 use super::rng::Rng;
-use crate::numbers::{CONFIGURATION_MOST, CONTROLS, ENTITIES, PINS};
+use crate::numbers::{CONFIGURATION_MOST, ENTITIES, PINS};
 use crate::ways::Way;
 
 /// A configuration with a name and the answer it must get.
@@ -1227,7 +1227,7 @@ fn pairs(cases: &mut Cases) {
 #[cfg(test)]
 mod tests {
     use super::*;
-    use crate::numbers::SHEET;
+    use crate::numbers::{CONTROLS, SHEET};
     use crate::reader;
 
     #[test]

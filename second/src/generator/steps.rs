@@ -707,7 +707,7 @@ fn every_field(script: &mut Script) {
                 let from = if [0, 1, 11].contains(&place) { 3 } else { 4 };
                 script.says(PUT, &put_body(9, from as u16, &few[..from]), "put");
                 let name = control.name();
-                let body = request_body(2, &setup(CUR, 9, name, 1 + u16::from(name.2 == 2)), &[]);
+                let body = request_body(2, &setup(CUR, 9, name, 1 + u16::from(name.2 == 2 || name.2 == 8)), &[]);
                 script.step(REQUEST, &body);
             }
         }
