@@ -177,10 +177,7 @@ fn group(descriptors: Vec<Descriptor<'_>>) -> Vec<Group<'_>> {
 }
 
 /// Refusal 4, at the "first such descriptor; L if only the AudioControl one is missing".
-fn check_interfaces<'g, 'a>(
-    groups: &'g [Group<'a>],
-    end: usize,
-) -> Result<&'g Group<'a>, Refusal> {
+fn check_interfaces<'g, 'a>(groups: &'g [Group<'a>], end: usize) -> Result<&'g Group<'a>, Refusal> {
     let mut control: Option<&Group> = None;
     for (index, group) in groups.iter().enumerate() {
         let refuse = |way| Err(Refusal::at(way, group.interface.place));

@@ -100,10 +100,9 @@ fn plug_in(state: &mut State, config: &[u8]) -> Printed {
             lines: format!("refused {} at {}\n", refusal.way.number(), refusal.place),
             way: Some(refusal.way),
         },
-        None => plain(format!(
-            "accepted {} {} {}\n",
-            state.number, answer.entities, state.table.count
-        )),
+        None => {
+            plain(format!("accepted {} {} {}\n", state.number, answer.entities, state.table.count))
+        }
     }
 }
 

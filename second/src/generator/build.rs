@@ -379,10 +379,7 @@ mod tests {
     fn the_telephone_with_either_selector() {
         let line = |config: &[u8]| sheet::program(config).lines().nth(6).map(str::to_string);
         let printed = telephone(Telephone::Printed, 2, 0x64);
-        assert_eq!(
-            line(&printed).unwrap(),
-            "07 15 01 00 00 00 02 00 02 03 00 00 00 00 00 00"
-        );
+        assert_eq!(line(&printed).unwrap(), "07 15 01 00 00 00 02 00 02 03 00 00 00 00 00 00");
         let tables = telephone(Telephone::Tables, 2, 0x61);
         assert_eq!(line(&tables).unwrap(), "07 05 01 00 00 00 02 00 02 03 00 00 00 00 00 00");
     }

@@ -1,6 +1,8 @@
 //! Configurations and steps at random: good ones by construction, and damage of many kinds.
 
-use super::build::{class, filler, idle, interface, pcm, pcm_range, working, GroupPlan, Part, Plan};
+use super::build::{
+    class, filler, idle, interface, pcm, pcm_range, working, GroupPlan, Part, Plan,
+};
 use super::configs::mixer;
 use super::rng::Rng;
 use super::script::{load_body, put_body, request_body, setup, Script};

@@ -470,7 +470,8 @@ fn closest_sweeps(script: &mut Script) {
     {
         load(script, (2, 0, 2), [signed(min), signed(max), res, 0], "loaded");
         let res = i32::from(res);
-        let edges = [min, max, min + res, min + res / 2, max - res / 2, max - res, -32767, 32767, 0];
+        let edges =
+            [min, max, min + res, min + res / 2, max - res / 2, max - res, -32767, 32767, 0];
         for wanted in edges.iter().flat_map(|edge| edge - 3..=edge + 3) {
             if (-32767..=32767).contains(&wanted) {
                 let near = by_trial(min, max, res, wanted);
@@ -707,7 +708,11 @@ fn every_field(script: &mut Script) {
                 let from = if [0, 1, 11].contains(&place) { 3 } else { 4 };
                 script.says(PUT, &put_body(9, from as u16, &few[..from]), "put");
                 let name = control.name();
-                let body = request_body(2, &setup(CUR, 9, name, 1 + u16::from(name.2 == 2 || name.2 == 8)), &[]);
+                let body = request_body(
+                    2,
+                    &setup(CUR, 9, name, 1 + u16::from(name.2 == 2 || name.2 == 8)),
+                    &[],
+                );
                 script.step(REQUEST, &body);
             }
         }
