@@ -168,15 +168,16 @@ fn show(table: &Table) -> String {
 /// "AudioControl number; count, two bytes; then at most 128 controls of 13 bytes ... The places
 /// not given are all zeros. The state becomes exactly this, unchecked".
 fn put(body: &[u8]) -> Result<State, BadStep> {
-    if body.len() < 3 || (body.len() - 3) % PUT_CONTROL != 0 {
+    if body.len() < 3 {
         return Err(BadStep);
     }
-    if (body.len() - 3) / PUT_CONTROL > CONTROLS {
+    let controls = body[3..].chunks_exact(PUT_CONTROL);
+    if !controls.remainder().is_empty() || controls.len() > CONTROLS {
         return Err(BadStep);
     }
     let mut table = Table::empty();
     table.count = two_bytes(body, 1) as u16;
-    for (place, bytes) in table.places.iter_mut().zip(body[3..].chunks_exact(PUT_CONTROL)) {
+    for (place, bytes) in table.places.iter_mut().zip(controls) {
         *place = put_control(bytes);
     }
     Ok(State { number: body[0], table })

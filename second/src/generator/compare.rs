@@ -5,10 +5,11 @@ use std::process::{Command, Stdio};
 
 use super::random;
 use super::rng::Rng;
-use super::script::{put_body, step_bytes, Script};
+use super::script::{put_body, step_bytes, Reach, Script};
 use crate::relay::{self, PLUG_IN};
 use crate::requests::State;
 use crate::sheet;
+use crate::ways::Way;
 
 /// Configurations, and as many steps, of one run of `relay`.
 const BATCH: usize = 1000;
@@ -39,6 +40,7 @@ pub fn script(seed: u64, count: usize) -> Script {
 /// difference.
 pub fn run(job: &Job) -> Result<String, String> {
     let (mut done, mut sheets) = (0, 0);
+    let mut reach = Reach::default();
     for batch in 0.. {
         if done == job.count {
             break;
@@ -48,10 +50,15 @@ pub fn run(job: &Job) -> Result<String, String> {
         let script = script(seed, now);
         compare_relay(job, &script)?;
         sheets += compare_sheets(job, &script)?;
+        reach.add(&script.reach);
         done += now;
         eprintln!("{done} of {} configurations and steps", job.count);
     }
-    Ok(format!("no difference: {done} configurations, {done} other steps, {sheets} sheets"))
+    let (ways, all) = (reach.ways.len(), Way::ALL.len());
+    Ok(format!(
+        "no difference: {done} configurations, {done} other steps, {sheets} sheets; {ways} of the \
+         {all} clauses of refusals met"
+    ))
 }
 
 /// Runs a program over these bytes and answers what it printed.
@@ -91,16 +98,17 @@ fn tell_step(script: &Script, index: usize, got: &[u8]) -> String {
     }
     let (_, from) = script.starts[index];
     let to = script.starts.get(index + 1).map_or(script.printed.len(), |next| next.1);
-    let places = &state.table.places[..usize::from(state.table.count).min(128)];
+    let places = state.table.controls().unwrap_or(&state.table.places);
     let before = step_bytes(relay::PUT, &put_body(state.number, state.table.count, places));
-    let end = got.len().min(to + 40).max(from.min(got.len()));
+    let wanted = &script.printed[from..to];
+    let rest = String::from_utf8_lossy(&got[from.min(got.len())..]).into_owned();
+    let answer: Vec<&str> = rest.lines().take(wanted.lines().count()).collect();
     format!(
-        "difference in `relay`\nstate before, as a step: {}\nstep: {}\nsecond prints: {}other \
-         prints: {}",
+        "difference in `relay`\nstate before, as a step: {}\nstep: {}\nsecond prints:\n{wanted}\
+         other prints:\n{}",
         hex(&before),
         hex(step_at(script, index)),
-        &script.printed[from..to],
-        String::from_utf8_lossy(&got[from.min(got.len())..end])
+        answer.join("\n")
     )
 }
 

@@ -72,7 +72,7 @@ fn get(script: &mut Script, pair: (u8, u8), name: Name, size: usize, value: u16)
 /// A box with AudioControl number 4: unit 2 has every control on the master and on two channels,
 /// unit 3 is a Selector of eight pins, unit 4 a printed one of one, unit 6 has no control.
 fn bench() -> Vec<u8> {
-    let masks = vec![0xFF, 0x03].repeat(3);
+    let masks = [0xFF, 0x03].repeat(3);
     let mut plan = Plan::new(
         vec![
             Part::Input { id: 1, terminal: 0x0201, cluster: (2, 3, 0) },

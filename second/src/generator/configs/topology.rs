@@ -230,8 +230,11 @@ fn input_clusters(cases: &mut Cases) {
     }
 }
 
+/// c, the bitmap, the name index, and the clauses that they break.
+type Declared = (u8, u16, u8, Option<(Way, Way)>);
+
 /// Clusters on both sides of each bound, with the clause for an Input Terminal and for a Mixer.
-fn cluster_grid() -> Vec<(u8, u16, u8, Option<(Way, Way)>)> {
+fn cluster_grid() -> Vec<Declared> {
     let zero = Some((Way::InputChannelsZero, Way::MixerChannelsZero));
     let high = Some((Way::InputChannelsHigh, Way::MixerChannelsHigh));
     let reserved = Some((Way::InputReserved, Way::MixerReserved));
