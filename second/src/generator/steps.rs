@@ -579,6 +579,9 @@ fn good_tables(script: &mut Script) {
     spare.push(spare[0]);
     script.says(PUT, &put_body(9, 13, &spare), "put");
     probe(script, None);
+    script.says(PUT, &put_body(9, 0, &[]), "put");
+    script.says(SHOW, &[], "table 0");
+    script.fails(LOAD, &load_body((2, 0, 2), [0, 0, 1, 0]), Way::LoadUnknown);
     script.says(PUT, &put_body(9, 0, &spare), "put");
     script.says(SHOW, &[], "table 0");
     script.fails(LOAD, &load_body((2, 0, 2), [0, 0, 1, 0]), Way::LoadUnknown);
@@ -621,6 +624,11 @@ fn spoilt_tables(script: &mut Script) {
     }
     spoilt_ranges(script, &spoilt);
     spoilt_settings(script, &spoilt);
+    for count in [1, 2] {
+        script.says(PUT, &put_body(9, count, &[]), "put");
+        script.step(SHOW, &[]);
+        probe(script, Some(Way::TablePins));
+    }
     let zeros = put_body(9, 15, &sample());
     script.says(PUT, &zeros, "put");
     script.step(SHOW, &[]);
