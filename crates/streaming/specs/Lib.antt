@@ -1,0 +1,5 @@
+pub mod Terminals
+pub mod Rule
+pub mod Tests
+pub mod Laws
+pub mod Breaches
