@@ -2,4 +2,6 @@ pub mod Terminals
 pub mod Rule
 pub mod Tests
 pub mod Laws
+pub mod Sentences
+pub mod Members
 pub mod Breaches
