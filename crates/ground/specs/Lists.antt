@@ -6,7 +6,7 @@
 use Prim.Native.Nat.{ℕ, zero, suc, _+_, _-_, _≤_, _<_}
 use mathlib.Core.Path.{_≡_, refl, sym, ap, _∙_}
 use mathlib.Core.Bool.{Bool, true, false, _||_}
-use mathlib.Core.List.{List, [], _∷_, _++_, flatten, append-assoc, List·Memᴰ, List·Memᴰ·head, List·Memᴰ·tail, List·Memᴰ·not-nil, List·Memᴰ·cases-cons, Memᴰ·append-right}
+use mathlib.Core.List.{List, [], _∷_, _++_, flatten, append-assoc, List·Memᴰ, List·Memᴰ·head, List·Memᴰ·tail, List·Memᴰ·not-nil, List·Memᴰ·cases-cons, Memᴰ·append-right, nil≢cons, head-eq-of-cons-eq, tail-eq-of-cons-eq}
 use mathlib.Core.Logic.{_⊎_, inl, inr}
 use lib.ListN.{length, getD, set, replicate, take, drop, take-append-drop, length-append, length-take, length-drop}
 use lib.Seq.{take-add, drop-drop}
@@ -118,3 +118,25 @@ pad-at b (suc n) [] zero h = refl
 pad-at b (suc n) [] (suc i) h = pad-at b n [] i (le-of-suc-le-suc h)
 pad-at b (suc n) (x ∷ l) zero h = refl
 pad-at b (suc n) (x ∷ l) (suc i) h = pad-at b n l i (le-of-suc-le-suc h)
+
+-- a list that begins with no P: it is empty, or its first element is not P
+pub data Stops {A : Type 0} (P : A → Type 0) : List A → Type 0 where
+  stop-end : Stops P []
+  stop-at : {a : A} {l : List A} → (P a → ⊥) → Stops P (a ∷ l)
+
+-- a list has one longest front of P
+pub front-one : {A : Type 0} (P : A → Type 0) (x y x′ y′ : List A) → x ++ y ≡ x′ ++ y′ → ((a : A) → List·Memᴰ a x → P a) → ((a : A) → List·Memᴰ a x′ → P a) → Stops P y → Stops P y′ → (x ≡ x′) × (y ≡ y′)
+front-one P [] y [] y′ e h h′ k k′ = (refl, e)
+front-one P [] y (a ∷ x′) y′ e h h′ k k′ = absurd (go k e)
+  where
+    go : {l : List _} → Stops P l → l ≡ a ∷ (x′ ++ y′) → ⊥
+    go stop-end q = nil≢cons q
+    go (stop-at n) q = n (rw (head-eq-of-cons-eq q) (h′ a (List·Memᴰ·head refl)))
+front-one P (a ∷ x) y [] y′ e h h′ k k′ = absurd (go k′ e)
+  where
+    go : {l : List _} → Stops P l → a ∷ (x ++ y) ≡ l → ⊥
+    go stop-end q = nil≢cons (sym q)
+    go (stop-at n) q = n (rw (sym (head-eq-of-cons-eq q)) (h a (List·Memᴰ·head refl)))
+front-one P (a ∷ x) y (a′ ∷ x′) y′ e h h′ k k′ =
+    let r = front-one P x y x′ y′ (tail-eq-of-cons-eq e) (λ b m. h b (List·Memᴰ·tail m)) (λ b m. h′ b (List·Memᴰ·tail m)) k k′ in
+    (rw (head-eq-of-cons-eq e, r .0) refl, r .1)

@@ -48,6 +48,10 @@ pub decided : {P : Type 0} (b : Bool) → Reads b P → P ⊎ (P → ⊥)
 decided true r = inl (r .says refl)
 decided false r = inr (r .denies refl)
 
+-- a test reads each statement that is equivalent to one it reads
+pub reads-same : {b : Bool} {P Q : Type 0} → Reads b P → (P → Q) → (Q → P) → Reads b Q
+reads-same r f g = record { says = λ e. f (r .says e); denies = λ e q. r .denies e (g q) }
+
 -- a test decides that it holds
 pub reads-true : (b : Bool) → Reads b (b ≡ true)
 reads-true true = record { says = λ e. refl; denies = λ e. absurd (true≠false e) }

@@ -3,8 +3,14 @@
 --   none           ==  nothing is refused
 --   refuse n b r   ==  number n at the place where b says that rule n is broken; where it is broken nowhere, what r says
 --   placeOr b e    ==  the place that b names, e where it names none
+--   keptAt k p     ==  nowhere where a rule is kept, else its one place p
+--   Chain c        ==  c puts refusals, one after another, before what comes behind them
 use Prim.Native.Nat.{ℕ}
-use mathlib.Core.Path.{_≡_, ap}
+use mathlib.Core.Path.{_≡_, refl, sym, ap, _∙_}
+use mathlib.Core.Bool.{Bool, true, false}
+use mathlib.Core.Logic.{_↔_}
+use native.Mathlib.Omega.{arith}
+use Rattle.ground.specs.Pick.{pick, yes, no, Reads, shows, refutes}
 use Rattle.ground.specs.declared.Place.{Place}
 use Rattle.ground.specs.declared.Place.the-variants.{Nowhere, At}
 use Rattle.ground.specs.declared.Refusal.{Refusal}
@@ -27,3 +33,34 @@ refuse-at n p r e = ap (λ (b : Place). refuse n b r) e
 pub refuse-on : {b : Place} (n : ℕ) (r : Refusal) → b ≡ Nowhere → refuse n b r ≡ r
 unfolding refuse
 refuse-on n r e = ap (λ (b : Place). refuse n b r) e
+
+-- A rule with one place: kept, or broken there.
+abbrev pub keptAt : Bool → ℕ → Place
+keptAt kept p = pick kept Nowhere (At p)
+
+pub kept-nowhere : {b : Bool} {P : Type 0} (p : ℕ) → Reads b P → (keptAt b p ≡ Nowhere) ↔ P
+kept-nowhere {b} {P} p r = (λ e. of b r e, λ h. yes _ _ (shows r h))
+  where
+    of : (c : Bool) → Reads c P → keptAt c p ≡ Nowhere → P
+    of true r e = r .says refl
+    of false r e = let z : _≡_ {A = ℕ} 0 1 = cc in absurd (omega arith)
+
+pub kept-at : {b : Bool} {P : Type 0} (p q : ℕ) → Reads b P → (keptAt b p ≡ At q) ↔ ((q ≡ p) × (P → ⊥))
+kept-at {b} {P} p q r = (λ e. of b r e, λ h. no _ _ (refutes r (h .1)) ∙ ap At (sym (h .0)))
+  where
+    of : (c : Bool) → Reads c P → keptAt c p ≡ At q → (q ≡ p) × (P → ⊥)
+    of true r e = let z : _≡_ {A = ℕ} 0 1 = cc in absurd (omega arith)
+    of false r e = (let z : p ≡ q = cc in sym z, r .denies refl)
+
+-- Refusals in a row, with r behind them: where none of them is given, r; else what they say, whatever r is.
+pub record Chain (c : Refusal → Refusal) : Type 0 where
+  pub on : c none .number ≡ 0 → (r : Refusal) → c r ≡ r
+  pub stays : (c none .number ≡ 0 → ⊥) → (r : Refusal) → c r ≡ c none
+
+pub chain-end : Chain (λ r. r)
+chain-end = record { on = λ e r. refl; stays = λ n r. absurd (n refl) }
+
+pub chain-more : (n : ℕ) → (n ≡ 0 → ⊥) → (b : Place) (c : Refusal → Refusal) → Chain c → Chain (λ r. refuse n b (c r))
+unfolding refuse
+chain-more n h Nowhere c k = record { on = k .on; stays = k .stays }
+chain-more n h (At p) c k = record { on = λ e r. absurd (h e); stays = λ e r. refl }

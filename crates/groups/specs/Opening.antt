@@ -5,10 +5,11 @@ use mathlib.Core.List.{List, [], _∷_}
 use lib.ListN.{length, take, drop, getD}
 use lib.Seq.{drop-cons, getD-take, getD-drop}
 use native.Mathlib.Omega.{arith}
-use Rattle.ground.specs.Pick.{Reads, reads-eq, reads-and}
+use Rattle.ground.specs.Pick.{Reads, reads-same, reads-eq, reads-and}
 use Rattle.ground.specs.Numbers.{byte}
 use Rattle.scan.specs.CuttingLaws.{byte-inside}
-use Rattle.groups.specs.Reading.{opens}
+use Rattle.groups.specs.Rules.{Header}
+use Rattle.groups.specs.Reading.{opens, isHeader}
 
 abbrev pub Opening : List ℕ → Type 0
 Opening h = take 4 (drop 1 h) ≡ 0x24 ∷ 1 ∷ 0 ∷ 1 ∷ []
@@ -33,4 +34,11 @@ opening-of h b =
     ∙ rw (b .0, b .1 .0, b .1 .1 .0, b .1 .1 .1) refl
 
 pub reads-opens : (h : List ℕ) → Reads (opens h) (Opening h)
-reads-opens h = record { says = λ e. opening-of h (reads-bytes h .says e); denies = λ e o. reads-bytes h .denies e (bytes-of h o) }
+reads-opens h = reads-same (reads-bytes h) (opening-of h) (bytes-of h)
+
+pub reads-header : (h : List ℕ) → Reads (isHeader h) (Header h)
+unfolding isHeader
+reads-header h =
+    reads-same (reads-and _ _ (reads-opens h) (reads-eq (length h) (8 + byte h 7)))
+    (λ p. record { opening = p .0; long = p .1 })
+    (λ k. (k .opening, k .long))

@@ -12,22 +12,18 @@ use lib.ListN.{length, drop}
 use lib.Dec.{eqb}
 use Rattle.ground.specs.declared.Place.{Place}
 use Rattle.ground.specs.declared.Place.the-variants.{Nowhere, At}
-use Rattle.ground.specs.Pick.{pick, within}
+use Rattle.ground.specs.Pick.{within}
 use Rattle.ground.specs.Numbers.{byte, word}
 use Rattle.ground.specs.Lists.{part, any}
 use Rattle.ground.specs.declared.Refusal.{Refusal}
 use Rattle.ground.specs.First.{isBefore}
-use Rattle.ground.specs.Refuse.{refuse, placeOr}
+use Rattle.ground.specs.Refuse.{keptAt, refuse, placeOr}
 use Rattle.scan.specs.Cutting.{endAt, rest, breach3}
 use Rattle.scan.specs.Search.{searched}
 use Rattle.scan.specs.Want.{isInterface, isAudio, isSetting, isMember, foundFrom}
 use Rattle.scan.specs.declared.Want.the-variants as want
 use Rattle.groups.specs.Rules.{mostBytes}
 use Rattle.groups.specs.declared.Frame.{Frame}
-
--- a rule with one place: kept, or broken there
-abbrev pub keptAt : Bool → ℕ → Place
-keptAt kept p = pick kept Nowhere (At p)
 
 unfoldable pub breach1 : List ℕ → Place
 breach1 s = keptAt (within 9 (length s) mostBytes) 0

@@ -4,8 +4,8 @@
 use Prim.Native.Nat.{ℕ}
 use mathlib.Core.Path.{_≡_, refl}
 use mathlib.Core.List.{List, [], _∷_}
-use Rattle.layout.specs.declared.Entity.the-variants.{Input, Output, Selector, Printed, Feature}
-use Rattle.layout.specs.Layout.{entityOf, inputOf, outputOf, mixerOf, selectorOf, featureOf, clusterAt}
+use Rattle.layout.specs.declared.Entity.the-variants.{Input, Output, Printed, Feature}
+use Rattle.layout.specs.Layout.{entityOf, inputOf, outputOf, selectorOf, featureOf}
 use Rattle.layout.specs.Sources.{sourceList, sourcesOf, sourcesIn, padded}
 
 abbrev telephone : ℕ → ℕ → ℕ → List ℕ

@@ -1,6 +1,7 @@
 -- The layouts of the five kinds (document 01, "Entities"). Byte 2 is the kind, byte 3 the ID; pins p are 1 to 8.
 --   LaidOut d     ==  d has one of the six layouts (the printed Selector is a Selector's second)
 --   entityOf d    ==  what the reader makes of d: its kind's own numbers, or Unknown
+--   kindOf e      ==  the number of its kind: byte 2, but 15 hex for the printed Selector (document 01, "The sheet"); 0 for Unknown
 --   idOf e        ==  the ID that an entity bears
 --   clusterAt d k ==  the cluster declared at offsets k..k+3: channels, locations (2), name index
 --   isUnknown e   ==  the layout was wrong
@@ -9,7 +10,7 @@
 -- length 7+p, byte 5 is 0, sources from 6. 06 Feature Unit: source at 4, control size n at 5 (1 to 4); length at least 7.
 use Prim.Native.Nat.{ℕ, _+_, _≤_}
 use mathlib.Core.Path.{_≡_}
-use mathlib.Core.Bool.{Bool, true, false, _&&_}
+use mathlib.Core.Bool.{Bool, true, false}
 use mathlib.Core.List.{List}
 use lib.ListN.{length}
 use lib.Dec.{leb, eqb}
@@ -70,6 +71,19 @@ entityOf d =
     (pick (eqb (byte d 2) 4) (mixerOf d)
     (pick (eqb (byte d 2) 5) (selectorOf d)
     (pick (eqb (byte d 2) 6) (featureOf d) Unknown))))
+
+-- 15 hex
+abbrev pub printedKind : ℕ
+printedKind = 21
+
+unfoldable pub kindOf : Entity → ℕ
+kindOf Unknown = 0
+kindOf (Input i t c) = 2
+kindOf (Output i t s) = 3
+kindOf (Mixer i p c l) = 4
+kindOf (Selector i p) = 5
+kindOf (Printed i p) = printedKind
+kindOf (Feature i s n l) = 6
 
 unfoldable pub idOf : Entity → ℕ
 idOf Unknown = 0

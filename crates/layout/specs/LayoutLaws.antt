@@ -4,24 +4,22 @@
 --   laid-out      ==  a descriptor has a layout or it has none
 --   reads-unknown ==  the reader's "wrong layout" is the rule's: d has none of the layouts (refusal 9)
 --   entity-input .. entity-feature ==  one equation for each layout; entity-unknown where there is none
+--   kind-told     ==  byte 2 is the kind, in every layout but the printed Selector's
 --   id-told       ==  byte 3 is the ID, in every layout
 use Prim.Native.Nat.{ℕ, _+_, _≤_}
 use mathlib.Core.Path.{_≡_, refl, sym, ap, _∙_}
-use mathlib.Core.Bool.{Bool, true, false}
+use mathlib.Core.Bool.{Bool, false}
 use mathlib.Core.Logic.{_⊎_, inl, inr, ⊎-elim}
 use mathlib.Core.List.{List}
 use lib.ListN.{length}
-use lib.Dec.{leb, eqb}
+use lib.Dec.{eqb}
 use native.Mathlib.Omega.{arith}
-use Rattle.ground.specs.Pick.{pick, yes, no, Reads, shows, refutes, decided, true≠false, reads-eq, reads-le, reads-and, reads-or, within}
+use Rattle.ground.specs.Pick.{pick, yes, no, Reads, shows, refutes, decided, true≠false, reads-eq, reads-le, reads-and, within, reads-within}
 use Rattle.ground.specs.Numbers.{byte, word}
 use Rattle.layout.specs.declared.Entity.{Entity}
 use Rattle.layout.specs.declared.Entity.the-variants.{Unknown, Input, Output, Mixer, Selector, Printed, Feature}
-use Rattle.layout.specs.Layout.{mostPins, Pins, LaidOut, clusterAt, inputOf, outputOf, mixerOf, selectorOf, featureOf, entityOf, idOf, isUnknown}
+use Rattle.layout.specs.Layout.{mostPins, Pins, LaidOut, clusterAt, inputOf, outputOf, mixerOf, selectorOf, featureOf, entityOf, kindOf, idOf, isUnknown}
 use Rattle.layout.specs.Layout as layout
-
-pub reads-within : (low n high : ℕ) → Reads (within low n high) ((low ≤ n) × (n ≤ high))
-reads-within low n high = reads-and _ _ (reads-le low n) (reads-le n high)
 
 -- one statement, or two in a row, must hold; where they do not, the layout is wrong
 wrong-one : {P : Type 0} {b : Bool} (x : Entity) → Reads b P → (P → ⊥) → pick b x Unknown ≡ Unknown
@@ -116,12 +114,18 @@ module _ (d : List ℕ) where
       ∙ other-kind 5 _ _ k (λ h. omega arith) ∙ yes _ _ (shows (reads-eq (byte d 2) 6) k)
 
   -- each kind's own part gives Unknown: so does the whole
-  all-wrong : (byte d 2 ≡ 2 → inputOf d ≡ Unknown) → (byte d 2 ≡ 3 → outputOf d ≡ Unknown) → (byte d 2 ≡ 4 → mixerOf d ≡ Unknown) → (byte d 2 ≡ 5 → selectorOf d ≡ Unknown) → (byte d 2 ≡ 6 → featureOf d ≡ Unknown) → entityOf d ≡ Unknown
+  all-wrong : (byte d 2 ≡ 2 → inputOf d ≡ Unknown) → (byte d 2 ≡ 3 → outputOf d ≡ Unknown)
+      → (byte d 2 ≡ 4 → mixerOf d ≡ Unknown) → (byte d 2 ≡ 5 → selectorOf d ≡ Unknown)
+      → (byte d 2 ≡ 6 → featureOf d ≡ Unknown) → entityOf d ≡ Unknown
   unfolding entityOf
   all-wrong i o m s f = step 2 i (step 3 o (step 4 m (step 5 s (step 6 f refl))))
     where
       step : (j : ℕ) {x y : Entity} → (byte d 2 ≡ j → x ≡ Unknown) → y ≡ Unknown → pick (eqb (byte d 2) j) x y ≡ Unknown
-      step j h u = ⊎-elim (λ k. yes _ _ (shows (reads-eq (byte d 2) j) k) ∙ h k) (λ n. no _ _ (refutes (reads-eq (byte d 2) j) n) ∙ u) (decided _ (reads-eq (byte d 2) j))
+      step j h u =
+          ⊎-elim
+          (λ k. yes _ _ (shows (reads-eq (byte d 2) j) k) ∙ h k)
+          (λ n. no _ _ (refutes (reads-eq (byte d 2) j) n) ∙ u)
+          (decided _ (reads-eq (byte d 2) j))
 
   pub kind-other : (byte d 2 ≡ 2 → ⊥) → (byte d 2 ≡ 3 → ⊥) → (byte d 2 ≡ 4 → ⊥) → (byte d 2 ≡ 5 → ⊥) → (byte d 2 ≡ 6 → ⊥) → entityOf d ≡ Unknown
   kind-other a b c e f = all-wrong (λ k. absurd (a k)) (λ k. absurd (b k)) (λ k. absurd (c k)) (λ k. absurd (e k)) (λ k. absurd (f k))
@@ -174,7 +178,12 @@ module _ (d : List ℕ) where
       pins : Reads (within 1 p mostPins) (Pins p)
       pins = reads-within 1 p mostPins
 
-      none : ((byte d 2 ≡ 2) × (length d ≡ 12) → ⊥) → ((byte d 2 ≡ 3) × (length d ≡ 9) → ⊥) → ((byte d 2 ≡ 4) × (Pins p × (10 + p ≤ length d)) → ⊥) → ((byte d 2 ≡ 5) × (Pins p × (length d ≡ 6 + p)) → ⊥) → ((byte d 2 ≡ 5) × (Pins p × ((length d ≡ 7 + p) × (byte d 5 ≡ 0))) → ⊥) → ((byte d 2 ≡ 6) × (((1 ≤ byte d 5) × (byte d 5 ≤ 4)) × (7 ≤ length d)) → ⊥) → LaidOut d → ⊥
+      none : ((byte d 2 ≡ 2) × (length d ≡ 12) → ⊥) → ((byte d 2 ≡ 3) × (length d ≡ 9) → ⊥)
+          → ((byte d 2 ≡ 4) × (Pins p × (10 + p ≤ length d)) → ⊥)
+          → ((byte d 2 ≡ 5) × (Pins p × (length d ≡ 6 + p)) → ⊥)
+          → ((byte d 2 ≡ 5) × (Pins p × ((length d ≡ 7 + p) × (byte d 5 ≡ 0))) → ⊥)
+          → ((byte d 2 ≡ 6) × (((1 ≤ byte d 5) × (byte d 5 ≤ 4)) × (7 ≤ length d)) → ⊥)
+          → LaidOut d → ⊥
       none i o m s t f (layout.input k l) = i (k, l)
       none i o m s t f (layout.output k l) = o (k, l)
       none i o m s t f (layout.mixer k q l) = m (k, (q, l))
@@ -229,6 +238,15 @@ reads-unknown d = of (told d)
     of (selector k q l) = known (layout.selector k q l)
     of (printed k q l z) = known (layout.printed k q l z)
     of (feature k q l) = known (layout.feature k q l)
+
+pub kind-told : (d : List ℕ) → LaidOut d → (kindOf (entityOf d) ≡ byte d 2) ⊎ (entityOf d ≡ Printed (byte d 3) (byte d 4))
+unfolding kindOf
+kind-told d (layout.input k l) = inl (ap kindOf (entity-input d k l) ∙ sym k)
+kind-told d (layout.output k l) = inl (ap kindOf (entity-output d k l) ∙ sym k)
+kind-told d (layout.mixer k q l) = inl (ap kindOf (entity-mixer d k q l) ∙ sym k)
+kind-told d (layout.selector k q l) = inl (ap kindOf (entity-selector d k q l) ∙ sym k)
+kind-told d (layout.printed k q l z) = inr (entity-printed d k q l z)
+kind-told d (layout.feature k q l) = inl (ap kindOf (entity-feature d k q l) ∙ sym k)
 
 pub id-told : (d : List ℕ) → LaidOut d → idOf (entityOf d) ≡ byte d 3
 unfolding idOf

@@ -4,10 +4,9 @@
 --   pinsOf e       ==  how many there are: the pins
 --   padded l       ==  eight places: the IDs l, then 00
 --   sourcesOf d    ==  what the reader hands on: how many there are, and the eight places
-use Prim.Native.Nat.{ℕ, _+_, _≤_}
+use Prim.Native.Nat.{ℕ}
 use mathlib.Core.List.{List, [], _∷_, _++_}
 use lib.ListN.{length, take, drop, replicate}
-use Rattle.ground.specs.Numbers.{byte}
 use Rattle.layout.specs.declared.Entity.{Entity}
 use Rattle.layout.specs.declared.Entity.the-variants.{Unknown, Input, Output, Mixer, Selector, Printed, Feature}
 use Rattle.layout.specs.declared.Sources.{Sources}

@@ -7,9 +7,9 @@
 --   padded-length, padded-at ==  the eight places hold the sources, 00 behind them
 use Prim.Native.Nat.{ℕ, suc, _+_, _-_, _≤_, _<_}
 use mathlib.Core.Path.{_≡_, refl, sym, ap, _∙_}
-use mathlib.Core.Logic.{_⊎_, ⊎-elim}
+use mathlib.Core.Logic.{⊎-elim}
 use mathlib.Core.List.{List, [], _∷_, _++_, List·Memᴰ, List·Memᴰ·not-nil, List·Memᴰ·cases-cons}
-use lib.ListN.{length, take, drop, getD, replicate, length-take, length-drop, length-append, length-replicate, getD-replicate, List·getD-eq-default, List·getD-append}
+use lib.ListN.{length, take, drop, replicate, length-take, length-drop, length-append, length-replicate, getD-replicate, List·getD-eq-default, List·getD-append}
 use lib.Seq.{getD-take, getD-drop, getD-append-add}
 use native.Mathlib.Omega.{arith}
 use Rattle.ground.specs.Pick.{decided, reads-lt}

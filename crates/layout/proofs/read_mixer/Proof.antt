@@ -8,11 +8,11 @@ use lib.ListN.{length}
 use borrow.Author.Tests.{not-true, not-false}
 use native.Mathlib.Omega.{arith}
 use Rattle.ground.specs.Numbers.{byte}
-use Rattle.ground.specs.Pick.{Reads, within}
+use Rattle.ground.specs.Pick.{within, reads-within}
 use Rattle.layout.specs.declared.Cluster.{Cluster}
 use Rattle.layout.specs.declared.Entity.the-variants.{Unknown, Mixer}
 use Rattle.layout.specs.Layout.{Pins, mixerOf, clusterAt, mostPins}
-use Rattle.layout.specs.LayoutLaws.{mixer-right, mixer-wrong, reads-within}
+use Rattle.layout.specs.LayoutLaws.{mixer-right, mixer-wrong}
 use Rattle.layout.proofs.read_mixer.Statement.{statement}
 use Rattle.layout.proofs.read_mixer.Tie as tie
 

@@ -1,6 +1,6 @@
 -- Five ways out: wrong pins, length 6+p, neither 6+p nor 7+p, a byte 5 that is not 0, and the printed Selector.
 use borrow.Author.Needs.{needs}
-use Prim.Native.Nat.{ℕ, _+_, _≤_, _<_}
+use Prim.Native.Nat.{ℕ, _+_}
 use mathlib.Core.Path.{_≡_, sym, _∙_}
 use mathlib.Core.Bool.{Bool, true, false, not}
 use mathlib.Core.List.{List}
@@ -8,16 +8,16 @@ use lib.ListN.{length}
 use borrow.Author.Tests.{not-true, not-false}
 use native.Mathlib.Omega.{arith}
 use Rattle.ground.specs.Numbers.{byte}
-use Rattle.ground.specs.Pick.{Reads, within}
+use Rattle.ground.specs.Pick.{within, reads-within}
 use Rattle.layout.specs.declared.Entity.the-variants.{Unknown, Selector, Printed}
 use Rattle.layout.specs.Layout.{Pins, selectorOf, mostPins}
-use Rattle.layout.specs.LayoutLaws.{selector-right, printed-right, selector-wrong, reads-within}
+use Rattle.layout.specs.LayoutLaws.{selector-right, printed-right, selector-wrong}
 use Rattle.layout.proofs.read_selector.Statement.{statement}
 use Rattle.layout.proofs.read_selector.Tie as tie
 
 module _ (d : List ℕ) (p : ℕ) (e : p ≡ byte d 4) (b : Bool) (t : b ≡ within 1 p mostPins) where
   pins-wrong : not b ≡ true → Unknown ≡ selectorOf d
-  pins-wrong h = sym (selector-wrong d (λ q l. reads-within 1 p mostPins .denies (sym t ∙ not-true b h) (rw e q)) (λ q l z. reads-within 1 p mostPins .denies (sym t ∙ not-true b h) (rw e q)))
+  pins-wrong h = let n : Pins (byte d 4) → ⊥ = λ q. reads-within 1 p mostPins .denies (sym t ∙ not-true b h) (rw e q) in sym (selector-wrong d (λ q l. n q) (λ q l z. n q))
 
   module _ (h : not b ≡ false) where
     pins-right : Pins p

@@ -2,10 +2,10 @@
 use borrow.Author.Needs.{needs}
 use Prim.Native.Nat.{ℕ, _+_, _-_, _≤_, _<_}
 use mathlib.Core.Path.{_≡_, refl, sym, ap, _∙_}
-use mathlib.Core.List.{List, [], _∷_, _++_}
+use mathlib.Core.List.{List, _++_}
 use native.Mathlib.Omega.{arith}
 use native.Mathlib.Numerals.{add-one}
-use lib.ListN.{length, take, drop, set, getD, replicate}
+use lib.ListN.{length, drop, set, getD, replicate}
 use lib.Seq.{paste, paste-suc, length-paste, take-length}
 use Rattle.layout.specs.Layout.{mostPins}
 use Rattle.layout.specs.Sources.{sourcesIn, padded}
@@ -52,7 +52,11 @@ over ids places i g h =
     let p = g .passed in
     let e : i ≡ length ids = omega arith in
     let z : 0 + length ids ≡ length ids = omega arith in
-    let s : places ≡ ids ++ drop (length ids) blank = g .same ∙ ap (paste blank 0 ids) e ∙ ap (λ (l : List ℕ). l ++ drop (0 + length ids) blank) (take-length ids) ∙ ap (λ (k : ℕ). ids ++ drop k blank) z in
+    let s : places ≡ ids ++ drop (length ids) blank =
+    g .same
+    ∙ ap (paste blank 0 ids) e
+    ∙ ap (λ (l : List ℕ). l ++ drop (0 + length ids) blank) (take-length ids)
+    ∙ ap (λ (k : ℕ). ids ++ drop k blank) z in
     rw (s, e)
 
 ruleset laws = (start, room, on, over, needs)
