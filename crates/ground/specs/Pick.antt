@@ -91,10 +91,6 @@ pub reads-contrary : {P : Type 0} (b : Bool) → Reads (not b) P → Reads b (P 
 reads-contrary true r = record { says = λ e. r .denies refl; denies = λ e. absurd (true≠false e) }
 reads-contrary false r = record { says = λ e. absurd (true≠false (sym e)); denies = λ e n. n (r .says refl) }
 
--- a test that decides one statement decides another that says the same
-pub restated : {P Q : Type 0} {b : Bool} → (P → Q) → (Q → P) → Reads b P → Reads b Q
-restated f g r = record { says = λ e. f (r .says e); denies = λ e q. r .denies e (g q) }
-
 -- a number from low to high
 abbrev pub within : ℕ → ℕ → ℕ → Bool
 within low n high = leb low n && leb n high

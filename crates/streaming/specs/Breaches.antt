@@ -4,21 +4,21 @@
 --   rule14-broken         ==  it answers a place exactly where that is the first offender's
 use Prim.Native.Nat.{ℕ, suc, _+_, _<_}
 use mathlib.Core.Path.{_≡_, refl, sym, ap, _∙_}
-use mathlib.Core.Bool.{Bool, true, false, not, _&&_, _||_}
+use mathlib.Core.Bool.{Bool, true, false, not}
 use mathlib.Core.Logic.{_↔_, ⊎-elim}
-use mathlib.Core.List.{List, [], _∷_, _++_, append-assoc, List·Memᴰ, head-eq-of-cons-eq, tail-eq-of-cons-eq}
+use mathlib.Core.List.{List, [], _∷_, _++_, append-assoc, head-eq-of-cons-eq, tail-eq-of-cons-eq}
 use lib.ListN.{length, getD, drop, length-append}
 use lib.Dec.{eqb}
 use native.Mathlib.Omega.{arith}
 use Rattle.ground.specs.declared.Place.the-variants.{Nowhere, At}
-use Rattle.ground.specs.Pick.{pick, no, Reads, decided, shows, true≠false, reads-eq, reads-and, reads-not, reads-contrary, restated}
+use Rattle.ground.specs.Pick.{pick, Reads, decided, reads-eq, reads-and, reads-not, reads-contrary, reads-same}
 use Rattle.ground.specs.Numbers.{byte}
-use Rattle.ground.specs.Lists.{total, Some}
-use Rattle.ground.specs.First.{Sound, Breaks, firstFrom, first-nowhere, first-at}
+use Rattle.ground.specs.Lists.{Some}
+use Rattle.ground.specs.First.{Sound, Breaks, first-nowhere, first-at}
 use Rattle.scan.specs.Cutting.{Cutting, rest}
 use Rattle.scan.specs.CuttingLaws.{cutting-rest}
 use Rattle.scan.specs.Search.{searched}
-use Rattle.scan.specs.Want.{Class, Audio, isAudio, reads-audio}
+use Rattle.scan.specs.Want.{Class, Audio, reads-audio}
 use Rattle.streaming.specs.Terminals.{Terminal, OneEach}
 use Rattle.streaming.specs.Rule.{Described, StreamKept, no-endpoints, endpoints, Group, Rule14, Breaks14}
 use Rattle.streaming.specs.Tests.{describedBy, holdsClass, broken, wrongStream, breach14}
@@ -51,15 +51,13 @@ module _ (ts : List Terminal) (i : List ℕ) where
 
       go : (b : Bool) → Reads b (byte i 4 ≡ 0) → Reads (not (pick b (holdsClass tail) (not (describedBy ts (getD tail 0 []) (getD tail 1 []))))) (StreamKept ts i (membersOf tail))
       go true r =
-          restated
+          reads-same (reads-not _ (reads-held tail))
           (λ h. no-endpoints (r .says refl) (λ d m k. h (record { one = d; among = m; has = k })))
           (kept-silent (r .says refl))
-          (reads-not _ (reads-held tail))
       go false r =
-          restated
+          reads-same (twice _ (reads-described ts one (getD tail 0 []) (getD tail 1 [])))
           (described-kept tail (r .denies refl))
           (λ k. rw (members-split tail) (kept-described (afterOf tail) (r .denies refl) k))
-          (twice _ (reads-described ts one (getD tail 0 []) (getD tail 1 [])))
 
 -- a group that opens before another stands whole among what is before it, but for its others
 cut-earlier : (x before : List (List ℕ)) (j i : List ℕ) (r t : List (List ℕ)) → x ++ j ∷ r ≡ before ++ i ∷ t → length x < length before → (y : List (List ℕ)) × (before ≡ x ++ j ∷ y)

@@ -1,11 +1,11 @@
 -- The tests of rule 14 decide its sentences.
-use Prim.Native.Nat.{ℕ, suc, _+_, _-_, _≤_}
+use Prim.Native.Nat.{ℕ, suc, _+_, _≤_}
 use mathlib.Core.Path.{_≡_, refl, sym, ap, _∙_}
 use mathlib.Core.Bool.{Bool, true, false, not, _&&_, _||_}
 use mathlib.Core.Logic.{⊎-elim}
-use mathlib.Core.List.{List, [], _∷_, _++_, cons≢nil}
+use mathlib.Core.List.{List, [], _∷_, _++_}
 use lib.ListN.{length, getD, drop}
-use lib.Seq.{getD-take, getD-drop, drop-append-add}
+use lib.Seq.{drop-append-add}
 use lib.Dec.{eqb}
 use native.Mathlib.Numerals.{add-one}
 use native.Mathlib.Omega.{arith}
@@ -15,12 +15,13 @@ use Rattle.ground.specs.Pick.{pick, true≠false, decided, reads-eq}
 use Rattle.ground.specs.Numbers.{byte}
 use Rattle.ground.specs.Lists.{part, part-none, any}
 use Rattle.scan.specs.Cutting.{endAt, rest}
-use Rattle.scan.specs.CuttingLaws.{end-off, rest-none, rest-more}
+use Rattle.scan.specs.CuttingLaws.{rest-none, rest-more}
 use Rattle.scan.specs.Search.{Passed, inside}
 use Rattle.scan.specs.Want.{isInterface, isClass, wants, foundFrom}
 use Rattle.scan.specs.Found.{found, found-none}
 use Rattle.scan.specs.declared.Want.the-variants as want
 use Rattle.groups.specs.Reading.{straysFrom}
+use Rattle.groups.specs.TotalLaws.{type-of}
 use Rattle.streaming.specs.declared.Link.{Link}
 use Rattle.streaming.specs.declared.Link.the-variants as link
 use Rattle.streaming.specs.Terminals.{Terminal, linkedTo}
@@ -92,18 +93,6 @@ held-at (d ∷ x) w y e m = go (isClass d) (isInterface d) (λ h. held-at x w y 
     go false true ih h = absurd (true≠false h)
     go false false ih h = ih h
 
-type-at : (s : List ℕ) (q : ℕ) (d : List ℕ) (ds : List (List ℕ)) → rest s q ≡ d ∷ ds → byte s (q + 1) ≡ byte d 1
-type-at s q d ds e = ⊎-elim none some (decided (eqb (endAt s q) q) (reads-eq _ _))
-  where
-    none : endAt s q ≡ q → byte s (q + 1) ≡ byte d 1
-    none h = absurd (cons≢nil (sym e ∙ rest-none s q h))
-
-    some : (endAt s q ≡ q → ⊥) → byte s (q + 1) ≡ byte d 1
-    some h =
-        let o = end-off s q h in
-        let p : part s q (endAt s q) ≡ d = sym (first-stands s q) ∙ ap (λ (r : List (List ℕ)). getD r 0 []) e in
-        sym (ap (λ (x : List ℕ). byte x 1) (sym p) ∙ getD-take (endAt s q - q) (drop q s) 1 0 (omega arith) ∙ getD-drop q s 1 0)
-
 strays-held : (s : List ℕ) (e : ℕ) → e ≤ length s → straysFrom s e ≡ holdsClass (rest s e)
 unfolding straysFrom isClass
 strays-held s e l = go (foundFrom s e want.ClassOrInterface) refl
@@ -112,7 +101,7 @@ strays-held s e l = go (foundFrom s e want.ClassOrInterface) refl
     go Nowhere h = sym (nothing-held (rest s e) (found-none want.ClassOrInterface s e h))
     go (At q) h =
         let k = found want.ClassOrInterface s e q l h in
-        ap (λ (b : ℕ). eqb b 0x24) (type-at s q (k .wanted) (k .behind) (k .here))
+        ap (λ (b : ℕ). eqb b 0x24) (type-of s q (k .wanted) (k .behind) (k .here))
         ∙ sym (ap holdsClass (k .whole) ∙ held-at (k .passed) (k .wanted) (k .behind) (k .none-passed) (k .meets))
 
 pub behind-next : {A : Type 0} (x : List A) (d : A) (y : List A) → drop (suc (length x)) (x ++ d ∷ y) ≡ y

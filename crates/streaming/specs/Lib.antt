@@ -5,3 +5,5 @@ pub mod Laws
 pub mod Sentences
 pub mod Members
 pub mod Breaches
+pub mod Distinct
+pub mod Examples

@@ -10,7 +10,7 @@ use lib.ListN.{length}
 use lib.Dec.{eqb, ltb, leb}
 use native.Mathlib.Omega.{arith}
 use borrow.Author.Tests.{ltb-true, ltb-false}
-use Rattle.ground.specs.Pick.{pick, Reads, shows, true≠false, reads-eq, reads-lt, reads-le, reads-and, reads-within, reads-implies, restated}
+use Rattle.ground.specs.Pick.{pick, Reads, true≠false, reads-eq, reads-le, reads-and, reads-within, reads-implies, reads-same}
 use Rattle.ground.specs.Numbers.{byte, word, triple}
 use Rattle.streaming.specs.declared.Link.{Link}
 use Rattle.streaming.specs.declared.Link.the-variants as link
@@ -48,18 +48,17 @@ module _ (d : List ℕ) where
       bounds h (continuous a b c) = (b, c)
 
       go : (t : Bool) → ltb 0 (byte d 7) ≡ t → Reads (pick t (eqb (length d) (8 + 3 * byte d 7)) (eqb (length d) 14 && leb (triple d 8) (triple d 11))) (Rates d)
-      go true e = restated (discrete (ltb-true 0 (byte d 7) e)) (listed (ltb-true 0 (byte d 7) e)) (reads-eq (length d) (8 + 3 * byte d 7))
+      go true e = reads-same (reads-eq (length d) (8 + 3 * byte d 7)) (discrete (ltb-true 0 (byte d 7) e)) (listed (ltb-true 0 (byte d 7) e))
       go false e =
           let z : byte d 7 ≤ 0 = ltb-false 0 (byte d 7) e in
-          restated (λ h. continuous (omega arith) (h .0) (h .1)) (bounds z) (reads-and _ _ (reads-eq (length d) 14) (reads-le (triple d 8) (triple d 11)))
+          reads-same (reads-and _ _ (reads-eq (length d) 14) (reads-le (triple d 8) (triple d 11))) (λ h. continuous (omega arith) (h .0) (h .1)) (bounds z)
 
   pub reads-type-one : (c : ℕ) → Reads (isTypeOne c d) (TypeOne c d)
   unfolding isTypeOne
   reads-type-one c =
-      restated
+      reads-same (reads-and _ _ (reads-le 8 (length d)) (reads-and _ _ (reads-eq (byte d 3) 1) (reads-and _ _ (reads-eq (byte d 4) c) (reads-and _ _ reads-samples reads-rates))))
       (λ h. record { long = h .0; one = h .1 .0; channels = h .1 .1 .0; samples = h .1 .1 .1 .0; rates = h .1 .1 .1 .1 })
       (λ h. (h .long, (h .one, (h .channels, (h .samples, h .rates)))))
-      (reads-and _ _ (reads-le 8 (length d)) (reads-and _ _ (reads-eq (byte d 3) 1) (reads-and _ _ (reads-eq (byte d 4) c) (reads-and _ _ reads-samples reads-rates))))
 
   reads-tagged : (tag c : ℕ) → Reads (formatRight tag c d) (Format d × (tag ≡ 1 → TypeOne c d))
   unfolding formatRight
@@ -112,7 +111,6 @@ reads-described ts one g f = go (linkedTo (byte g 3) ts) refl (links (byte g 3) 
         no-link true h = true≠false (sym h)
         no-link false h = true≠false (sym h)
     go _ e (to t m i) =
-        restated
+        reads-same (reads-and _ _ (reads-general g) (reads-and _ _ (reads-eq (t .kind) 0x0101) (reads-tagged f (word g 5) (t .channels))))
         (λ h. record { general = h .0; terminal = t; among = m; linked = i; streaming = h .1 .0; format = h .1 .1 .0; type-one = h .1 .1 .1 })
         (λ h. found t h e)
-        (reads-and _ _ (reads-general g) (reads-and _ _ (reads-eq (t .kind) 0x0101) (reads-tagged f (word g 5) (t .channels))))
