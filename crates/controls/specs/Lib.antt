@@ -1,0 +1,3 @@
+pub mod Controls
+pub mod Growth
+pub mod Counts
