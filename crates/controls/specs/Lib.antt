@@ -4,3 +4,4 @@ pub mod Counts
 pub mod Standing
 pub mod Order
 pub mod Reader
+pub mod Examples

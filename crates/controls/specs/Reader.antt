@@ -1,10 +1,9 @@
 -- The reader's table and rule 15.
 --   Rule15 ds cs     ==  at most 128 controls
---   DistinctIds ds   ==  no two entities of the run ds bear the same ID (rule 10)
 --   rule15-kept      ==  the reader answers nowhere exactly where the rule is kept
 --   rule15-broken    ==  it answers the header's place exactly where it is broken
 --   controls-run     ==  the controls of a run as the reader has it are those of its descriptors
---   reader-sound     ==  refusal 30 has nothing against the table of a run's controls
+--   reader-sound, run-sound ==  refusal 30 has nothing against the table of a run's controls
 use Prim.Native.Nat.{ℕ, zero, suc, _+_, _≤_, _<_}
 use mathlib.Core.Path.{_≡_, refl, sym, ap, _∙_}
 use mathlib.Core.Bool.{Bool, true, false}
@@ -24,7 +23,7 @@ use Rattle.layout.specs.Layout.{LaidOut, entityOf}
 use Rattle.layout.specs.Layout as layout
 use Rattle.entities.specs.declared.Node.{Node}
 use Rattle.entities.specs.Run.{mostEntities, nodeOf, nodesFrom, runIn}
-use Rattle.entities.specs.RunLaws.{run-nodes}
+use Rattle.entities.specs.RunLaws.{run-nodes, OwnIds, DistinctIds, laid-distinct}
 use Rattle.setting.specs.declared.Sort.{Sort}
 use Rattle.setting.specs.declared.Sort.the-variants.{Volume, Tone, Delay}
 use Rattle.table.specs.declared.Control.{Control}
@@ -110,10 +109,7 @@ stands-at : (z : Cluster) {ds : List (List ℕ)} {cs : List Cluster} {x : Contro
 stands-at z (here h) = (0, omega arith, h)
 stands-at z (there h) = let r = stands-at z h in (suc (r .0), let l = r .1 in omega arith, r .2)
 
-abbrev pub DistinctIds : List (List ℕ) → Type 0
-DistinctIds ds = (x : List (List ℕ)) (d : List ℕ) (y : List (List ℕ)) (e : List ℕ) → ds ≡ x ++ d ∷ y → List·Memᴰ e y → byte d 3 ≡ byte e 3 → ⊥
-
-before-other : (ds : List (List ℕ)) → DistinctIds ds → (a b : Control) → Before ds a b → Same a b → ⊥
+before-other : (ds : List (List ℕ)) → DistinctIds (λ d. byte d 3) ds → (a b : Control) → Before ds a b → Same a b → ⊥
 before-other ds h a b (inl e) s = h (e .before) (e .one) (e .behind) (e .other) (e .split) (e .among) (e .first ∙ s .unit ∙ sym (e .second))
 before-other ds h a b (inr (u, inl l)) s = let c = s .channel in omega arith
 before-other ds h a b (inr (u, inr (k, l))) s = let c = s .selector in omega arith
@@ -121,7 +117,7 @@ before-other ds h a b (inr (u, inr (k, l))) s = let c = s .selector in omega ari
 -- THE THEOREM: a run with right layouts, distinct IDs, at most 16 channels at each place and at most 128 controls gives a table
 -- that refusal 30 does not turn away
 module _ (ds : List (List ℕ)) (cs : List Cluster) (z : Cluster)
-    (laid : (d : List ℕ) → List·Memᴰ d ds → LaidOut d) (distinct : DistinctIds ds)
+    (laid : (d : List ℕ) → List·Memᴰ d ds → LaidOut d) (distinct : DistinctIds (λ d. byte d 3) ds)
     (channels : (i : ℕ) → i < length ds → getD cs i z .channels ≤ 16) (few : Rule15 ds cs) where
   at-place : (p : ℕ) → p < length (controlsOf ds cs) → at (tableOf (controlsOf ds cs)) p ≡ getD (controlsOf ds cs) p blankControl
   unfolding tableOf
@@ -144,3 +140,10 @@ module _ (ds : List (List ℕ)) (cs : List Cluster) (z : Cluster)
 
   pub reader-accepted : soundOf (tableOf (controlsOf ds cs)) ≡ true
   reader-accepted = shows (sound-reads (tableOf (controlsOf ds cs))) reader-sound
+
+-- the same of a run as the reader has it: its descriptors stand in the configuration s from place p on, and its entities bear their own IDs
+pub run-sound : (s : List ℕ) (p : ℕ) (ds : List (List ℕ)) (cs : List Cluster) (z : Cluster) (tail : List ℕ) → drop p s ≡ flatten ds ++ tail → ((d : List ℕ) → List·Memᴰ d ds → Descriptor d)
+    → length ds ≤ mostEntities → ((d : List ℕ) → List·Memᴰ d ds → LaidOut d) → OwnIds (runIn p ds)
+    → ((i : ℕ) → i < length ds → getD cs i z .channels ≤ 16) → Rule15 ds cs → soundOf (tableOf (controlsOfRun s (runIn p ds) cs)) ≡ true
+run-sound s p ds cs z tail e h few laid own channels rule =
+    rw (controls-run s p ds cs tail e h few) (reader-accepted ds cs z laid (laid-distinct p ds few laid own) channels rule)

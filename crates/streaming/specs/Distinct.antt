@@ -1,23 +1,21 @@
 -- Where the entities of a run bear distinct IDs, an ID is borne by one Terminal at most.
---   DistinctIds ns ==  no two of the entities ns bear the same ID (rule 10)
---   one-each       ==  so it is with the Terminals among them
+--   one-each       ==  among entities with distinct IDs, an ID is borne by one Terminal at most
+--   one-each-run   ==  so it is in a run whose entities bear their own IDs
 --   terminals-run  ==  the Terminals of a run of at most 32 descriptors are those of all its entities
 use Prim.Native.Nat.{ℕ, _≤_}
 use mathlib.Core.Path.{_≡_, refl, sym, ap, _∙_}
 use mathlib.Core.Logic.{_⊎_, inl, inr}
 use mathlib.Core.List.{List, [], _∷_, _++_, List·Memᴰ, List·Memᴰ·head, List·Memᴰ·tail, List·Memᴰ·not-nil, List·Memᴰ·append-cases, List·Memᴰ·eq-of-singleton}
-use lib.ListN.{length}
+use lib.ListN.{length, take}
 use Rattle.layout.specs.declared.Cluster.{Cluster}
 use Rattle.layout.specs.declared.Entity.{Entity}
 use Rattle.layout.specs.declared.Entity.the-variants.{Unknown, Input, Output, Mixer, Selector, Printed, Feature}
 use Rattle.layout.specs.Layout.{idOf}
 use Rattle.entities.specs.declared.Node.{Node}
+use Rattle.entities.specs.declared.Run.{Run}
 use Rattle.entities.specs.Run.{mostEntities, nodesFrom, runIn}
-use Rattle.entities.specs.RunLaws.{run-nodes}
+use Rattle.entities.specs.RunLaws.{run-nodes, OwnIds, DistinctIds, own-distinct}
 use Rattle.streaming.specs.Terminals.{Terminal, terminalOf, terminalsIn, terminalsOf, OneEach}
-
-abbrev pub DistinctIds : List Node → Type 0
-DistinctIds ns = (x : List Node) (n : Node) (y : List Node) (m : Node) → ns ≡ x ++ n ∷ y → List·Memᴰ m y → idOf (n .entity) ≡ idOf (m .entity) → ⊥
 
 own-id : (e : Entity) (c : ℕ) (t : Terminal) → List·Memᴰ t (terminalOf e c) → idOf e ≡ t .id
 unfolding terminalOf idOf
@@ -50,7 +48,7 @@ bearer (n ∷ ns) (c ∷ cs) t m = go (List·Memᴰ·append-cases (terminalOf (n
     go (inl h) ih = (n, List·Memᴰ·head refl, own-id (n .entity) (c .channels) t h)
     go (inr h) ih = let k = ih h in (k .0, List·Memᴰ·tail (k .1), k .2)
 
-pub one-each : (ns : List Node) (cs : List Cluster) → DistinctIds ns → OneEach (terminalsIn ns cs)
+pub one-each : (ns : List Node) (cs : List Cluster) → DistinctIds (λ n. idOf (n .entity)) ns → OneEach (terminalsIn ns cs)
 unfolding terminalsIn
 one-each [] cs d t u m k q = absurd (List·Memᴰ·not-nil m)
 one-each (n ∷ ns) [] d t u m k q = absurd (List·Memᴰ·not-nil m)
@@ -70,6 +68,10 @@ one-each (n ∷ ns) (c ∷ cs) d t u m k q = go (List·Memᴰ·append-cases (ter
     go (inl a) (inr b) ih = absurd (apart t u a b q)
     go (inr a) (inl b) ih = absurd (apart u t b a (sym q))
     go (inr a) (inr b) ih = ih a b
+
+pub one-each-run : (r : Run) (cs : List Cluster) → length (r .nodes) ≡ mostEntities → OwnIds r → OneEach (terminalsOf r cs)
+unfolding terminalsOf
+one-each-run r cs l own = one-each (take (r .count) (r .nodes)) cs (own-distinct r l own)
 
 pub terminals-run : (p : ℕ) (ds : List (List ℕ)) (cs : List Cluster) → length ds ≤ mostEntities → terminalsOf (runIn p ds) cs ≡ terminalsIn (nodesFrom p ds) cs
 unfolding terminalsOf
