@@ -125,6 +125,14 @@ pad-at b (suc n) [] (suc i) h = pad-at b n [] i (le-of-suc-le-suc h)
 pad-at b (suc n) (x ∷ l) zero h = refl
 pad-at b (suc n) (x ∷ l) (suc i) h = pad-at b n l i (le-of-suc-le-suc h)
 
+-- where there is room for all, the first places are the elements
+pub pad-front : {A : Type 0} (b : A) (n : ℕ) (l : List A) → length l ≤ n → take (length l) (pad b n l) ≡ l
+unfolding pad
+pad-front b zero [] h = refl
+pad-front b zero (x ∷ l) h = absurd (omega arith)
+pad-front b (suc n) [] h = refl
+pad-front b (suc n) (x ∷ l) h = ap (λ r. x ∷ r) (pad-front b n l (le-of-suc-le-suc h))
+
 -- a list that begins with no P: it is empty, or its first element is not P
 pub data Stops {A : Type 0} (P : A → Type 0) : List A → Type 0 where
   stop-end : Stops P []

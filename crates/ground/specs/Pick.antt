@@ -82,6 +82,15 @@ pub reads-not : {P : Type 0} (a : Bool) → Reads a P → Reads (not a) (P → �
 reads-not true r = record { says = λ e. absurd (true≠false (sym e)); denies = λ e f. f (r .says refl) }
 reads-not false r = record { says = λ e. r .denies refl; denies = λ e. absurd (true≠false e) }
 
+pub reads-implies : {P Q : Type 0} (a b : Bool) → Reads a P → Reads b Q → Reads (not a || b) (P → Q)
+reads-implies true b r s = record { says = λ e p. s .says e; denies = λ e h. s .denies e (h (r .says refl)) }
+reads-implies false b r s = record { says = λ e p. absurd (r .denies refl p); denies = λ e. absurd (true≠false e) }
+
+-- a test that decides the contrary
+pub reads-contrary : {P : Type 0} (b : Bool) → Reads (not b) P → Reads b (P → ⊥)
+reads-contrary true r = record { says = λ e. r .denies refl; denies = λ e. absurd (true≠false e) }
+reads-contrary false r = record { says = λ e. absurd (true≠false (sym e)); denies = λ e n. n (r .says refl) }
+
 -- a number from low to high
 abbrev pub within : ℕ → ℕ → ℕ → Bool
 within low n high = leb low n && leb n high

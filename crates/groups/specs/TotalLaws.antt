@@ -89,7 +89,7 @@ module _ (s : List ℕ) (from : ℕ) (inside : from ≤ length s) (full : from +
           }
 
 -- the first byte of type 24 or 04 behind the run is the descriptor's own
-type-of : (s : List ℕ) (q : ℕ) (d : List ℕ) (ds : List (List ℕ)) → rest s q ≡ d ∷ ds → byte s (q + 1) ≡ byte d 1
+pub type-of : (s : List ℕ) (q : ℕ) (d : List ℕ) (ds : List (List ℕ)) → rest s q ≡ d ∷ ds → byte s (q + 1) ≡ byte d 1
 type-of s q d ds e = go (decided (eqb (endAt s q) q) (reads-eq (endAt s q) q))
   where
     go : (endAt s q ≡ q) ⊎ (endAt s q ≡ q → ⊥) → byte s (q + 1) ≡ byte d 1

@@ -205,7 +205,7 @@ fn is_header(h: &[u8]) -> bool
 }
 
 // Whether a type 24 descriptor stands behind the run in its group.
-fn strays_from(config: &[u8], end: usize) -> bool
+pub fn strays_from(config: &[u8], end: usize) -> bool
     ensures { λ r. ⌜ r ≡ straysFrom (now (config .entry)) end ⌝ }
 {
     let found = find(config, end, Want::ClassOrInterface);

@@ -1,0 +1,94 @@
+-- Which control stands where (document 01, "Controls and settings"): "Channel k's mask (0 is master), bit b: control with selector
+-- b+1, for b from 0 to 9 except 5. Other bits carry none. Each Selector has one control. The table goes by entity place, channel,
+-- selector; spare places, and numbers not yet loaded or that a control does not use, are zero."
+--   unitControl u k v       ==  the control of the Feature Unit u, channel k, selector v
+--   selectorControl u p     ==  the control of the Selector u with p pins; its value is a pin, at first 1
+--   maskOf d n k            ==  channel k's mask in the Feature Unit d of control size n: "masks of n bytes from 6"
+--   bitSet m b              ==  bit b of the mask m is set, the low byte first
+--   bitControls m u k b     ==  the control that bit b carries, if it carries one
+--   maskControls m u k      ==  those of channel k's mask m
+--   featureControls u n c d ==  those of the Feature Unit d with ID u and control size n, whose cluster has c channels
+--   entityControls e d c    ==  those of the entity e, which d is
+--   controlsOf ds cs        ==  those of the run ds with the clusters cs at its places
+--   controlsOfRun s r cs    ==  the same, as the reader has the run: entities that stand at places of the configuration s
+--   breach15 k p            ==  where rule 15 is broken by k controls: nowhere, or at the header's place p
+use Prim.Native.Nat.{ℕ, zero, suc, _+_, _*_, _/_, _%_, _^_}
+use mathlib.Core.Bool.{Bool, true, false, not, _&&_}
+use mathlib.Core.List.{List, [], _∷_, _++_}
+use lib.ListN.{length, take}
+use lib.Dec.{eqb, leb}
+use Rattle.ground.specs.declared.Place.{Place}
+use Rattle.ground.specs.Pick.{pick}
+use Rattle.ground.specs.Numbers.{byte}
+use Rattle.ground.specs.Lists.{part}
+use Rattle.ground.specs.Refuse.{keptAt}
+use Rattle.scan.specs.Cutting.{endAt}
+use Rattle.layout.specs.declared.Cluster.{Cluster}
+use Rattle.layout.specs.declared.Entity.{Entity}
+use Rattle.layout.specs.declared.Entity.the-variants.{Unknown, Input, Output, Mixer, Selector, Printed, Feature}
+use Rattle.layout.specs.Layout.{entityOf}
+use Rattle.entities.specs.declared.Node.{Node}
+use Rattle.entities.specs.declared.Run.{Run}
+use Rattle.table.specs.declared.Control.{Control}
+use Rattle.table.specs.Controls.{mostControls}
+
+abbrev pub unitControl : ℕ → ℕ → ℕ → Control
+unitControl u k v =
+    record { unit = u; channel = k; selector = v; pins = 0; loaded = false; min = 0; max = 0; res = 0; cur = 0 }
+
+abbrev pub selectorControl : ℕ → ℕ → Control
+selectorControl u p =
+    record { unit = u; channel = 0; selector = 0; pins = p; loaded = false; min = 0; max = 0; res = 0; cur = 1 }
+
+abbrev pub maskOf : List ℕ → ℕ → ℕ → List ℕ
+maskOf d n k = part d (6 + k * n) (6 + k * n + n)
+
+unfoldable pub bitSet : List ℕ → ℕ → Bool
+bitSet m b = eqb (byte m (b / 8) / 2 ^ (b % 8) % 2) 1
+
+unfoldable pub bitControls : List ℕ → ℕ → ℕ → ℕ → List Control
+bitControls m u k b = pick (not (eqb b 5) && bitSet m b) (unitControl u k (b + 1) ∷ []) []
+
+-- the next n bits, from bit b on
+unfoldable pub bitsFrom : ℕ → ℕ → List ℕ → ℕ → ℕ → List Control
+bitsFrom zero b m u k = []
+bitsFrom (suc n) b m u k = bitControls m u k b ++ bitsFrom n (b + 1) m u k
+
+unfoldable pub maskControls : List ℕ → ℕ → ℕ → List Control
+maskControls m u k = bitsFrom 10 0 m u k
+
+-- the next j channels, from channel k on
+unfoldable pub channelsFrom : ℕ → ℕ → ℕ → ℕ → List ℕ → List Control
+channelsFrom zero k u n d = []
+channelsFrom (suc j) k u n d = maskControls (maskOf d n k) u k ++ channelsFrom j (k + 1) u n d
+
+unfoldable pub featureControls : ℕ → ℕ → ℕ → List ℕ → List Control
+featureControls u n c d = channelsFrom (suc c) 0 u n d
+
+unfoldable pub entityControls : Entity → List ℕ → ℕ → List Control
+entityControls Unknown d c = []
+entityControls (Input i t own) d c = []
+entityControls (Output i t s) d c = []
+entityControls (Mixer i p own l) d c = []
+entityControls (Selector i p) d c = selectorControl i p ∷ []
+entityControls (Printed i p) d c = selectorControl i p ∷ []
+entityControls (Feature i s n l) d c = featureControls i n c d
+
+unfoldable pub controlsOf : List (List ℕ) → List Cluster → List Control
+controlsOf [] cs = []
+controlsOf (d ∷ ds) [] = []
+controlsOf (d ∷ ds) (c ∷ cs) = entityControls (entityOf d) d (c .channels) ++ controlsOf ds cs
+
+unfoldable pub nodeControls : List ℕ → Node → ℕ → List Control
+nodeControls s n c = entityControls (n .entity) (part s (n .place) (endAt s (n .place))) c
+
+unfoldable pub controlsIn : List ℕ → List Node → List Cluster → List Control
+controlsIn s [] cs = []
+controlsIn s (n ∷ ns) [] = []
+controlsIn s (n ∷ ns) (c ∷ cs) = nodeControls s n (c .channels) ++ controlsIn s ns cs
+
+unfoldable pub controlsOfRun : List ℕ → Run → List Cluster → List Control
+controlsOfRun s r cs = controlsIn s (take (r .count) (r .nodes)) cs
+
+unfoldable pub breach15 : ℕ → ℕ → Place
+breach15 k p = keptAt (leb k mostControls) p

@@ -1,0 +1,60 @@
+-- How many controls there may be: one for a bit, ten for a mask, ten for each channel of an entity and its master.
+use Prim.Native.Nat.{ℕ, zero, suc, _+_, _*_, _≤_, _<_}
+use mathlib.Core.Path.{_≡_, refl, sym, ap, _∙_}
+use mathlib.Core.Bool.{Bool, true, false, not, _&&_}
+use mathlib.Core.List.{List, [], _∷_, _++_}
+use native.Mathlib.Omega.{arith}
+use lib.ListN.{length, length-append}
+use lib.Dec.{eqb}
+use Rattle.ground.specs.Pick.{pick}
+use Rattle.ground.specs.Lists.{part}
+use Rattle.scan.specs.Cutting.{endAt}
+use Rattle.entities.specs.declared.Node.{Node}
+use Rattle.layout.specs.declared.Entity.{Entity}
+use Rattle.layout.specs.declared.Entity.the-variants.{Unknown, Input, Output, Mixer, Selector, Printed, Feature}
+use Rattle.table.specs.declared.Control.{Control}
+use Rattle.controls.specs.Controls.{unitControl, maskOf, bitSet, bitControls, bitsFrom, maskControls, channelsFrom, featureControls, entityControls, nodeControls}
+
+pub bit-few : (m : List ℕ) (u k b : ℕ) → length (bitControls m u k b) ≤ 1
+unfolding bitControls
+bit-few m u k b = go (not (eqb b 5) && bitSet m b)
+  where
+    go : (t : Bool) → length (pick t (unitControl u k (b + 1) ∷ []) []) ≤ 1
+    go true = omega arith
+    go false = omega arith
+
+bits-few : (n b : ℕ) (m : List ℕ) (u k : ℕ) → length (bitsFrom n b m u k) ≤ n
+unfolding bitsFrom
+bits-few zero b m u k = omega arith
+bits-few (suc n) b m u k =
+    let l = length-append (bitControls m u k b) (bitsFrom n (b + 1) m u k) in
+    let h = bit-few m u k b in
+    let i = bits-few n (b + 1) m u k in
+    omega arith
+
+pub mask-few : (m : List ℕ) (u k : ℕ) → length (maskControls m u k) ≤ 10
+unfolding maskControls
+mask-few m u k = bits-few 10 0 m u k
+
+channels-few : (j k u n : ℕ) (d : List ℕ) → length (channelsFrom j k u n d) ≤ 10 * j
+unfolding channelsFrom
+channels-few zero k u n d = omega arith
+channels-few (suc j) k u n d =
+    let l = length-append (maskControls (maskOf d n k) u k) (channelsFrom j (k + 1) u n d) in
+    let h = mask-few (maskOf d n k) u k in
+    let i = channels-few j (k + 1) u n d in
+    omega arith
+
+pub entity-few : (e : Entity) (d : List ℕ) (c : ℕ) → length (entityControls e d c) ≤ 10 * (c + 1)
+unfolding entityControls featureControls
+entity-few Unknown d c = omega arith
+entity-few (Input i t own) d c = omega arith
+entity-few (Output i t s) d c = omega arith
+entity-few (Mixer i p own l) d c = omega arith
+entity-few (Selector i p) d c = omega arith
+entity-few (Printed i p) d c = omega arith
+entity-few (Feature i s n l) d c = let h = channels-few (suc c) 0 i n d in omega arith
+
+pub node-few : (s : List ℕ) (n : Node) (c : ℕ) → length (nodeControls s n c) ≤ 10 * (c + 1)
+unfolding nodeControls
+node-few s n c = entity-few (n .entity) (part s (n .place) (endAt s (n .place))) c

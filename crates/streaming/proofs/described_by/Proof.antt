@@ -1,0 +1,88 @@
+use borrow.Author.Needs.{needs}
+use Prim.Native.Nat.{ℕ}
+use mathlib.Core.Path.{_≡_, refl, sym, ap, _∙_}
+use mathlib.Core.Bool.{Bool, true, false, not, _&&_}
+use mathlib.Core.List.{List}
+use lib.Dec.{eqb}
+use borrow.Author.Tests.{eq-eqb, ne-eqb, not-true, not-false}
+use Rattle.ground.specs.Numbers.{byte, word}
+use Rattle.streaming.specs.declared.Link.{Link}
+use Rattle.streaming.specs.declared.Link.the-variants as link
+use Rattle.streaming.specs.Terminals.{Terminal, linkedTo}
+use Rattle.streaming.specs.Tests.{isGeneral, formatRight, linkRight, describedBy}
+use Rattle.streaming.proofs.described_by.Statement.{statement}
+use Rattle.streaming.proofs.described_by.Tie as tie
+
+module _ (ts : List Terminal) (g f : List ℕ) (a : Bool) (e : a ≡ isGeneral g) where
+  no-general : not a ≡ true → false ≡ describedBy ts g f
+  unfolding describedBy
+  no-general h = simp (sym e ∙ not-true a h)
+
+  module _ (h : not a ≡ false) (id : ℕ) (k : id ≡ byte g 3) (l : Link) (m : l ≡ linkedTo id ts) where
+    by-link : (x : Link) → l ≡ x → describedBy ts g f ≡ linkRight x g f
+    unfolding describedBy
+    by-link x q = rw (sym e ∙ not-false a h, ← k, ← m, q) refl
+
+    no-terminal : l ≡ link.Nothing → false ≡ describedBy ts g f
+    unfolding linkRight
+    no-terminal q = sym (by-link link.Nothing q)
+
+    module _ (t c : ℕ) (q : l ≡ link.Terminal t c) where
+      other-kind : (t ≡ 0x0101 → ⊥) → false ≡ describedBy ts g f
+      unfolding linkRight
+      other-kind n = sym (by-link (link.Terminal t c) q ∙ ap (λ (b : Bool). b && formatRight (word g 5) c f) (ne-eqb t 0x0101 n))
+
+      by-format : t ≡ 0x0101 → (tag : ℕ) → tag ≡ word g 5 → (r : Bool) → r ≡ formatRight tag c f → r ≡ describedBy ts g f
+      unfolding linkRight
+      by-format n tag o r p = p ∙ ap (λ (x : ℕ). formatRight x c f) o ∙ sym (by-link (link.Terminal t c) q ∙ ap (λ (b : Bool). b && formatRight (word g 5) c f) (eq-eqb t 0x0101 n))
+
+ruleset laws = (no-general, no-terminal, other-kind, by-format, needs)
+
+is-general-requires : tie.Need-is-general-requires
+is-general-requires c κs = search laws
+
+returns : tie.Need-returns
+returns c = search laws
+
+byte-at-requires : tie.Need-byte-at-requires
+byte-at-requires c κs = search laws
+
+linked-requires : tie.Need-linked-requires
+linked-requires c κs = search laws
+
+enum-known-kind : tie.Need-enum-known-kind
+enum-known-kind c = search laws
+
+enum-told : tie.Need-enum-told
+enum-told c = search laws
+
+returns-2 : tie.Need-returns-2
+returns-2 c = search laws
+
+returns-3 : tie.Need-returns-3
+returns-3 c = search laws
+
+word-at-requires : tie.Need-word-at-requires
+word-at-requires c κs = search laws
+
+format-right-requires : tie.Need-format-right-requires
+format-right-requires c κs = search laws
+
+returns-4 : tie.Need-returns-4
+returns-4 c = search laws
+
+pub described-by-spec : {M : Type 1} → statement M
+described-by-spec =
+    tie.close
+    (tie.spec
+    is-general-requires
+    returns
+    byte-at-requires
+    linked-requires
+    enum-known-kind
+    enum-told
+    returns-2
+    returns-3
+    word-at-requires
+    format-right-requires
+    returns-4)

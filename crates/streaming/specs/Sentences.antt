@@ -1,0 +1,116 @@
+-- Each test of rule 14 decides its sentence.
+--   Links id ts l    ==  what a link to the ID id among the Terminals ts leads to: to one that bears it, or none does
+--   reads-general .. reads-described  ==  the tests and their sentences
+use Prim.Native.Nat.{ℕ, _+_, _*_, _≤_, _<_}
+use mathlib.Core.Path.{_≡_, refl, sym, ap, _∙_}
+use mathlib.Core.Bool.{Bool, true, false, not, _&&_, _||_}
+use mathlib.Core.Logic.{⊎-elim}
+use mathlib.Core.List.{List, [], _∷_, List·Memᴰ, List·Memᴰ·head, List·Memᴰ·tail, List·Memᴰ·not-nil, List·Memᴰ·cases-cons}
+use lib.ListN.{length}
+use lib.Dec.{eqb, ltb, leb}
+use native.Mathlib.Omega.{arith}
+use borrow.Author.Tests.{ltb-true, ltb-false}
+use Rattle.ground.specs.Pick.{pick, Reads, true≠false, reads-eq, reads-le, reads-and, reads-within, reads-implies, reads-same}
+use Rattle.ground.specs.Numbers.{byte, word, triple}
+use Rattle.streaming.specs.declared.Link.{Link}
+use Rattle.streaming.specs.declared.Link.the-variants as link
+use Rattle.streaming.specs.Terminals.{Terminal, linkedTo, OneEach}
+use Rattle.streaming.specs.Rule.{OpensAs, General, Format, Samples, Rates, discrete, continuous, TypeOne, Described}
+use Rattle.streaming.specs.Tests.{opensAs, isGeneral, isFormat, samplesRight, ratesRight, isTypeOne, formatRight, linkRight, describedBy}
+
+module _ (d : List ℕ) where
+  reads-opens : (k : ℕ) → Reads (opensAs k d) (OpensAs k d)
+  unfolding opensAs
+  reads-opens k = reads-and _ _ (reads-eq (byte d 1) 0x24) (reads-eq (byte d 2) k)
+
+  pub reads-general : Reads (isGeneral d) (General d)
+  unfolding isGeneral
+  reads-general = reads-and _ _ (reads-eq (length d) 7) (reads-opens 1)
+
+  pub reads-format : Reads (isFormat d) (Format d)
+  unfolding isFormat
+  reads-format = reads-and _ _ (reads-le 4 (length d)) (reads-opens 2)
+
+  reads-samples : Reads (samplesRight d) (Samples d)
+  unfolding samplesRight
+  reads-samples = reads-and _ _ (reads-within 1 (byte d 5) 4) (reads-within 1 (byte d 6) (8 * byte d 5))
+
+  reads-rates : Reads (ratesRight d) (Rates d)
+  unfolding ratesRight
+  reads-rates = go (ltb 0 (byte d 7)) refl
+    where
+      listed : 0 < byte d 7 → Rates d → length d ≡ 8 + 3 * byte d 7
+      listed h (discrete a b) = b
+      listed h (continuous a b c) = absurd (omega arith)
+
+      bounds : byte d 7 ≤ 0 → Rates d → (length d ≡ 14) × (triple d 8 ≤ triple d 11)
+      bounds h (discrete a b) = absurd (omega arith)
+      bounds h (continuous a b c) = (b, c)
+
+      go : (t : Bool) → ltb 0 (byte d 7) ≡ t → Reads (pick t (eqb (length d) (8 + 3 * byte d 7)) (eqb (length d) 14 && leb (triple d 8) (triple d 11))) (Rates d)
+      go true e = reads-same (reads-eq (length d) (8 + 3 * byte d 7)) (discrete (ltb-true 0 (byte d 7) e)) (listed (ltb-true 0 (byte d 7) e))
+      go false e =
+          let z : byte d 7 ≤ 0 = ltb-false 0 (byte d 7) e in
+          reads-same (reads-and _ _ (reads-eq (length d) 14) (reads-le (triple d 8) (triple d 11))) (λ h. continuous (omega arith) (h .0) (h .1)) (bounds z)
+
+  pub reads-type-one : (c : ℕ) → Reads (isTypeOne c d) (TypeOne c d)
+  unfolding isTypeOne
+  reads-type-one c =
+      reads-same (reads-and _ _ (reads-le 8 (length d)) (reads-and _ _ (reads-eq (byte d 3) 1) (reads-and _ _ (reads-eq (byte d 4) c) (reads-and _ _ reads-samples reads-rates))))
+      (λ h. record { long = h .0; one = h .1 .0; channels = h .1 .1 .0; samples = h .1 .1 .1 .0; rates = h .1 .1 .1 .1 })
+      (λ h. (h .long, (h .one, (h .channels, (h .samples, h .rates)))))
+
+  reads-tagged : (tag c : ℕ) → Reads (formatRight tag c d) (Format d × (tag ≡ 1 → TypeOne c d))
+  unfolding formatRight
+  reads-tagged tag c = reads-and _ _ reads-format (reads-implies _ _ (reads-eq tag 1) (reads-type-one c))
+
+pub data Links (id : ℕ) (ts : List Terminal) : Link → Type 0 where
+  nothing : ((t : Terminal) → List·Memᴰ t ts → t .id ≡ id → ⊥) → Links id ts link.Nothing
+  to : (t : Terminal) → List·Memᴰ t ts → t .id ≡ id → Links id ts (link.Terminal (t .kind) (t .channels))
+
+pub links : (id : ℕ) (ts : List Terminal) → Links id ts (linkedTo id ts)
+unfolding linkedTo
+links id [] = nothing (λ t m e. List·Memᴰ·not-nil m)
+links id (t ∷ ts) = go (eqb (t .id) id) (reads-eq (t .id) id) (links id ts)
+  where
+    later : (t .id ≡ id → ⊥) → {l : Link} → Links id ts l → Links id (t ∷ ts) l
+    later n (nothing h) = nothing (λ u m e. ⊎-elim (λ (q : u ≡ t). n (rw q at e)) (λ k. h u k e) (List·Memᴰ·cases-cons m))
+    later n (to u m e) = to u (List·Memᴰ·tail m) e
+
+    go : (b : Bool) → Reads b (t .id ≡ id) → Links id ts (linkedTo id ts) → Links id (t ∷ ts) (pick b (link.Terminal (t .kind) (t .channels)) (linkedTo id ts))
+    go true r ih = to t (List·Memᴰ·head refl) (r .says refl)
+    go false r ih = later (r .denies refl) ih
+
+-- where an ID is borne once, a link leads to the Terminal that bears it
+linked-one : (ts : List Terminal) → OneEach ts → (t : Terminal) → List·Memᴰ t ts → linkedTo (t .id) ts ≡ link.Terminal (t .kind) (t .channels)
+linked-one ts one t m = go (links (t .id) ts)
+  where
+    go : {l : Link} → Links (t .id) ts l → l ≡ link.Terminal (t .kind) (t .channels)
+    go (nothing h) = absurd (h t m refl)
+    go (to u k e) = rw (one u t k m e) refl
+
+pub reads-described : (ts : List Terminal) → OneEach ts → (g f : List ℕ) → Reads (describedBy ts g f) (Described ts g f)
+unfolding describedBy linkRight
+reads-described ts one g f = go (linkedTo (byte g 3) ts) refl (links (byte g 3) ts)
+  where
+    found : (t : Terminal) → Described ts g f → linkedTo (byte g 3) ts ≡ link.Terminal (t .kind) (t .channels) → General g × ((t .kind ≡ 0x0101) × (Format f × (word g 5 ≡ 1 → TypeOne (t .channels) f)))
+    found t h e =
+        let u = h .terminal in
+        let q : link.Terminal (u .kind) (u .channels) ≡ link.Terminal (t .kind) (t .channels) = sym (linked-one ts one u (h .among)) ∙ ap (λ (i : ℕ). linkedTo i ts) (h .linked) ∙ e in
+        let k : u .kind ≡ t .kind = cc in
+        let c : u .channels ≡ t .channels = cc in
+        (h .general, (sym k ∙ h .streaming, (h .format, λ o. rw (← c) (h .type-one o))))
+
+    go : (l : Link) → linkedTo (byte g 3) ts ≡ l → Links (byte g 3) ts l → Reads (isGeneral g && linkRight l g f) (Described ts g f)
+    go _ e (nothing n) = record {
+      says = λ h. absurd (no-link (isGeneral g) h);
+      denies = λ h k. n (k .terminal) (k .among) (k .linked);
+    }
+      where
+        no-link : (b : Bool) → b && false ≡ true → ⊥
+        no-link true h = true≠false (sym h)
+        no-link false h = true≠false (sym h)
+    go _ e (to t m i) =
+        reads-same (reads-and _ _ (reads-general g) (reads-and _ _ (reads-eq (t .kind) 0x0101) (reads-tagged f (word g 5) (t .channels))))
+        (λ h. record { general = h .0; terminal = t; among = m; linked = i; streaming = h .1 .0; format = h .1 .1 .0; type-one = h .1 .1 .1 })
+        (λ h. found t h e)
