@@ -5,20 +5,19 @@
 --   case-run            ==  the outcomes of the case's steps, one by one
 use Prim.Native.Nat.{ℕ, _-_}
 use mathlib.Core.Path.{_≡_, refl}
-use mathlib.Core.List.{List, [], _∷_, _++_}
-use mathlib.Core.Bool.{true, false}
+use mathlib.Core.List.{List, [], _∷_}
+use mathlib.Core.Bool.{false}
 use lib.ListN.{replicate}
 use Rattle.setting.specs.Setting.{fitsOf, legalOf, wholeSteps, onGrid, availableOf, nearer, closestHeight, closestSetting, closestTo}
-use Rattle.setting.specs.declared.Range.{Range}
 use Rattle.table.specs.declared.Control.{Control}
 use Rattle.table.specs.declared.Table.{Table}
 use Rattle.table.specs.Controls.{blankControl, senseOf, answersTo}
 use Rattle.table.specs.First.{firstFrom, foundIn, unitIn}
 use Rattle.table.specs.Sound.{narrowOf, soundYesNo, soundPin, soundRanged, soundBy, soundControl, firstThere, soundPlace, soundOf}
-use Rattle.request.specs.Outcome.{Outcome, numberOf, bytesOf, lowFirst}
+use Rattle.request.specs.Outcome.{numberOf, bytesOf, lowFirst}
 use Rattle.request.specs.Load.{loadRange, loadBy, loadAt, loadOf}
 use Rattle.request.specs.Request.{getAsked, askedBy, askedOf, placeOf, addressedIn, lacking, unready, valueIn, settledBetween, settledOf, setTo, setBy, getBy, setFrom, getFrom, answerAsked, requestOf}
-use Rattle.runs.specs.Runs.{Key, Step, stepOf, tableNext}
+use Rattle.runs.specs.Runs.{Step, stepOf, tableNext}
 use Rattle.runs.specs.Runs.Step.{load, request}
 
 abbrev made : ℕ → ℕ → ℕ → Control

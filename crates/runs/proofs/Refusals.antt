@@ -4,18 +4,16 @@
 --   step-numbers     ==  every step gets 0 or a number of the paper, and 0 exactly where it is accepted: never both
 --   reply-unread     ==  the answer and the bytes written depend on the table, the number, the setup, the data and the reply's
 --                        length alone
-use Prim.Native.Nat.{ℕ, _≤_, _<_}
+use Prim.Native.Nat.{ℕ, _≤_}
 use mathlib.Core.Path.{_≡_, refl, sym, ap, _∙_, subst}
-use mathlib.Core.List.{List, [], _∷_, _++_}
+use mathlib.Core.List.{List}
 use mathlib.Core.Bool.{Bool, true, false, not, _&&_, _||_}
-use mathlib.Core.Logic.{_⊎_, inl, inr, ⊎-elim}
 use native.Mathlib.Omega.{arith}
 use lib.Dec.{eqb, ltb}
 use lib.ListN.{length}
 use borrow.Author.Tests.{ne-eqb}
 use Rattle.ground.specs.Pick.{pick}
 use Rattle.setting.specs.Setting.{fitsOf, legalOf}
-use Rattle.setting.specs.declared.Sort.{Sort}
 use Rattle.setting.specs.declared.Range.{Range}
 use Rattle.table.specs.declared.Table.{Table}
 use Rattle.table.specs.declared.Sense.{Sense}
@@ -38,7 +36,7 @@ use Rattle.request.specs.Outcome.{Outcome, numberOf, bytesOf, tableAfter, answe
 use Rattle.request.specs.Outcome.Outcome.{refused, got, done}
 use Rattle.request.specs.Load.{loadRange, loadBy, loadAt, loadOf}
 use Rattle.request.specs.Request.{placeOf, addressedIn, lacking, unready, valueIn, settledOf, setTo, setBy, setFrom, getBy, getFrom, askedOf, answerAsked, requestOf}
-use Rattle.runs.specs.Runs.{Key, Step, stepOf, accepted}
+use Rattle.runs.specs.Runs.{Step, stepOf, accepted}
 use Rattle.runs.specs.Runs.Step.{load, request}
 
 pub record Keeps (t : Table) (b : List ℕ) (o : Outcome) : Type 0 where

@@ -7,7 +7,7 @@
 --   fresh-passes, empty-passes  ==  so the test lets it pass
 use Prim.Native.Nat.{ℕ, _≤_, _<_}
 use mathlib.Core.Path.{_≡_, sym, _∙_}
-use mathlib.Core.Bool.{Bool, true, false}
+use mathlib.Core.Bool.{true, false}
 use native.Mathlib.Omega.{arith}
 use Rattle.ground.specs.Pick.{shows, true≠false}
 use Rattle.table.specs.declared.Control.{Control}

@@ -8,8 +8,6 @@ use Rattle.table.specs.declared.Control.{Control}
 use Rattle.table.specs.Controls.{answersTo}
 use Rattle.table.proofs.answers.Statement.{statement}
 use Rattle.table.proofs.answers.Tie as tie
-use Rattle.table.proofs.answers.Reads as reads
-use Rattle.table.proofs.answers.Lts as lts
 
 -- one law for each way out
 module _ (u ch s : ℕ) (c : Control) where

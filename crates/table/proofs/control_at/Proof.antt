@@ -8,9 +8,6 @@ use Rattle.table.specs.Controls.{mostControls, blankControl}
 use borrow.Author.Needs.{needs}
 use Rattle.table.proofs.control_at.Statement.{statement}
 use Rattle.table.proofs.control_at.Tie as tie
-use Rattle.table.proofs.control_at.Reads as reads
-use Rattle.table.proofs.control_at.Lts as lts
-use Rattle.table.proofs.blank.Reads as blank-reads
 
 past-end : (l : List Control) (p : ℕ) (b : Control) → length l ≡ mostControls → mostControls ≤ p → b ≡ blankControl
     → b ≡ getD l p blankControl

@@ -10,8 +10,6 @@ use Rattle.table.specs.Controls.{mostControls, placed}
 use borrow.Author.Needs.{needs}
 use Rattle.table.proofs.put.Statement.{statement}
 use Rattle.table.proofs.put.Tie as tie
-use Rattle.table.proofs.put.Reads as reads
-use Rattle.table.proofs.put.Lts as lts
 
 past-end : (t : Table) (p : ℕ) (c : Control) → length (t .controls) ≡ mostControls → mostControls ≤ p → t ≡ placed t p c
 past-end t p c h k =

@@ -9,9 +9,6 @@ use Rattle.table.specs.Controls.{mostPins}
 use Rattle.table.specs.Sound.{narrowOf, soundPin}
 use Rattle.table.proofs.sound_pin.Statement.{statement}
 use Rattle.table.proofs.sound_pin.Tie as tie
-use Rattle.table.proofs.sound_pin.Reads as reads
-use Rattle.table.proofs.sound_pin.Lts as lts
-use Rattle.table.proofs.narrow.Reads as narrow-reads
 
 -- one law for each way out
 module _ (c : Control) where
