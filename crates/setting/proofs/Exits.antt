@@ -1,15 +1,15 @@
 -- What the definitions of Setting give at each way out of the code: one law a way out, its premises what the tests passed
 -- and the functions called tell there.
 use Prim.Native.Nat.{ℕ, _+_, _-_, _%_, _^_, _≤_, _<_, min}
-use mathlib.Core.Path.{_≡_, refl, _∙_, sym, ap}
-use mathlib.Core.Bool.{Bool, true, false, not, _&&_, _||_}
+use mathlib.Core.Path.{_≡_, _∙_, sym, ap}
+use mathlib.Core.Bool.{Bool, true, false, not, _&&_}
 use native.Mathlib.Nat.{mod-lt}
 use native.Mathlib.Omega.{arith}
-use lib.Dec.{eqb, leb, ltb}
+use lib.Dec.{eqb, leb}
 use mir.Val.{Fits}
 use mir.Syntax.{w16, w32}
 use borrow.Author.Tests.{not-true, not-false, le-leb, lt-leb}
-use Rattle.ground.specs.Pick.{pick, yes, no}
+use Rattle.ground.specs.Pick.{yes, no}
 use Rattle.setting.specs.declared.Sort.{Sort}
 use Rattle.setting.specs.declared.Range.{Range}
 use Rattle.setting.specs.Grid.{Nearest, whole-steps-low, whole-steps-last, closest-at-least, closest-last, closest-high, closest-low, closest-nearest}

@@ -3,17 +3,16 @@
 --   available-means  ==  of a legal range it decides: silence, or an available setting
 --   available-heard  ==  of a legal range no available setting is silence
 --   Placed           ==  the height of an available setting, and that it is a point
-use Prim.Native.Nat.{ℕ, _+_, _*_, _≤_, _<_}
+use Prim.Native.Nat.{ℕ, _+_, _*_, _<_}
 use mathlib.Core.Path.{_≡_, refl, _∙_, sym, ap, subst}
-use mathlib.Core.Bool.{Bool, true, false, _&&_, _||_}
+use mathlib.Core.Bool.{Bool, true}
 use mathlib.Core.Logic.{_⊎_, inl, inr, ⊎-elim}
 use native.Mathlib.Omega.{arith}
 use lib.IntN.{ℤ, pos, _+ℤ_, _*ℤ_}
-use lib.Signed.{_≤ℤ_}
 use Rattle.ground.specs.Pick.{Reads, shows, reads-and, reads-or}
 use Rattle.setting.specs.declared.Sort.{Sort}
 use Rattle.setting.specs.declared.Range.{Range}
-use Rattle.setting.specs.Setting.{spanOf, biasOf, heightOf, silenceOf, fitsOf, legalOf, onGrid, availableOf}
+use Rattle.setting.specs.Setting.{spanOf, biasOf, heightOf, silenceOf, legalOf, availableOf}
 use Rattle.setting.specs.Meaning.{value, Available, Silence}
 use Rattle.setting.specs.Grid.{Point, point-reads}
 use Rattle.setting.specs.Lift.{Lift, lift-le, le-lift, lift-more, lift-height, lift-one}

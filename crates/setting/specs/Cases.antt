@@ -1,7 +1,12 @@
 -- The cases of document 01 ("Cases to prove together") that speak of settings, as a table under a single statement.
---   Case              ==  a range, a wanted value and the value stored, as the document prints them
---   found             ==  the value stored, computed by the definitions from the numbers on the wire
---   cases-hold        ==  in each case what is found is what the document says
+--   Case           ==  a range, a wanted value and the value stored, as the document prints them
+--   number s z     ==  the number on the wire that says the integer z
+--   minus n        ==  −n
+--   found t        ==  the value stored in the case t, computed by the definitions from the numbers on the wire
+--   volume x v     ==  "Volume −5120..0 by 256": x gives v
+--   bass x v       ==  "Bass −10..9 by 4": x gives v
+--   cases          ==  the document's five
+--   cases-hold     ==  in each case what is found is what the document says
 use Prim.Native.Nat.{ℕ}
 use mathlib.Core.Path.{_≡_, refl}
 use mathlib.Core.List.{List, [], _∷_, map}
@@ -22,7 +27,6 @@ pub record Case : Type 0 where
   pub wanted : ℤ
   pub stored : ℤ
 
--- the number on the wire that says an integer
 abbrev pub number : Sort → ℤ → ℕ
 number Volume z = ofZ w16 z
 number Tone z = ofZ w8 z
@@ -32,7 +36,10 @@ abbrev pub minus : ℕ → ℤ
 minus n = negℤ (pos n)
 
 unfoldable pub found : Case → ℤ
-found t = let s = t .sort in value s (closestTo s (record { min = number s (t .min); max = number s (t .max); res = number s (t .res) }) (number s (t .wanted)))
+found t =
+    let s = t .sort in
+    let range : Range = record { min = number s (t .min); max = number s (t .max); res = number s (t .res) } in
+    value s (closestTo s range (number s (t .wanted)))
 
 abbrev pub volume : ℤ → ℤ → Case
 volume wanted stored = record { sort = Volume; min = minus 5120; max = pos 0; res = pos 256; wanted = wanted; stored = stored }
@@ -43,7 +50,12 @@ bass wanted stored = record { sort = Tone; min = minus 10; max = pos 9; res = po
 -- "Volume −5120..0 by 256: −300 gives −256, −384 gives −512, 500 gives 0, −32768 stays. Bass −10..9 by 4: 9 gives 6."
 unfoldable pub cases : List Case
 cases =
-    volume (minus 300) (minus 256) ∷ volume (minus 384) (minus 512) ∷ volume (pos 500) (pos 0) ∷ volume (minus 32768) (minus 32768) ∷ bass (pos 9) (pos 6) ∷ []
+    volume (minus 300) (minus 256)
+    ∷ volume (minus 384) (minus 512)
+    ∷ volume (pos 500) (pos 0)
+    ∷ volume (minus 32768) (minus 32768)
+    ∷ bass (pos 9) (pos 6)
+    ∷ []
 
 pub cases-hold : map found cases ≡ map (λ (t : Case). t .stored) cases
 unfolding cases found fitsOf legalOf wholeSteps nearer closestHeight closestSetting closestTo

@@ -8,13 +8,12 @@
 --   closest-only       ==  and is the only number that does
 --   closest-silence    ==  what is stored is silence only where silence is wanted
 --   closest-available  ==  what is stored is a setting
-use Prim.Native.Nat.{ℕ, _+_, _≤_, _<_}
+use Prim.Native.Nat.{ℕ, _<_}
 use mathlib.Core.Path.{_≡_, refl, _∙_, sym, ap}
 use mathlib.Core.Bool.{Bool, true, false, not}
 use mathlib.Core.Logic.{_⊎_, inl, inr, ⊎-elim}
 use native.Mathlib.Omega.{arith}
 use lib.IntN.{ℤ, pos, natAbs, _-ℤ_}
-use lib.Signed.{_<ℤ_}
 use Rattle.ground.specs.Pick.{yes, no, shows}
 use Rattle.setting.specs.declared.Sort.{Sort}
 use Rattle.setting.specs.declared.Range.{Range}

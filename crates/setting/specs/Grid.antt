@@ -8,13 +8,13 @@
 --   nearest-one                  ==  there is at most one
 use Prim.Native.Nat.{ℕ, suc, _+_, _-_, _*_, _/_, _≤_, _<_, min}
 use mathlib.Core.Path.{_≡_, refl, _∙_, sym, ap}
-use mathlib.Core.Bool.{Bool, true, false, _&&_}
+use mathlib.Core.Bool.{Bool, true, false}
 use mathlib.Core.Logic.{_⊎_, inl, inr, ⊎-elim}
 use native.Mathlib.Nat.{mul-le-mul-right, suc-mul, zero-mul, mul-zero, mul-div-cancel, div-eq-of-lt-le, div-mul-le-self, lt-div-mul-add}
 use native.Mathlib.Omega.{arith}
-use lib.Dec.{eqb, leb, ltb}
-use borrow.Author.Tests.{leb-true, leb-false, lt-ltb, le-ltb, le-leb, lt-leb, eq-eqb, ne-eqb}
-use Rattle.ground.specs.Pick.{pick, yes, no, Reads, reads-and, reads-le, reads-eq}
+use lib.Dec.{leb}
+use borrow.Author.Tests.{leb-true, leb-false, lt-ltb, le-ltb, le-leb, lt-leb}
+use Rattle.ground.specs.Pick.{yes, no, Reads, reads-and, reads-le, reads-eq}
 use Rattle.setting.specs.Setting.{wholeSteps, onGrid, nearer, closestHeight}
 
 abbrev pub apart : ℕ → ℕ → ℕ

@@ -4,14 +4,14 @@
 --   height-up     ==  the height of a number that does not come round
 --   height-round  ==  the height of one that does
 --   height-back   ==  there and back is the number
-use Prim.Native.Nat.{ℕ, _+_, _-_, _*_, _%_, _≤_, _<_}
-use mathlib.Core.Path.{_≡_, refl, _∙_, sym, ap}
+use Prim.Native.Nat.{ℕ, _+_, _-_, _≤_, _<_}
+use mathlib.Core.Path.{_≡_, refl, _∙_}
 use mathlib.Core.Logic.{_⊎_, inl, inr, ⊎-elim}
 use native.Mathlib.Nat.{mod-lt, mod-eq-of-lt, mod-eq-sub-mod}
 use native.Mathlib.Omega.{arith}
 use Rattle.setting.specs.declared.Sort.{Sort}
 use Rattle.setting.specs.declared.Sort.the-variants.{Volume, Tone, Delay}
-use Rattle.setting.specs.Setting.{spanOf, biasOf, mostRes, heightOf, atHeight}
+use Rattle.setting.specs.Setting.{spanOf, biasOf, heightOf, atHeight}
 use Rattle.setting.specs.Grid.{ordered}
 
 pub span-some : (s : Sort) → 0 < spanOf s

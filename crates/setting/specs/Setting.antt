@@ -18,7 +18,7 @@
 --   closestSetting s range n         ==  the number at the closest height
 --   closestTo s range n              ==  what is stored where n is wanted
 use Prim.Native.Nat.{ℕ, _+_, _-_, _*_, _/_, _%_, min}
-use mathlib.Core.Bool.{Bool, true, false, not, _&&_, _||_}
+use mathlib.Core.Bool.{Bool, false, not, _&&_, _||_}
 use lib.Dec.{eqb, leb, ltb}
 use Rattle.ground.specs.Pick.{pick}
 use Rattle.setting.specs.declared.Sort.{Sort}
@@ -59,7 +59,12 @@ fitsOf s n = ltb n (spanOf s)
 -- not, where it is at most mostRes)
 unfoldable pub legalOf : Sort → Range → Bool
 legalOf s range =
-    fitsOf s (range .min) && (fitsOf s (range .max) && (leb (heightOf s (range .min)) (heightOf s (range .max)) && (leb 1 (range .res) && (leb (range .res) (mostRes s) && not (silenceOf s (range .min))))))
+    fitsOf s (range .min)
+    && (fitsOf s (range .max)
+    && (leb (heightOf s (range .min)) (heightOf s (range .max))
+    && (leb 1 (range .res)
+    && (leb (range .res) (mostRes s)
+    && not (silenceOf s (range .min))))))
 
 unfoldable pub wholeSteps : ℕ → ℕ → ℕ
 wholeSteps room step = room / step * step
@@ -74,7 +79,10 @@ availableOf s range n =
 
 -- low is the last point that is above neither x nor most; the next point counts if it is not above most
 unfoldable pub nearer : ℕ → ℕ → ℕ → ℕ → ℕ
-nearer most step x low = pick (ltb (most - low) step) low (pick (ltb (low + step - x) (x - low)) (low + step) low)
+nearer most step x low =
+    pick (ltb (most - low) step) low
+    (pick (ltb (low + step - x) (x - low)) (low + step)
+    low)
 
 unfoldable pub closestHeight : ℕ → ℕ → ℕ → ℕ → ℕ
 closestHeight least most step x = pick (leb x least) least (nearer most step x (least + wholeSteps (min x most - least) step))
@@ -86,4 +94,8 @@ closestSetting s range n =
 -- Silence is stored as it is. A number too wide, or one wanted of an illegal range, is given back as it is: the papers ask
 -- nothing there.
 unfoldable pub closestTo : Sort → Range → ℕ → ℕ
-closestTo s range n = pick (silenceOf s n) n (pick (not (fitsOf s n)) n (pick (not (legalOf s range)) n (closestSetting s range n)))
+closestTo s range n =
+    pick (silenceOf s n) n
+    (pick (not (fitsOf s n)) n
+    (pick (not (legalOf s range)) n
+    (closestSetting s range n)))

@@ -5,7 +5,7 @@
 --   value-apart  ==  and lie as far from each other
 --   value-one    ==  two numbers of one value are one
 --   res-value    ==  a legal RES means itself, also where the control is signed
-use Prim.Native.Nat.{ℕ, _+_, _-_, _%_, _≤_, _<_}
+use Prim.Native.Nat.{ℕ, _+_, _-_, _≤_, _<_}
 use mathlib.Core.Path.{_≡_, refl, _∙_, sym, ap}
 use mathlib.Core.Logic.{⊎-elim}
 use native.Mathlib.Nat.{mod-eq-of-lt}

@@ -1,12 +1,7 @@
+-- available meets its contract: one law of Exits for each way out.
 use borrow.Author.Needs.{needs}
 use Rattle.setting.proofs.available.Statement.{statement}
 use Rattle.setting.proofs.available.Tie as tie
-use Rattle.setting.proofs.available.Reads as reads
-use Rattle.setting.proofs.available.Lts as lts
-use Rattle.setting.proofs.fits.Reads as fits-reads
-use Rattle.setting.proofs.height.Reads as height-reads
-use Rattle.setting.proofs.on_grid.Reads as on-grid-reads
-use Rattle.setting.proofs.silence.Reads as silence-reads
 use Rattle.setting.proofs.Exits.{available-silence, available-wide, available-end}
 
 ruleset laws = (available-silence, available-wide, available-end, needs)

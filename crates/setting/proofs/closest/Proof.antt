@@ -1,14 +1,9 @@
+-- closest meets its contract: one law of Exits for each way out.
 use mathlib.Core.Path.{sym, _∙_}
 use borrow.Author.Tests.{not-false}
 use borrow.Author.Needs.{needs}
 use Rattle.setting.proofs.closest.Statement.{statement}
 use Rattle.setting.proofs.closest.Tie as tie
-use Rattle.setting.proofs.closest.Reads as reads
-use Rattle.setting.proofs.closest.Lts as lts
-use Rattle.setting.proofs.closest_setting.Reads as closest-setting-reads
-use Rattle.setting.proofs.fits.Reads as fits-reads
-use Rattle.setting.proofs.legal.Reads as legal-reads
-use Rattle.setting.proofs.silence.Reads as silence-reads
 use Rattle.setting.proofs.Exits.{closest-silence, closest-wide, closest-illegal, closest-end}
 
 ruleset laws = (closest-silence, closest-wide, closest-illegal, closest-end, needs)

@@ -1,11 +1,8 @@
+-- closest_height meets its contract: one law of Exits for each way out, and for each difference that must not fall below 0.
 use Rattle.setting.proofs.Exits.{at-least, low-below, low-fits, low-under, high-over, low-last, high-closer, low-closer}
 use borrow.Author.Needs.{needs}
 use Rattle.setting.proofs.closest_height.Statement.{statement}
 use Rattle.setting.proofs.closest_height.Tie as tie
-use Rattle.setting.proofs.closest_height.Reads as reads
-use Rattle.setting.proofs.closest_height.Lts as lts
-use Rattle.setting.proofs.lesser.Reads as lesser-reads
-use Rattle.setting.proofs.whole_steps.Reads as whole-steps-reads
 
 ruleset laws = (at-least, low-below, low-fits, low-under, high-over, low-last, high-closer, low-closer, needs)
 

@@ -1,13 +1,9 @@
+-- closest_setting meets its contract: a legal range has MIN ≤ MAX and a step, and its closest height is below the span.
 use Rattle.setting.specs.Setting.{closestSetting}
 use Rattle.setting.proofs.Exits.{min-max, res-some, closest-below}
 use borrow.Author.Needs.{needs}
 use Rattle.setting.proofs.closest_setting.Statement.{statement}
 use Rattle.setting.proofs.closest_setting.Tie as tie
-use Rattle.setting.proofs.closest_setting.Reads as reads
-use Rattle.setting.proofs.closest_setting.Lts as lts
-use Rattle.setting.proofs.closest_height.Reads as closest-height-reads
-use Rattle.setting.proofs.height.Reads as height-reads
-use Rattle.setting.proofs.number_at.Reads as number-at-reads
 
 ruleset laws = (min-max, res-some, closest-below, needs)
 

@@ -1,10 +1,8 @@
+-- fits meets its contract: the test is the definition, at the span that is called for.
 use Rattle.setting.specs.Setting.{fitsOf}
 use borrow.Author.Needs.{needs}
 use Rattle.setting.proofs.fits.Statement.{statement}
 use Rattle.setting.proofs.fits.Tie as tie
-use Rattle.setting.proofs.fits.Reads as reads
-use Rattle.setting.proofs.fits.Lts as lts
-use Rattle.setting.proofs.span.Reads as span-reads
 
 span-requires : tie.Need-span-requires
 span-requires c κs = search needs

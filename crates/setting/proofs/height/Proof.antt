@@ -1,12 +1,9 @@
+-- height meets its contract: number and bias are too small for their sum to wrap, and no span is 0.
 use native.Mathlib.Omega.{arith}
 use Rattle.setting.specs.Height.{bias-small, span-some, span-small}
 use borrow.Author.Needs.{needs}
 use Rattle.setting.proofs.height.Statement.{statement}
 use Rattle.setting.proofs.height.Tie as tie
-use Rattle.setting.proofs.height.Reads as reads
-use Rattle.setting.proofs.height.Lts as lts
-use Rattle.setting.proofs.bias.Reads as bias-reads
-use Rattle.setting.proofs.span.Reads as span-reads
 
 bias-requires : tie.Need-bias-requires
 bias-requires c κs = search needs

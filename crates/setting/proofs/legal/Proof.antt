@@ -1,12 +1,7 @@
+-- legal meets its contract: one law of Exits for each way out.
 use borrow.Author.Needs.{needs}
 use Rattle.setting.proofs.legal.Statement.{statement}
 use Rattle.setting.proofs.legal.Tie as tie
-use Rattle.setting.proofs.legal.Reads as reads
-use Rattle.setting.proofs.legal.Lts as lts
-use Rattle.setting.proofs.fits.Reads as fits-reads
-use Rattle.setting.proofs.height.Reads as height-reads
-use Rattle.setting.proofs.most_res.Reads as most-res-reads
-use Rattle.setting.proofs.silence.Reads as silence-reads
 use Rattle.setting.proofs.Exits.{min-wide, max-wide, max-low, res-none, res-large, legal-end}
 
 ruleset laws = (min-wide, max-wide, max-low, res-none, res-large, legal-end, needs)

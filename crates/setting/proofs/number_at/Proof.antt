@@ -1,13 +1,10 @@
+-- number_at meets its contract: a rest by a span of at most 65,536 fits two bytes.
 use Rattle.setting.proofs.Exits.{rest-fits}
 use native.Mathlib.Omega.{arith}
 use Rattle.setting.specs.Height.{bias-small, span-some, span-small}
 use borrow.Author.Needs.{needs}
 use Rattle.setting.proofs.number_at.Statement.{statement}
 use Rattle.setting.proofs.number_at.Tie as tie
-use Rattle.setting.proofs.number_at.Reads as reads
-use Rattle.setting.proofs.number_at.Lts as lts
-use Rattle.setting.proofs.bias.Reads as bias-reads
-use Rattle.setting.proofs.span.Reads as span-reads
 
 bias-requires : tie.Need-bias-requires
 bias-requires c κs = search needs

@@ -1,9 +1,7 @@
+-- on_grid meets its contract: one law of Exits for each way out.
 use borrow.Author.Needs.{needs}
 use Rattle.setting.proofs.on_grid.Statement.{statement}
 use Rattle.setting.proofs.on_grid.Tie as tie
-use Rattle.setting.proofs.on_grid.Reads as reads
-use Rattle.setting.proofs.on_grid.Lts as lts
-use Rattle.setting.proofs.whole_steps.Reads as whole-steps-reads
 use Rattle.setting.proofs.Exits.{grid-under, grid-over, grid-end}
 
 ruleset laws = (grid-under, grid-over, grid-end, needs)

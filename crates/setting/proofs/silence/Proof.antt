@@ -1,8 +1,7 @@
+-- silence meets its contract, sort by sort.
 use borrow.Author.Needs.{needs}
 use Rattle.setting.proofs.silence.Statement.{statement}
 use Rattle.setting.proofs.silence.Tie as tie
-use Rattle.setting.proofs.silence.Reads as reads
-use Rattle.setting.proofs.silence.Lts as lts
 
 enum-told : tie.Need-enum-told
 enum-told c = search needs

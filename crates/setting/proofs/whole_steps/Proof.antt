@@ -1,3 +1,4 @@
+-- whole_steps meets its contract; the multiple is not above room, so that it fits.
 use mathlib.Core.Path.{refl, sym}
 use native.Mathlib.Nat.{div-mul-le-self}
 use native.Mathlib.Omega.{arith}
@@ -6,8 +7,6 @@ use Rattle.setting.specs.Grid.{whole-steps-none}
 use borrow.Author.Needs.{needs}
 use Rattle.setting.proofs.whole_steps.Statement.{statement}
 use Rattle.setting.proofs.whole_steps.Tie as tie
-use Rattle.setting.proofs.whole_steps.Reads as reads
-use Rattle.setting.proofs.whole_steps.Lts as lts
 
 returns : tie.Need-returns
 returns c = let e = c .if1 .taken in rw e (sym (whole-steps-none _))
