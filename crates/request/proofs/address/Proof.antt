@@ -1,3 +1,5 @@
+-- The lookup says at once whether the unit has controls and where the control stands; a control that stands there has its
+-- unit there, so the order 33, 34 is kept.
 use borrow.Author.Needs.{needs}
 use Prim.Native.Nat.{ℕ}
 use mathlib.Core.Path.{_≡_, refl, sym, ap, _∙_}

@@ -1,3 +1,4 @@
+-- Below the least and above the most there is no setting.
 use borrow.Author.Needs.{needs}
 use Prim.Native.Nat.{ℕ, _≤_, _<_}
 use mathlib.Core.Path.{_≡_}

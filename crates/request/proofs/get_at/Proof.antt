@@ -1,3 +1,4 @@
+-- Each refusal ends it in the paper's order; past them the value has one byte or two, and they fit the reply.
 use borrow.Author.Needs.{needs}
 use Prim.Native.Nat.{ℕ, zero, suc, _≤_, _<_}
 use mathlib.Core.Path.{_≡_, refl, sym, ap, _∙_}

@@ -1,3 +1,4 @@
+-- An unranged control is always ready; a ranged one where it is loaded.
 use borrow.Author.Needs.{needs}
 use mathlib.Core.Path.{_≡_, sym, _∙_}
 use mathlib.Core.Bool.{Bool, true, false, not}

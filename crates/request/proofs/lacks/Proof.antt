@@ -1,3 +1,4 @@
+-- CUR is a part of every control; the others of the ranged ones.
 use borrow.Author.Needs.{needs}
 use mathlib.Core.Path.{_≡_, sym, _∙_}
 use mathlib.Core.Bool.{Bool, true, false, not}

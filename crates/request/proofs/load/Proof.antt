@@ -1,3 +1,4 @@
+-- 30, then the control is sought; where it stands its sense decides.
 use borrow.Author.Needs.{needs}
 use Prim.Native.Nat.{ℕ}
 use mathlib.Core.Path.{_≡_, sym, ap, _∙_}

@@ -1,3 +1,4 @@
+-- Only a ranged control can be loaded.
 use borrow.Author.Needs.{needs}
 use Prim.Native.Nat.{ℕ}
 use mathlib.Core.Path.{_≡_}

@@ -1,3 +1,4 @@
+-- A range that is illegal, or a CUR too wide, ends it; past that the control is stored with the closest setting.
 use borrow.Author.Needs.{needs}
 use Prim.Native.Nat.{ℕ}
 use mathlib.Core.Path.{_≡_, sym, _∙_}

@@ -1,3 +1,4 @@
+-- Eight bytes are read into the target, and the first two say what is asked of it.
 use borrow.Author.Needs.{needs}
 use Prim.Native.Nat.{ℕ, _+_, _*_}
 use mathlib.Core.Path.{_≡_, sym, _∙_}

@@ -1,3 +1,4 @@
+-- 30, then what the setup asks; a Set writes nothing, so it leaves the reply, and a Get hands on what it wrote.
 use borrow.Author.Needs.{needs}
 use Prim.Native.Nat.{ℕ}
 use mathlib.Core.Path.{_≡_, refl, sym, ap, _∙_}

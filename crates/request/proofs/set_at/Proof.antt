@@ -1,3 +1,4 @@
+-- Each refusal ends it in the paper's order; past them the control is stored with what is settled.
 use borrow.Author.Needs.{needs}
 use Prim.Native.Nat.{ℕ}
 use mathlib.Core.Path.{_≡_, sym, ap, _∙_}

@@ -1,3 +1,4 @@
+-- What the control holds says which numbers it takes.
 use borrow.Author.Needs.{needs}
 use Prim.Native.Nat.{ℕ}
 use mathlib.Core.Path.{_≡_}

@@ -1,3 +1,4 @@
+-- The control is put at its place, and no byte is written.
 use borrow.Author.Needs.{needs}
 use Prim.Native.Nat.{ℕ}
 use mathlib.Core.Path.{_≡_, ap}

@@ -1,3 +1,4 @@
+-- One byte, or two with the low one first.
 use borrow.Author.Needs.{needs}
 use Prim.Native.Nat.{ℕ, _+_, _*_}
 use mathlib.Core.Path.{_≡_, sym, _∙_}

@@ -1,3 +1,4 @@
+-- One byte or two are stored at the front; the rest of the list is what it was.
 use borrow.Author.Needs.{needs}
 use Prim.Native.Nat.{ℕ, _≤_, _<_, _%_, _/_}
 use mathlib.Core.Path.{_≡_, refl}

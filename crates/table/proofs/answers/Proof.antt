@@ -1,3 +1,5 @@
+-- A control answers where its unit, channel and selector are the three asked for: each test that fails ends the search for
+-- a yes.
 use borrow.Author.Needs.{needs}
 use mathlib.Core.Path.{_≡_}
 use mathlib.Core.Bool.{false}

@@ -1,3 +1,4 @@
+-- Below the last place the array is read; past it the model, too, reads a spare place.
 use Prim.Native.Nat.{ℕ, _≤_}
 use mathlib.Core.Path.{_≡_, sym, _∙_}
 use mathlib.Core.List.{List}

@@ -1,3 +1,4 @@
+-- An array of spare places is the list of as many.
 use borrow.Author.Needs.{needs}
 use Rattle.table.proofs.empty.Statement.{statement}
 use Rattle.table.proofs.empty.Tie as tie

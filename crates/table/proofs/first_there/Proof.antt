@@ -1,3 +1,4 @@
+-- The search says where the control first stands; the answer is whether that is this place.
 use borrow.Author.Needs.{needs}
 use Prim.Native.Nat.{ℕ}
 use mathlib.Core.Path.{_≡_, sym, ap, _∙_}

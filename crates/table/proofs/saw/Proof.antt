@@ -1,3 +1,4 @@
+-- What was seen stays seen; else this control decides.
 use Prim.Native.Nat.{ℕ}
 use mathlib.Core.Path.{_≡_, sym, ap}
 use mathlib.Core.Bool.{Bool, false, _||_}

@@ -1,3 +1,4 @@
+-- Each number of document 01 by itself; any other is unknown.
 use borrow.Author.Needs.{needs}
 use Prim.Native.Nat.{ℕ}
 use mathlib.Core.Path.{_≡_}

@@ -1,3 +1,4 @@
+-- The sense of the selector says which of the three tests is asked.
 use borrow.Author.Needs.{needs}
 use mathlib.Core.Path.{_≡_, sym, ap, _∙_}
 use mathlib.Core.Bool.{Bool, false}

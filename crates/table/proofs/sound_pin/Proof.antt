@@ -1,3 +1,5 @@
+-- Each thing that 30 has against a Selector's control ends it, in the order of the definition; the last test is the
+-- answer.
 use borrow.Author.Needs.{needs}
 use Prim.Native.Nat.{_≤_, _<_}
 use mathlib.Core.Path.{_≡_, sym, _∙_}

@@ -1,3 +1,4 @@
+-- Each thing that 30 has against a ranged control ends it; one that is not loaded passes after its channel.
 use borrow.Author.Needs.{needs}
 use Prim.Native.Nat.{_≤_, _<_}
 use mathlib.Core.Path.{_≡_, sym, _∙_}

@@ -1,3 +1,4 @@
+-- Each thing that 30 has against a yes/no control ends it; the last test is the answer.
 use borrow.Author.Needs.{needs}
 use Prim.Native.Nat.{_≤_, _<_}
 use mathlib.Core.Path.{_≡_, sym, _∙_}
