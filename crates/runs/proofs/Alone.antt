@@ -3,20 +3,19 @@
 --   Alone t k v   ==  v differs from t in the numbers of the control k alone
 --   alone         ==  so does every step's table
 --   step-sound, run-sound  ==  no step, and no run, leaves a table that 30 turns away
-use Prim.Native.Nat.{ℕ, _<_}
+use Prim.Native.Nat.{ℕ}
 use mathlib.Core.Path.{_≡_, refl, sym, ap, _∙_, subst}
 use mathlib.Core.List.{List, [], _∷_, List·Memᴰ·head, List·Memᴰ·tail}
 use mathlib.Core.Bool.{Bool, true, false}
-use mathlib.Core.Logic.{_⊎_, inl, inr, ⊎-elim}
+use mathlib.Core.Logic.{_⊎_, ⊎-elim}
 use native.Mathlib.Omega.{arith}
 use lib.Dec.{eqb}
-use lib.ListN.{length, set, length-set}
-use Rattle.ground.specs.Pick.{pick, shows, decided, reads-eq}
+use lib.ListN.{length, length-set}
+use Rattle.ground.specs.Pick.{pick, decided, reads-eq}
 use Rattle.ground.specs.Numbers.{byte}
 use Rattle.setting.specs.declared.Range.{Range}
 use Rattle.table.specs.declared.Control.{Control}
 use Rattle.table.specs.declared.Table.{Table}
-use Rattle.table.specs.declared.Found.{Found}
 use Rattle.table.specs.declared.Found.the-variants as found
 use Rattle.table.specs.Controls.{at, placed}
 use Rattle.table.specs.Sound.{soundOf}
@@ -29,13 +28,13 @@ use Rattle.request.specs.declared.Asked.{Asked}
 use Rattle.request.specs.declared.Asked.the-variants as asks
 use Rattle.request.specs.Outcome.{Outcome, tableAfter}
 use Rattle.request.specs.Outcome.Outcome.{refused, got, done}
-use Rattle.request.specs.Load.{loadedWith, loadOf}
+use Rattle.request.specs.Load.{loadOf}
 use Rattle.request.specs.Request.{targetOf, getAsked, askedBy, askedOf, withCur, requestOf}
-use Rattle.runs.specs.Runs.{Key, whereIs, keyOf, Step, stepOf, tableNext, after, stepKey, Bytes, sent, Wired}
+use Rattle.runs.specs.Runs.{Key, whereIs, keyOf, Step, tableNext, after, stepKey, Bytes, sent, Wired}
 use Rattle.runs.specs.Runs.Step.{load, request}
-use Rattle.runs.proofs.Taken.{LoadTaken, SetTaken, load-taken, set-taken, load-not-got}
+use Rattle.runs.proofs.Taken.{load-taken, set-taken}
 use Rattle.runs.proofs.Kept.{load-same, set-same, place-inside}
-use Rattle.runs.proofs.Moved.{Moved, one-step}
+use Rattle.runs.proofs.Moved.{one-step}
 
 pub record Alone (t : Table) (k : Key) (v : Table) : Type 0 where
   pub count : v .count ≡ t .count

@@ -9,15 +9,14 @@
 --   Answers t run s bytes  ==  the setup s is a Get, the control that it addresses stands in the table t, and the bytes are, low
 --                              first, the number that Means asks
 --   get-answers            ==  every Get that is answered after a run is answered so
-use Prim.Native.Nat.{ℕ, _<_}
+use Prim.Native.Nat.{ℕ}
 use mathlib.Core.Path.{_≡_, refl, sym, ap, _∙_}
 use mathlib.Core.List.{List, [], _∷_}
-use mathlib.Core.Bool.{Bool, true, false, not, _&&_}
+use mathlib.Core.Bool.{true, false}
 use borrow.Author.Tests.{not-false}
-use Rattle.ground.specs.Pick.{shows}
 use Rattle.setting.specs.Setting.{fitsOf, closestTo}
 use Rattle.setting.specs.Meaning.{value, Stored}
-use Rattle.setting.specs.Closest.{closest-fits, closest-self, closest-means}
+use Rattle.setting.specs.Closest.{closest-self, closest-means}
 use Rattle.setting.specs.declared.Sort.{Sort}
 use Rattle.setting.specs.declared.Range.{Range}
 use Rattle.table.specs.declared.Control.{Control}
@@ -26,7 +25,7 @@ use Rattle.table.specs.declared.Sense.{Sense}
 use Rattle.table.specs.declared.Sense.the-variants.{Unknown, YesNo, Ranged, Pin}
 use Rattle.table.specs.declared.Found.the-variants as found
 use Rattle.table.specs.Controls.{at, senseOf, sizeOf, rangeOf}
-use Rattle.table.specs.Meaning.{Same, SoundAs, Sound}
+use Rattle.table.specs.Meaning.{SoundAs, Sound}
 use Rattle.table.specs.Placed.{kept-found}
 use Rattle.request.specs.declared.Part.{Part}
 use Rattle.request.specs.declared.Part.the-variants.{Cur, Min, Max, Res}
@@ -34,8 +33,8 @@ use Rattle.request.specs.declared.Target.{Target}
 use Rattle.request.specs.declared.Asked.the-variants.{Get}
 use Rattle.request.specs.Outcome.{lowFirst}
 use Rattle.request.specs.Outcome.Outcome.{got}
-use Rattle.request.specs.Request.{askedOf, partOf, unready, isRanged, requestOf}
-use Rattle.runs.specs.Runs.{Key, whereIs, keyOf, Step, stepKey, tableNext, after, rangesIn, numbersIn, told, lastOf, Held, StandsFor, Wired}
+use Rattle.request.specs.Request.{askedOf, partOf, unready, requestOf}
+use Rattle.runs.specs.Runs.{Key, whereIs, keyOf, Step, tableNext, after, rangesIn, numbersIn, told, lastOf, StandsFor, Wired}
 use Rattle.runs.proofs.Taken.{GetTaken, get-taken}
 use Rattle.runs.proofs.Kept.{place-below}
 use Rattle.runs.proofs.Moved.{Moved, whole-run, sense-at}

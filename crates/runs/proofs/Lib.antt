@@ -5,3 +5,4 @@ pub mod Alone
 pub mod Refusals
 pub mod Answers
 pub mod Rows
+pub mod Case

@@ -5,41 +5,32 @@
 --                            it is as it was where ns is empty; and 30 has nothing against the table
 --   one-step             ==  so does every step, with what it tells k if it is accepted
 --   whole-run            ==  and every run
-use Prim.Native.Nat.{ℕ, _≤_, _<_}
+use Prim.Native.Nat.{ℕ}
 use mathlib.Core.Path.{_≡_, refl, sym, ap, _∙_}
-use mathlib.Core.List.{List, [], _∷_, _++_, List·Memᴰ, List·Memᴰ·head, List·Memᴰ·tail}
-use mathlib.Core.Bool.{Bool, true, false, not, _&&_, _||_, or-true, or-false, or-assoc}
+use mathlib.Core.List.{List, [], _∷_, _++_, List·Memᴰ·head, List·Memᴰ·tail}
+use mathlib.Core.Bool.{Bool, true, false, _||_, or-true, or-false, or-assoc}
 use native.Mathlib.Omega.{arith}
-use lib.Dec.{eqb}
-use lib.ListN.{length, getD}
-use borrow.Author.Tests.{eq-eqb}
-use Rattle.ground.specs.Pick.{pick, Reads, shows, refutes, true≠false, reads-and, reads-eq}
-use Rattle.setting.specs.Setting.{fitsOf, closestTo}
+use lib.ListN.{length}
+use Rattle.ground.specs.Pick.{pick, Reads, reads-and, reads-eq}
+use Rattle.setting.specs.Setting.{fitsOf}
 use Rattle.setting.specs.declared.Sort.{Sort}
 use Rattle.setting.specs.declared.Range.{Range}
 use Rattle.table.specs.declared.Control.{Control}
 use Rattle.table.specs.declared.Table.{Table}
 use Rattle.table.specs.declared.Sense.{Sense}
 use Rattle.table.specs.declared.Sense.the-variants as sense
-use Rattle.table.specs.declared.Found.{Found}
 use Rattle.table.specs.declared.Found.the-variants as found
 use Rattle.table.specs.Controls.{at, placed, senseOf, sizeOf, rangeOf, answersTo}
-use Rattle.table.specs.First.{foundIn}
 use Rattle.table.specs.Meaning.{Same, SoundAs, Sound}
 use Rattle.table.specs.Placed.{same-self, same-by, placed-here, placed-elsewhere, placed-found, placed-sound}
-use Rattle.request.specs.declared.Part.{Part}
-use Rattle.request.specs.declared.Target.{Target}
-use Rattle.request.specs.declared.Asked.{Asked}
-use Rattle.request.specs.declared.Asked.the-variants as asks
-use Rattle.request.specs.declared.Settled.{Settled}
-use Rattle.request.specs.declared.Settled.the-variants.{NoSetting, To}
+use Rattle.request.specs.declared.Settled.the-variants.{To}
 use Rattle.request.specs.Outcome.{Outcome, tableAfter}
 use Rattle.request.specs.Outcome.Outcome.{refused, got, done}
 use Rattle.request.specs.Load.{loadedWith, loadOf}
-use Rattle.request.specs.Request.{askedOf, valueIn, unready, settledOf, withCur, requestOf}
-use Rattle.runs.specs.Runs.{Key, whereIs, keyOf, Step, stepOf, accepted, tableNext, after, sameKey, rangesIn, numbersAsked, numbersIn, heard, told, lastOf, some, Held, StandsFor, Bytes, sent, Wired}
+use Rattle.request.specs.Request.{askedOf, valueIn, settledOf, withCur, requestOf}
+use Rattle.runs.specs.Runs.{Key, whereIs, keyOf, Step, accepted, tableNext, after, sameKey, rangesIn, numbersAsked, numbersIn, heard, told, lastOf, some, StandsFor, Bytes, sent, Wired}
 use Rattle.runs.specs.Runs.Step.{load, request}
-use Rattle.runs.proofs.Taken.{LoadTaken, SetTaken, GetTaken, load-taken, set-taken, get-taken, load-not-got}
+use Rattle.runs.proofs.Taken.{LoadTaken, SetTaken, load-taken, set-taken, get-taken, load-not-got}
 use Rattle.runs.proofs.Kept.{load-same, set-same, load-sound, set-sound, place-answers, place-below, place-inside, sent-fits, between-only}
 
 pub record Moved (t : Table) (k : Key) (p : ℕ) (rs : List Range) (ns : List ℕ) (v : Table) : Type 0 where

@@ -1,21 +1,20 @@
 -- What a refusal leaves, which numbers there are, and what an answer depends on.
 --   refused-keeps    ==  "All leave table and reply as they stood": a step whose number is not 0 changes neither
 --   LoadNumber, RequestNumber  ==  the numbers that the paper has for a load and for a request
---   step-numbers     ==  every step gets 0 or a number of the paper, and 0 exactly where it is accepted: never both
+--   load-numbers, request-numbers, accepted-is-0  ==  every step gets 0 or a number of the paper, and 0 exactly where it is accepted: never both
+--   answered-one     ==  two results that the contract of a request allows are equal, and so are the two replies
 --   reply-unread     ==  the answer and the bytes written depend on the table, the number, the setup, the data and the reply's
 --                        length alone
-use Prim.Native.Nat.{ℕ, _≤_, _<_}
+use Prim.Native.Nat.{ℕ, _≤_}
 use mathlib.Core.Path.{_≡_, refl, sym, ap, _∙_, subst}
-use mathlib.Core.List.{List, [], _∷_, _++_}
+use mathlib.Core.List.{List}
 use mathlib.Core.Bool.{Bool, true, false, not, _&&_, _||_}
-use mathlib.Core.Logic.{_⊎_, inl, inr, ⊎-elim}
 use native.Mathlib.Omega.{arith}
 use lib.Dec.{eqb, ltb}
 use lib.ListN.{length}
 use borrow.Author.Tests.{ne-eqb}
 use Rattle.ground.specs.Pick.{pick}
 use Rattle.setting.specs.Setting.{fitsOf, legalOf}
-use Rattle.setting.specs.declared.Sort.{Sort}
 use Rattle.setting.specs.declared.Range.{Range}
 use Rattle.table.specs.declared.Table.{Table}
 use Rattle.table.specs.declared.Sense.{Sense}
@@ -38,7 +37,7 @@ use Rattle.request.specs.Outcome.{Outcome, numberOf, bytesOf, tableAfter, answe
 use Rattle.request.specs.Outcome.Outcome.{refused, got, done}
 use Rattle.request.specs.Load.{loadRange, loadBy, loadAt, loadOf}
 use Rattle.request.specs.Request.{placeOf, addressedIn, lacking, unready, valueIn, settledOf, setTo, setBy, setFrom, getBy, getFrom, askedOf, answerAsked, requestOf}
-use Rattle.runs.specs.Runs.{Key, Step, stepOf, accepted}
+use Rattle.runs.specs.Runs.{Step, stepOf, accepted}
 use Rattle.runs.specs.Runs.Step.{load, request}
 
 pub record Keeps (t : Table) (b : List ℕ) (o : Outcome) : Type 0 where
@@ -184,6 +183,10 @@ no-load-0 n e load-21 = omega arith
 pub accepted-is-0 : (t : Table) (st : Step) → accepted (stepOf t st) ≡ eqb (numberOf (stepOf t st)) 0
 accepted-is-0 t (load k range w) = accepted-by LoadNumber (no-load-0 0 refl) _ (load-numbers t (k .unit) (k .channel) (k .selector) range w)
 accepted-is-0 t (request n s d room) = accepted-by RequestNumber (λ h. let f = h .from in omega arith) _ (request-numbers t n s d room)
+
+-- the contract of a request settles its result and its reply
+pub answered-one : (t : Table) (o : Outcome) (b : List ℕ) (r q : Answer) (a e : List ℕ) → Answered t o b r a → Answered t o b q e → (r ≡ q) × (a ≡ e)
+answered-one t o b r q a e x y = (x .result ∙ sym (y .result), x .lent ∙ sym (y .lent))
 
 -- two calls that differ in what the lent reply held
 pub record Agree (b a c e : List ℕ) : Type 0 where

@@ -1,18 +1,17 @@
 -- Each refusal exactly where the paper gives it: the number of a load or a request is that of the first row of the paper's table
 -- that applies, and 0 where none does.
-use Prim.Native.Nat.{ℕ, _+_, _*_, _≤_, _<_}
-use mathlib.Core.Path.{_≡_, refl, sym, ap, _∙_, subst}
-use mathlib.Core.List.{List, [], _∷_}
+use Prim.Native.Nat.{ℕ, _≤_}
+use mathlib.Core.Path.{_≡_, refl, sym, ap, _∙_}
+use mathlib.Core.List.{List}
 use mathlib.Core.Bool.{Bool, true, false, not, _&&_, _||_, or-false}
-use mathlib.Core.Logic.{_⊎_, inl, inr, ⊎-elim}
+use mathlib.Core.Logic.{_⊎_, ⊎-elim}
 use native.Mathlib.Omega.{arith}
 use lib.Dec.{eqb, leb, ltb, leb·zero}
 use lib.ListN.{length}
-use borrow.Author.Tests.{eq-eqb, ne-eqb}
+use borrow.Author.Tests.{ne-eqb}
 use Rattle.ground.specs.Pick.{pick, yes, no, decided, refutes, reads-eq, reads-le, reads-and}
 use Rattle.ground.specs.Numbers.{byte, word}
 use Rattle.setting.specs.Setting.{fitsOf, legalOf}
-use Rattle.setting.specs.declared.Sort.{Sort}
 use Rattle.setting.specs.declared.Range.{Range}
 use Rattle.table.specs.declared.Control.{Control}
 use Rattle.table.specs.declared.Table.{Table}
@@ -26,17 +25,15 @@ use Rattle.table.specs.Sound.{soundOf}
 use Rattle.request.specs.declared.Target.{Target}
 use Rattle.request.specs.declared.Part.{Part}
 use Rattle.request.specs.declared.Part.the-variants.{Cur, Min, Max, Res}
-use Rattle.request.specs.declared.Asked.{Asked}
 use Rattle.request.specs.declared.Asked.the-variants as asks
 use Rattle.request.specs.declared.Addressed.{Addressed}
 use Rattle.request.specs.declared.Addressed.the-variants.{Refused, At}
-use Rattle.request.specs.declared.Settled.{Settled}
 use Rattle.request.specs.declared.Settled.the-variants.{NoSetting, To}
 use Rattle.request.specs.Outcome.{Outcome, numberOf, lowFirst}
-use Rattle.request.specs.Outcome.Outcome.{refused, got, done}
+use Rattle.request.specs.Outcome.Outcome.{refused, got}
 use Rattle.request.specs.Load.{loadRange, loadBy, loadAt, loadOf}
 use Rattle.request.specs.Request.{targetOf, getAsked, askedBy, askedOf, placeOf, addressedIn, isRanged, ofRange, partOf, lacking, unready, valueIn, settledBetween, settledOf, setTo, setBy, setFrom, getBy, getFrom, answerAsked, requestOf}
-use Rattle.runs.specs.Rows.{row, firstRow, isSet, isGet, wellAsked, rangePart, atFound, named, takes, inRange, controlRows, placeRows, requestRows, loadRows}
+use Rattle.runs.specs.Rows.{firstRow, isSet, isGet, wellAsked, rangePart, named, takes, inRange, controlRows, placeRows, requestRows, loadRows}
 
 number-pick : (b : Bool) (x y : Outcome) → numberOf (pick b x y) ≡ pick b (numberOf x) (numberOf y)
 number-pick true x y = refl

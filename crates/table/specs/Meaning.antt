@@ -14,15 +14,15 @@
 --   sound-empty     ==  the empty table is one
 --   found-unit      ==  the unit of a control that is found is a unit with controls
 --   sound-counted   ==  each control of such a table stands in the array
-use Prim.Native.Nat.{ℕ, zero, suc, _+_, _-_, _≤_, _<_, min}
+use Prim.Native.Nat.{ℕ, _-_, _≤_, _<_, min}
 use mathlib.Core.Path.{_≡_, refl, sym, ap, _∙_}
 use mathlib.Core.Bool.{Bool, true, false, not, _&&_, _||_}
-use mathlib.Core.Logic.{_⊎_, inl, inr, ⊎-elim}
+use mathlib.Core.Logic.{_⊎_, ⊎-elim}
 use native.Mathlib.Omega.{arith}
 use lib.Dec.{eqb, leb}
-use lib.ListN.{length, getD, List·getD-eq-default}
-use borrow.Author.Tests.{not-true, not-false, eqb-true}
-use Rattle.ground.specs.Pick.{true≠false, Reads, shows, refutes, decided, reads-eq, reads-le, reads-and, reads-not}
+use lib.ListN.{length, List·getD-eq-default}
+use borrow.Author.Tests.{not-false, eqb-true}
+use Rattle.ground.specs.Pick.{true≠false, Reads, shows, refutes, decided, reads-eq, reads-le, reads-and}
 use Rattle.setting.specs.Setting.{fitsOf, legalOf, availableOf}
 use Rattle.setting.specs.Legal.{reads-itself}
 use Rattle.setting.specs.declared.Sort.{Sort}
@@ -34,7 +34,7 @@ use Rattle.table.specs.declared.Found.{Found}
 use Rattle.table.specs.declared.Found.the-variants.{Nothing, At}
 use Rattle.table.specs.Controls.{mostControls, mostPins, blankControl, emptyTable, at, senseOf, rangeOf, answersTo}
 use Rattle.table.specs.First.{firstFrom, isSome, places, foundIn, unitIn}
-use Rattle.table.specs.FirstLaws.{FirstAt, NoneOf, first-none, none-first, first-at, at-first}
+use Rattle.table.specs.FirstLaws.{FirstAt, first-none, none-first, first-at, at-first}
 use Rattle.table.specs.Sound.{narrowOf, soundYesNo, soundPin, soundRanged, soundBy, soundControl, isAt, firstThere, soundPlace, soundOf}
 
 pub record Narrow (c : Control) : Type 0 where

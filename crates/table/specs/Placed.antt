@@ -6,13 +6,11 @@
 --   kept-found       ==  tables whose places hold the same controls find each where the other does
 --   placed-found     ==  each control is found where it was
 --   placed-sound     ==  30 has nothing against the table if it had nothing and has nothing against the control
-use Prim.Native.Nat.{ℕ, _≤_, _<_, min}
+use Prim.Native.Nat.{ℕ, _<_, min}
 use mathlib.Core.Path.{_≡_, refl, sym, ap, _∙_}
-use mathlib.Core.Bool.{Bool, true, false}
 use mathlib.Core.Logic.{⊎-elim}
-use native.Mathlib.Omega.{arith}
 use lib.Dec.{eqb}
-use lib.ListN.{length, getD, set}
+use lib.ListN.{length}
 use lib.Seq.{getD-set-same, getD-set-other}
 use Rattle.ground.specs.Pick.{decided, reads-eq}
 use Rattle.table.specs.declared.Control.{Control}
@@ -20,7 +18,7 @@ use Rattle.table.specs.declared.Table.{Table}
 use Rattle.table.specs.Controls.{mostControls, blankControl, at, placed, senseOf, answersTo}
 use Rattle.table.specs.First.{firstFrom, places, foundIn}
 use Rattle.table.specs.FirstLaws.{first-same}
-use Rattle.table.specs.Meaning.{Same, SoundAs, Sound, sound-counted}
+use Rattle.table.specs.Meaning.{Same, SoundAs, Sound}
 
 pub same-self : (a : Control) → Same a a
 same-self a = record { unit = refl; channel = refl; selector = refl }

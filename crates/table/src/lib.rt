@@ -87,10 +87,10 @@ pub fn empty() -> Table
 pub fn control_at(table: Table, place: usize) -> Control
     ensures { λ r. ⌜ r ≡ at table place ⌝ }
 {
-    if place < CONTROLS {
-        return table.controls[place];
+    if CONTROLS <= place {
+        return blank();
     }
-    blank()
+    table.controls[place]
 }
 
 // The table with the control at a place, and else as it was; past the last place nothing can be put.

@@ -1,3 +1,5 @@
+-- The lookup says at once whether the unit has controls and where the control stands; a control that stands there has its
+-- unit there, so the order 33, 34 is kept.
 use borrow.Author.Needs.{needs}
 use Prim.Native.Nat.{ℕ}
 use mathlib.Core.Path.{_≡_, refl, sym, ap, _∙_}
@@ -17,9 +19,6 @@ use Rattle.request.specs.declared.Addressed.the-variants.{Refused, At}
 use Rattle.request.specs.Request.{placeOf, addressedIn}
 use Rattle.request.proofs.address.Statement.{statement}
 use Rattle.request.proofs.address.Tie as tie
-use Rattle.request.proofs.address.Reads as reads
-use Rattle.request.proofs.address.Lts as lts
-use Rattle.table.proofs.look_up.Reads as look-up-reads
 
 -- what a lookup says of the two that it answers at once
 says-no-unit : (f : Found) (b : Bool) → lookupBy f b ≡ lookup.NoUnit → b ≡ false

@@ -1,7 +1,7 @@
 -- The search has come to a place, and what is left of it is the whole search.
 use borrow.Author.Needs.{needs}
 use Prim.Native.Nat.{ℕ, _+_, _-_, _≤_, _<_}
-use mathlib.Core.Path.{_≡_, refl, sym, _∙_}
+use mathlib.Core.Path.{_≡_, sym, _∙_}
 use mathlib.Core.Bool.{Bool, true, false}
 use native.Mathlib.Nat.{sub-zero}
 use native.Mathlib.Omega.{arith}
@@ -12,9 +12,6 @@ use Rattle.table.specs.First.{firstFrom, places, foundIn}
 use Rattle.table.specs.FirstLaws.{first-here, first-on, first-over}
 use Rattle.table.proofs.find.Statement.{statement}
 use Rattle.table.proofs.find.Tie as tie
-use Rattle.table.proofs.find.Reads as reads
-use Rattle.table.proofs.find.Lts as lts
-use Rattle.table.proofs.answers.Reads as answers-reads
 
 module _ (t : Table) (u ch s : ℕ) where
   abbrev wanted : ℕ → Bool

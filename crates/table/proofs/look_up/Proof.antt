@@ -1,7 +1,7 @@
 -- The search has come to a place, and what is left of it, with what was seen, is the whole search.
 use borrow.Author.Needs.{needs}
 use Prim.Native.Nat.{ℕ, _+_, _-_, _≤_, _<_}
-use mathlib.Core.Path.{_≡_, refl, sym, ap, _∙_}
+use mathlib.Core.Path.{_≡_, sym, ap, _∙_}
 use mathlib.Core.Bool.{Bool, true, false, _||_, or-false, or-assoc}
 use native.Mathlib.Nat.{sub-zero}
 use native.Mathlib.Omega.{arith}
@@ -16,11 +16,6 @@ use Rattle.table.specs.First.{firstFrom, isSome, places, foundIn, unitIn
 use Rattle.table.specs.FirstLaws.{first-here, first-on, first-over, some-on}
 use Rattle.table.proofs.look_up.Statement.{statement}
 use Rattle.table.proofs.look_up.Tie as tie
-use Rattle.table.proofs.look_up.Reads as reads
-use Rattle.table.proofs.look_up.Lts as lts
-use Rattle.table.proofs.answers.Reads as answers-reads
-use Rattle.table.proofs.missing.Reads as missing-reads
-use Rattle.table.proofs.saw.Reads as saw-reads
 
 module _ (t : Table) (u ch s : ℕ) where
   abbrev wanted : ℕ → Bool

@@ -1,3 +1,4 @@
+-- What was seen stays seen; else this control decides.
 use Prim.Native.Nat.{ℕ}
 use mathlib.Core.Path.{_≡_, sym, ap}
 use mathlib.Core.Bool.{Bool, false, _||_}
@@ -7,8 +8,6 @@ use Rattle.table.specs.First.{sawUnit}
 use borrow.Author.Needs.{needs}
 use Rattle.table.proofs.saw.Statement.{statement}
 use Rattle.table.proofs.saw.Tie as tie
-use Rattle.table.proofs.saw.Reads as reads
-use Rattle.table.proofs.saw.Lts as lts
 
 unseen : (seen : Bool) (u : ℕ) (c : Control) → seen ≡ false → eqb (c .unit) u ≡ sawUnit seen u c
 unseen seen u c e = sym (ap (λ (b : Bool). b || eqb (c .unit) u) e)

@@ -1,8 +1,8 @@
 -- The test has come to a place, and what is left of it is the whole test.
 use borrow.Author.Needs.{needs}
 use Prim.Native.Nat.{ℕ, _+_, _-_, _≤_, _<_}
-use mathlib.Core.Path.{_≡_, refl, sym, ap, _∙_}
-use mathlib.Core.Bool.{Bool, true, false, not, _&&_}
+use mathlib.Core.Path.{_≡_, sym, ap, _∙_}
+use mathlib.Core.Bool.{Bool, true, false, not}
 use native.Mathlib.Nat.{sub-zero}
 use native.Mathlib.Omega.{arith}
 use borrow.Author.Tests.{le-leb, lt-leb, not-true, not-false}
@@ -14,10 +14,6 @@ use Rattle.table.specs.FirstLaws.{first-here, first-on, first-over}
 use Rattle.table.specs.Sound.{soundControl, firstThere, soundPlace, soundOf}
 use Rattle.table.proofs.sound.Statement.{statement}
 use Rattle.table.proofs.sound.Tie as tie
-use Rattle.table.proofs.sound.Reads as reads
-use Rattle.table.proofs.sound.Lts as lts
-use Rattle.table.proofs.first_there.Reads as first-there-reads
-use Rattle.table.proofs.sound_control.Reads as sound-control-reads
 
 module _ (t : Table) where
   abbrev bad : ℕ → Bool
