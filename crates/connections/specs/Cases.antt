@@ -6,7 +6,6 @@ use Prim.Native.Nat.{ℕ}
 use mathlib.Core.Path.{_≡_, refl}
 use mathlib.Core.List.{List, [], _∷_}
 use lib.Count.{ones, onesIn}
-use Rattle.ground.specs.declared.Refusal.{Refusal}
 use Rattle.ground.specs.Refuse.{none, refuse}
 use Rattle.ground.specs.Lists.{any, pad}
 use Rattle.layout.specs.Layout.{entityOf, inputOf, outputOf, mixerOf, selectorOf, featureOf, idOf}

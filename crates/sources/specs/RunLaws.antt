@@ -3,7 +3,7 @@
 --   id-read, sources-read, place-read  ==  its ID, its source IDs, and its place: the lengths before it, from p on
 --   ids-read            ==  the IDs of the run are those of the descriptors
 --   places-rise         ==  an entity that stands before another has the lower place: the first by number is the first by place
-use Prim.Native.Nat.{ℕ, zero, suc, _+_, _≤_, _<_, zero-le}
+use Prim.Native.Nat.{ℕ, zero, suc, _+_, _≤_, _<_}
 use mathlib.Core.Path.{_≡_, refl, sym, ap, _∙_}
 use mathlib.Core.List.{List, [], _∷_, map, List·Memᴰ, List·Memᴰ·head, List·Memᴰ·tail}
 use native.Mathlib.Omega.{arith}
