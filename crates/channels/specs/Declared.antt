@@ -7,11 +7,11 @@
 use Prim.Native.Nat.{ℕ, _+_, _-_, _≤_, _<_}
 use mathlib.Core.Path.{_≡_, refl, sym}
 use mathlib.Core.Bool.{Bool, true, false, _&&_}
-use mathlib.Core.Logic.{_⊎_, inl, inr, ⊎-elim}
+use mathlib.Core.Logic.{⊎-elim}
 use lib.Count.{ones}
 use lib.Dec.{eqb, ltb, leb}
 use native.Mathlib.Omega.{arith}
-use Rattle.ground.specs.Pick.{pick, yes, no, Reads, shows, refutes, decided, reads-true, reads-eq, reads-lt, reads-le, reads-and, reads-within, within, true≠false}
+use Rattle.ground.specs.Pick.{pick, Reads, decided, reads-eq, reads-lt, reads-le, reads-and, reads-within, within, true≠false}
 use Rattle.layout.specs.declared.Cluster.{Cluster}
 
 abbrev pub mostChannels : ℕ

@@ -10,7 +10,7 @@
 --   Settled ed run      ==  the theorem; settled-topology: its proof
 use Prim.Native.Nat.{ℕ, _<_}
 use mathlib.Core.Path.{_≡_, sym, ap, _∙_, subst}
-use mathlib.Core.Bool.{Bool, true, false, not}
+use mathlib.Core.Bool.{Bool, not}
 use mathlib.Core.Logic.{_↔_}
 use mathlib.Core.List.{List}
 use native.Mathlib.Omega.{arith}
@@ -23,9 +23,9 @@ use Rattle.layout.specs.declared.Entity.{Entity}
 use Rattle.entities.specs.declared.Run.{Run}
 use Rattle.entities.specs.Run.{mostEntities}
 use Rattle.graph.specs.Members.{_∈_}
-use Rattle.graph.specs.Ranks.{Ranks, AllSettled}
+use Rattle.graph.specs.Ranks.{AllSettled}
 use Rattle.graph.specs.Clusters.{entering, Made, after, after-made}
-use Rattle.graph.specs.Validity.{Valid, valid-parts, valid-cluster, valid-unique, reads-fits, fits-settled}
+use Rattle.graph.specs.Validity.{Valid, valid-parts, valid-cluster, valid-unique, reads-fits}
 use Rattle.graph.specs.Places.{after-at, entering-at}
 use Rattle.sources.specs.Held.{held, entityAt, idAt, placeAt, linkedTo}
 use Rattle.sources.specs.Firsts.{Breaks, breach-nowhere, breach-at}

@@ -5,7 +5,9 @@ ghost use Prim.Native.Nat.{_≤_};
 ghost use lib.Dec.{eqb};
 ghost use lib.ListN.{getD, take};
 ghost use Rattle.graph.specs.Rounds.{clusterRound, clusterRounds};
+ghost use Rattle.entities.specs.Run.{mostEntities};
 ghost use Rattle.sources.specs.Held.{entityAt, linked, linkedTo};
+ghost use Rattle.ranks.specs.Rules.{mostSteps};
 ghost use Rattle.clusters.specs.Audio.{firstOf, channelsIn, alike, alikeIn, Entering, giveOut, mixerLength, mixerKept, featureLength, featureKept, keeps, audio};
 ghost use Rattle.clusters.specs.Edition.{noCluster, clustersAt, ruleAt, clustersOf, breach13};
 use entities::MOST_ENTITIES;
@@ -72,7 +74,7 @@ fn give_out(entity: Entity, first: Cluster) -> Cluster
 
 // One round: each entity gives out by what the last round gave out.
 fn round(run: Run, links: [Link; 32], now: [Cluster; 32]) -> [Cluster; 32]
-    ensures { λ r. ⌜ r ≡ clusterRound 32 (linkedTo links) (ruleAt audio run) noCluster now ⌝ }
+    ensures { λ r. ⌜ r ≡ clusterRound mostEntities (linkedTo links) (ruleAt audio run) noCluster now ⌝ }
 {
     let none = no_cluster();
     let mut next = [none; 32];
@@ -87,7 +89,7 @@ fn round(run: Run, links: [Link; 32], now: [Cluster; 32]) -> [Cluster; 32]
 
 // All the rounds.
 fn rounds(run: Run, links: [Link; 32]) -> [Cluster; 32]
-    ensures { λ r. ⌜ r ≡ clusterRounds 32 (linkedTo links) (ruleAt audio run) noCluster noCluster 32 ⌝ }
+    ensures { λ r. ⌜ r ≡ clusterRounds mostEntities (linkedTo links) (ruleAt audio run) noCluster noCluster mostSteps ⌝ }
 {
     let none = no_cluster();
     let mut now = [none; 32];

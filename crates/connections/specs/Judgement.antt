@@ -4,7 +4,7 @@
 --                         kept; or all four are kept, and x is r
 --   judged-told, told-judged  ==  what is judged says so, and nothing else does
 use Prim.Native.Nat.{ℕ}
-use mathlib.Core.Path.{_≡_, refl, sym, _∙_}
+use mathlib.Core.Path.{_≡_, refl, _∙_}
 use Rattle.ground.specs.declared.Place.{Place}
 use Rattle.ground.specs.declared.Place.the-variants.{Nowhere, At}
 use Rattle.ground.specs.declared.Refusal.{Refusal}
@@ -16,7 +16,7 @@ use Rattle.sources.specs.Rules.{WrongId, Rule10, WrongSources, Rule11, breach10
 use Rattle.sources.specs.RuleLaws.{rule10-nowhere, rule10-at, rule11-nowhere, rule11-at}
 use Rattle.ranks.specs.Rules.{Endless, Rule12, breach12}
 use Rattle.ranks.specs.RuleLaws.{rule12-nowhere, rule12-at}
-use Rattle.clusters.specs.Edition.{Edition, Broken, Rule13, breach13}
+use Rattle.clusters.specs.Edition.{Broken, Rule13, breach13}
 use Rattle.clusters.specs.Audio.{audio}
 use Rattle.clusters.specs.Topology.{rule13-nowhere, rule13-at}
 

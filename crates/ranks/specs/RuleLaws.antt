@@ -6,7 +6,7 @@
 --   all-settled      ==  where rule 12 is kept, the rounds settle every entity of the run
 use Prim.Native.Nat.{ℕ, _<_}
 use mathlib.Core.Path.{_≡_, sym, _∙_, subst}
-use mathlib.Core.Bool.{Bool, true, false, not}
+use mathlib.Core.Bool.{Bool, false, not}
 use mathlib.Core.Logic.{_↔_}
 use lib.ListN.{getD}
 use borrow.Author.Tests.{not-true, not-false}

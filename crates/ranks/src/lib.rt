@@ -5,8 +5,9 @@ ghost use mathlib.Core.Path.{_≡_};
 ghost use mathlib.Core.Bool.{false};
 ghost use lib.ListN.{getD, take};
 ghost use Rattle.graph.specs.Rounds.{settlingRound, settlingRounds};
+ghost use Rattle.entities.specs.Run.{mostEntities};
 ghost use Rattle.sources.specs.Held.{linked, linkedTo};
-ghost use Rattle.ranks.specs.Rules.{allSettled, settledIn, breach12};
+ghost use Rattle.ranks.specs.Rules.{mostSteps, allSettled, settledIn, breach12};
 use entities::MOST_ENTITIES;
 use entities::Run;
 use ground::Place;
@@ -52,7 +53,7 @@ fn link_settled(now: [bool; 32], link: Link) -> bool
 
 // One round.
 fn round(links: [Link; 32], now: [bool; 32]) -> [bool; 32]
-    ensures { λ r. ⌜ r ≡ settlingRound 32 (linkedTo links) now ⌝ }
+    ensures { λ r. ⌜ r ≡ settlingRound mostEntities (linkedTo links) now ⌝ }
 {
     let mut next = [false; 32];
     let mut i: usize = 0;
@@ -66,7 +67,7 @@ fn round(links: [Link; 32], now: [bool; 32]) -> [bool; 32]
 
 // All the rounds.
 fn rounds(links: [Link; 32]) -> [bool; 32]
-    ensures { λ r. ⌜ r ≡ settlingRounds 32 (linkedTo links) 32 ⌝ }
+    ensures { λ r. ⌜ r ≡ settlingRounds mostEntities (linkedTo links) mostSteps ⌝ }
 {
     let mut now = [false; 32];
     let mut d: usize = 0;

@@ -9,12 +9,10 @@
 --   ids-few         ==  a run has at most 32 of them
 use Prim.Native.Nat.{ℕ, zero, suc, _≤_, _<_}
 use mathlib.Core.Path.{_≡_, refl, sym, ap, _∙_}
-use mathlib.Core.Bool.{true}
-use mathlib.Core.Logic.{_⊎_, inl, inr, ⊎-elim}
-use mathlib.Core.List.{List, [], _∷_, map, map-map, map-id, List·Memᴰ, Memᴰ·of-map}
+use mathlib.Core.List.{List, [], _∷_, map, map-map, map-id, Memᴰ·of-map}
 use native.Mathlib.Omega.{arith}
 use lib.Dec.{eqb}
-use lib.ListN.{length, getD, take}
+use lib.ListN.{length, take}
 use borrow.Author.Tests.{eq-eqb, ne-eqb, eqb-true, eqb-false}
 use Rattle.entities.specs.declared.Run.{Run}
 use Rattle.entities.specs.Run.{mostEntities}
@@ -24,11 +22,10 @@ use Rattle.graph.specs.Rounds.{ClosedBelow}
 use Rattle.graph.specs.Places.{Names, named-in, length-named}
 use Rattle.sources.specs.declared.Found.{Found}
 use Rattle.sources.specs.declared.Found.the-variants.{Nothing, At}
-use Rattle.sources.specs.declared.Link.{Link}
 use Rattle.sources.specs.Held.{held, nodeAt, entityAt, idAt, sourcesAt, blankLink, linked, linkedTo}
-use Rattle.sources.specs.Firsts.{First, Told, nothing, first, told, first-some}
-use Rattle.sources.specs.Lookup.{lookupBelow, lookup, indexOf, placeOf, linkOf, linksOf, entityById, sourcesById, idsOf}
-use Rattle.sources.specs.Rules.{Rule10, WrongSource, unknown, Rule11}
+use Rattle.sources.specs.Firsts.{Told, nothing, first, told, first-some}
+use Rattle.sources.specs.Lookup.{lookupBelow, indexOf, placeOf, linkOf, linksOf, entityById, sourcesById, idsOf}
+use Rattle.sources.specs.Rules.{Rule10, unknown, Rule11}
 
 take-map : {A B : Type 0} (f : A → B) (n : ℕ) (l : List A) → take n (map f l) ≡ map f (take n l)
 take-map f zero l = refl

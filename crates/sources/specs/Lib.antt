@@ -4,3 +4,4 @@ pub mod Lookup
 pub mod Rules
 pub mod RuleLaws
 pub mod GraphLaws
+pub mod RunLaws

@@ -4,22 +4,22 @@
 --                                  first entity whose ID is zero or borne by an earlier one
 --   rule11-nowhere, rule11-at  ==  the same of rule 11, where rule 10 is kept
 use Prim.Native.Nat.{ℕ, _<_}
-use mathlib.Core.Path.{_≡_, refl, sym, ap, _∙_}
-use mathlib.Core.Bool.{Bool, true, false, _||_}
+use mathlib.Core.Path.{_≡_, sym, ap, _∙_}
+use mathlib.Core.Bool.{Bool, true}
 use mathlib.Core.Logic.{_⊎_, inl, inr, ⊎-elim, _↔_}
 use native.Mathlib.Omega.{arith}
 use lib.Dec.{eqb, ltb}
 use borrow.Author.Tests.{eqb-true, eqb-false}
 use Rattle.ground.specs.declared.Place.the-variants.{Nowhere}
 use Rattle.ground.specs.declared.Place.the-variants as place
-use Rattle.ground.specs.Pick.{Reads, reads-true, reads-eq, reads-or, reads-lt, decided, true≠false}
-use Rattle.ground.specs.Lists.{Some, reads-any}
+use Rattle.ground.specs.Pick.{Reads, reads-eq, reads-or, reads-lt, decided, true≠false}
+use Rattle.ground.specs.Lists.{reads-any}
 use Rattle.entities.specs.declared.Run.{Run}
 use Rattle.sources.specs.declared.Found.{Found}
 use Rattle.sources.specs.declared.Found.the-variants.{Nothing, At}
 use Rattle.sources.specs.Held.{held, nodeAt, entityAt, idAt, placeAt, sourcesAt, isOutput}
-use Rattle.sources.specs.Firsts.{First, Told, nothing, first, told, Breaks, breach-nowhere, breach-at}
-use Rattle.sources.specs.Lookup.{lookupBelow, lookup}
+use Rattle.sources.specs.Firsts.{Told, nothing, first, told, Breaks, breach-nowhere, breach-at}
+use Rattle.sources.specs.Lookup.{lookupBelow}
 use Rattle.sources.specs.Rules.{WrongId, Rule10, Bears, WrongSource, zero-source, unknown, output, WrongSources, Rule11, isFound, wrongId, breach10, noOutput, wrongSource, wrongSources, breach11}
 
 module _ (run : Run) where

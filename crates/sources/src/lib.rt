@@ -76,8 +76,8 @@ pub fn id_of(entity: Entity) -> u8
 pub fn entity(run: Run, i: usize) -> Entity
     ensures { λ r. ⌜ r ≡ entityAt run i ⌝ }
 {
-    let node = node(run, i);
-    node.entity
+    let there = node(run, i);
+    there.entity
 }
 
 // Whether an entity is an Output Terminal.
@@ -146,7 +146,7 @@ pub fn check_ids(run: Run) -> Place
     Place::Nowhere
 }
 
-// Whether a source ID is 0, unknown, or an Output Terminal's.
+// Whether a source ID is 0, unknown, or an Output Terminal's; the else of the lookup is the refusal.
 fn wrong_source(run: Run, id: u8) -> bool
     ensures { λ r. ⌜ r ≡ wrongSource run id ⌝ }
 {

@@ -1,12 +1,12 @@
+-- One law for each way out, in the order of the tests.
 use borrow.Author.Needs.{needs}
 use Prim.Native.Nat.{ℕ, _≤_, _<_}
 use mathlib.Core.Path.{_≡_, refl, sym, _∙_}
-use mathlib.Core.Bool.{Bool, true, false, _&&_}
+use mathlib.Core.Bool.{Bool, false}
 use lib.Count.{ones}
-use lib.Dec.{ltb, leb}
 use borrow.Author.Tests.{lt-ltb, le-ltb, le-leb, lt-leb}
 use Rattle.layout.specs.declared.Cluster.{Cluster}
-use Rattle.channels.specs.Declared.{mostChannels, namesKept, clusterKept}
+use Rattle.channels.specs.Declared.{namesKept, clusterKept}
 use Rattle.channels.proofs.cluster_kept.Statement.{statement}
 use Rattle.channels.proofs.cluster_kept.Tie as tie
 

@@ -1,3 +1,4 @@
+-- The channels of the cluster are those of the place.
 use borrow.Author.Needs.{needs}
 use Prim.Native.Nat.{ℕ}
 use mathlib.Core.Path.{_≡_, ap}

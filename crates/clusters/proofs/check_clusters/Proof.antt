@@ -1,6 +1,7 @@
+-- A search for the first place that breaks its test: no place before the one come to does.
 use borrow.Author.Needs.{needs}
 use Prim.Native.Nat.{ℕ, _+_, _-_, _≤_, _<_}
-use mathlib.Core.Path.{_≡_, refl, sym, ap, _∙_}
+use mathlib.Core.Path.{_≡_, ap, _∙_}
 use mathlib.Core.Bool.{Bool, true, false, not}
 use mathlib.Core.List.{List}
 use native.Mathlib.Omega.{arith}
@@ -11,7 +12,7 @@ use Rattle.layout.specs.declared.Entity.{Entity}
 use Rattle.entities.specs.declared.Node.{Node}
 use Rattle.entities.specs.declared.Run.{Run}
 use Rattle.sources.specs.declared.Link.{Link}
-use Rattle.sources.specs.Held.{held, nodeAt, entityAt, placeAt, blankLink, linked, linkedTo}
+use Rattle.sources.specs.Held.{held, nodeAt, entityAt, placeAt, blankLink, linked}
 use Rattle.sources.specs.Lookup.{linksOf}
 use Rattle.sources.specs.Firsts.{Come, come-none, come-here, come-more, come-over}
 use Rattle.clusters.specs.Edition.{clustersAt, clustersOf, keepsAt, breach13}

@@ -1,3 +1,4 @@
+-- The test of the channels at the place.
 use borrow.Author.Needs.{needs}
 use Prim.Native.Nat.{ℕ}
 use mathlib.Core.Path.{_≡_, ap}

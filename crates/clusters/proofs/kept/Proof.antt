@@ -1,3 +1,4 @@
+-- One law for each kind, from what its own test answers.
 use borrow.Author.Needs.{needs}
 use Prim.Native.Nat.{ℕ}
 use mathlib.Core.Path.{_≡_, sym, ap, _∙_}

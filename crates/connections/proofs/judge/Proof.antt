@@ -1,9 +1,9 @@
+-- One law for each way out, in the order of the rules.
 use borrow.Author.Needs.{needs}
 use Prim.Native.Nat.{ℕ}
 use mathlib.Core.Path.{_≡_, sym, _∙_}
 use Rattle.ground.specs.declared.Place.{Place}
 use Rattle.ground.specs.declared.Place.the-variants.{Nowhere, At}
-use Rattle.ground.specs.declared.Refusal.{Refusal}
 use Rattle.ground.specs.Refuse.{none, refuse-at, refuse-on}
 use Rattle.entities.specs.declared.Run.{Run}
 use Rattle.sources.specs.Rules.{breach10, breach11}

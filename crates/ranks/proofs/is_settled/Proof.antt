@@ -1,3 +1,4 @@
+-- Within the array what stands there, past it nothing is settled.
 use borrow.Author.Needs.{needs}
 use Prim.Native.Nat.{ℕ, _≤_}
 use mathlib.Core.Path.{_≡_, sym}

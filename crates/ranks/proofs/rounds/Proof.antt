@@ -1,5 +1,6 @@
+-- Each turn of the loop is a round.
 use borrow.Author.Needs.{needs}
-use Prim.Native.Nat.{ℕ, _-_}
+use Prim.Native.Nat.{_-_}
 use mathlib.Core.Bool.{false}
 use Rattle.graph.specs.Members.{all}
 use Rattle.graph.specs.Rounds.{AtRound, round-none, round-more, round-last}

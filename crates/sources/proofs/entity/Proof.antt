@@ -1,7 +1,7 @@
+-- The entity of the node is that of the place.
 use borrow.Author.Needs.{needs}
 use Prim.Native.Nat.{ℕ}
 use mathlib.Core.Path.{_≡_, ap}
-use Rattle.layout.specs.declared.Entity.{Entity}
 use Rattle.entities.specs.declared.Node.{Node}
 use Rattle.entities.specs.declared.Run.{Run}
 use Rattle.sources.specs.Held.{nodeAt, entityAt}

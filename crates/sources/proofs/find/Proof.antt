@@ -1,3 +1,4 @@
+-- The lookup among all the places that are looked at.
 use borrow.Author.Needs.{needs}
 use Prim.Native.Nat.{ℕ}
 use mathlib.Core.Path.{_≡_, ap, _∙_}

@@ -1,3 +1,4 @@
+-- A search for the first place that bears the ID: no place before the one come to does.
 use borrow.Author.Needs.{needs}
 use Prim.Native.Nat.{ℕ, _+_, _-_, _≤_, _<_}
 use mathlib.Core.Path.{_≡_, refl, sym, ap, _∙_}

@@ -1,3 +1,4 @@
+-- One law for each answer of a lookup.
 use borrow.Author.Needs.{needs}
 use Prim.Native.Nat.{ℕ}
 use mathlib.Core.Path.{_≡_, sym, ap}

@@ -1,10 +1,10 @@
+-- The pins and the places, put together.
 use borrow.Author.Needs.{needs}
 use mathlib.Core.Path.{_≡_, refl}
 use mathlib.Core.List.{List, map}
 use Prim.Native.Nat.{ℕ}
 use Rattle.layout.specs.declared.Sources.{Sources}
 use Rattle.entities.specs.declared.Run.{Run}
-use Rattle.sources.specs.declared.Link.{Link}
 use Rattle.sources.specs.Lookup.{placeOf, linkOf}
 use Rattle.sources.proofs.link_of.Statement.{statement}
 use Rattle.sources.proofs.link_of.Tie as tie

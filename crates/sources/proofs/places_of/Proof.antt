@@ -1,3 +1,4 @@
+-- An array filled pin by pin: it is the list of IDs mapped.
 use borrow.Author.Needs.{needs}
 use Prim.Native.Nat.{ℕ, _+_, _-_, _≤_, _<_}
 use mathlib.Core.Path.{_≡_, refl, sym, ap, _∙_}

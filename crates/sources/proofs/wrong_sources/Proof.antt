@@ -1,3 +1,4 @@
+-- The IDs of an entity are the first ones, as many as its pins.
 use borrow.Author.Needs.{needs}
 use mathlib.Core.Path.{_≡_}
 use mathlib.Core.Bool.{Bool}
