@@ -13,9 +13,9 @@
 --   controlsOfRun s r cs    ==  the same, as the reader has the run: entities that stand at places of the configuration s
 --   breach15 k p            ==  where rule 15 is broken by k controls: nowhere, or at the header's place p
 use Prim.Native.Nat.{ℕ, zero, suc, _+_, _*_, _/_, _%_, _^_}
-use mathlib.Core.Bool.{Bool, true, false, not, _&&_}
+use mathlib.Core.Bool.{Bool, false, not, _&&_}
 use mathlib.Core.List.{List, [], _∷_, _++_}
-use lib.ListN.{length, take}
+use lib.ListN.{take}
 use lib.Dec.{eqb, leb}
 use Rattle.ground.specs.declared.Place.{Place}
 use Rattle.ground.specs.Pick.{pick}

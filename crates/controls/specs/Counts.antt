@@ -1,8 +1,7 @@
 -- How many controls there may be: one for a bit, ten for a mask, ten for each channel of an entity and its master.
-use Prim.Native.Nat.{ℕ, zero, suc, _+_, _*_, _≤_, _<_}
-use mathlib.Core.Path.{_≡_, refl, sym, ap, _∙_}
+use Prim.Native.Nat.{ℕ, zero, suc, _+_, _*_, _≤_}
 use mathlib.Core.Bool.{Bool, true, false, not, _&&_}
-use mathlib.Core.List.{List, [], _∷_, _++_}
+use mathlib.Core.List.{List, [], _∷_}
 use native.Mathlib.Omega.{arith}
 use lib.ListN.{length, length-append}
 use lib.Dec.{eqb}
@@ -12,7 +11,6 @@ use Rattle.scan.specs.Cutting.{endAt}
 use Rattle.entities.specs.declared.Node.{Node}
 use Rattle.layout.specs.declared.Entity.{Entity}
 use Rattle.layout.specs.declared.Entity.the-variants.{Unknown, Input, Output, Mixer, Selector, Printed, Feature}
-use Rattle.table.specs.declared.Control.{Control}
 use Rattle.controls.specs.Controls.{unitControl, maskOf, bitSet, bitControls, bitsFrom, maskControls, channelsFrom, featureControls, entityControls, nodeControls}
 
 pub bit-few : (m : List ℕ) (u k b : ℕ) → length (bitControls m u k b) ≤ 1

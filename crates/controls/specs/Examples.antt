@@ -5,8 +5,7 @@ use Prim.Native.Nat.{ℕ}
 use mathlib.Core.Path.{_≡_, refl}
 use mathlib.Core.List.{List, [], _∷_}
 use Rattle.layout.specs.declared.Cluster.{Cluster}
-use Rattle.layout.specs.Layout.{entityOf, inputOf, outputOf, selectorOf, featureOf}
-use Rattle.table.specs.declared.Control.{Control}
+use Rattle.layout.specs.Layout.{entityOf, selectorOf, featureOf}
 use Rattle.controls.specs.Controls.{unitControl, selectorControl, bitSet, bitControls, bitsFrom, maskControls, channelsFrom, featureControls, entityControls, controlsOf}
 
 -- clusters of one channel

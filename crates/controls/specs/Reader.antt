@@ -6,13 +6,13 @@
 --   reader-sound, run-sound ==  refusal 30 has nothing against the table of a run's controls
 use Prim.Native.Nat.{ℕ, zero, suc, _+_, _≤_, _<_}
 use mathlib.Core.Path.{_≡_, refl, sym, ap, _∙_}
-use mathlib.Core.Bool.{Bool, true, false}
-use mathlib.Core.Logic.{_⊎_, inl, inr, _↔_}
+use mathlib.Core.Bool.{true, false}
+use mathlib.Core.Logic.{inl, inr, _↔_}
 use mathlib.Core.List.{List, [], _∷_, _++_, flatten, append-assoc, List·Memᴰ, List·Memᴰ·head, List·Memᴰ·tail}
 use native.Mathlib.Omega.{arith}
 use lib.ListN.{length, getD, drop}
 use Rattle.ground.specs.declared.Place.the-variants.{Nowhere, At}
-use Rattle.ground.specs.Pick.{Reads, shows, true≠false, reads-le}
+use Rattle.ground.specs.Pick.{shows, true≠false, reads-le}
 use Rattle.ground.specs.Numbers.{byte}
 use Rattle.ground.specs.Lists.{part, pad-at}
 use Rattle.ground.specs.Refuse.{kept-nowhere, kept-at}
@@ -27,13 +27,12 @@ use Rattle.entities.specs.RunLaws.{run-nodes, OwnIds, DistinctIds, laid-distinc
 use Rattle.setting.specs.declared.Sort.{Sort}
 use Rattle.setting.specs.declared.Sort.the-variants.{Volume, Tone, Delay}
 use Rattle.table.specs.declared.Control.{Control}
-use Rattle.table.specs.declared.Table.{Table}
 use Rattle.table.specs.declared.Sense.{Sense}
-use Rattle.table.specs.declared.Sense.the-variants.{Unknown, YesNo, Ranged, Pin}
-use Rattle.table.specs.Controls.{mostControls, mostPins, blankControl, at, senseOf}
+use Rattle.table.specs.declared.Sense.the-variants.{YesNo, Ranged}
+use Rattle.table.specs.Controls.{mostControls, blankControl, at, senseOf}
 use Rattle.table.specs.Sound.{soundOf}
 use Rattle.table.specs.Meaning.{SoundAs, Same, Sound, sound-reads}
-use Rattle.controls.specs.Controls.{unitControl, selectorControl, entityControls, controlsOf, nodeControls, controlsIn, controlsOfRun, breach15}
+use Rattle.controls.specs.Controls.{unitControl, entityControls, controlsOf, nodeControls, controlsIn, controlsOfRun, breach15}
 use Rattle.controls.specs.Growth.{tableOf}
 use Rattle.controls.specs.Standing.{Carries, feature, selector, Stands, here, there, stands-of}
 use Rattle.controls.specs.Order.{member-at, pairs-at, Before, controls-ordered}

@@ -22,7 +22,6 @@ use Rattle.scan.specs.Found.{found, found-none}
 use Rattle.scan.specs.declared.Want.the-variants as want
 use Rattle.groups.specs.Reading.{straysFrom}
 use Rattle.groups.specs.TotalLaws.{type-of}
-use Rattle.streaming.specs.declared.Link.{Link}
 use Rattle.streaming.specs.declared.Link.the-variants as link
 use Rattle.streaming.specs.Terminals.{Terminal, linkedTo}
 use Rattle.streaming.specs.Tests.{describedBy, describedAt, brokenAt, holdsClass, broken, wrongStream}
