@@ -9,7 +9,7 @@ use mathlib.Core.Bool.{Bool, true, false, _||_}
 use mathlib.Core.List.{List, [], _∷_, _++_, flatten, append-assoc, List·Memᴰ, List·Memᴰ·head, List·Memᴰ·tail, List·Memᴰ·not-nil, List·Memᴰ·cases-cons, Memᴰ·append-right, nil≢cons, head-eq-of-cons-eq, tail-eq-of-cons-eq}
 use mathlib.Core.Logic.{_⊎_, inl, inr}
 use lib.ListN.{length, getD, set, replicate, take, drop, take-append-drop, length-append, length-take, length-drop}
-use lib.Seq.{take-add, drop-drop}
+use lib.Seq.{take-add, take-nil, drop-drop}
 use native.Mathlib.Omega.{arith}
 use native.Mathlib.Nat.{le-of-suc-le-suc}
 use Rattle.ground.specs.Pick.{Reads, true≠false}
@@ -35,6 +35,12 @@ pub flatten-append : (x y : List (List ℕ)) → flatten (x ++ y) ≡ flatten x 
 unfolding flatten
 flatten-append [] y = refl
 flatten-append (d ∷ x) y = ap (λ (l : List ℕ). d ++ l) (flatten-append x y) ∙ sym (append-assoc d (flatten x) (flatten y))
+
+pub drop-take : (a e : ℕ) (s : List ℕ) → drop a (take e s) ≡ part s a e
+drop-take zero e s = let z : e - 0 ≡ e = omega arith in sym (ap (λ (i : ℕ). take i s) z)
+drop-take (suc a) zero s = let z : 0 - suc a ≡ 0 = omega arith in sym (ap (λ (i : ℕ). take i (drop (suc a) s)) z)
+drop-take (suc a) (suc e) [] = sym (take-nil (suc e - suc a))
+drop-take (suc a) (suc e) (x ∷ s) = let z : suc e - suc a ≡ e - a = omega arith in drop-take a e s ∙ sym (ap (λ (i : ℕ). take i (drop a s)) z)
 
 pub part-none : (s : List ℕ) (a : ℕ) → part s a a ≡ []
 part-none s a = let z : a - a ≡ 0 = omega arith in ap (λ (i : ℕ). take i (drop a s)) z

@@ -8,9 +8,10 @@
 use Prim.Native.Nat.{ℕ}
 use mathlib.Core.Path.{_≡_, refl, sym, ap, _∙_}
 use mathlib.Core.Bool.{Bool, true, false}
-use mathlib.Core.Logic.{_↔_}
+use mathlib.Core.Logic.{_↔_, _⊎_, inl, inr}
+use lib.Dec.{eqb}
 use native.Mathlib.Omega.{arith}
-use Rattle.ground.specs.Pick.{pick, yes, no, Reads, shows, refutes}
+use Rattle.ground.specs.Pick.{pick, yes, no, Reads, reads-eq, decided, shows, refutes}
 use Rattle.ground.specs.declared.Place.{Place}
 use Rattle.ground.specs.declared.Place.the-variants.{Nowhere, At}
 use Rattle.ground.specs.declared.Refusal.{Refusal}
@@ -64,3 +65,27 @@ pub chain-more : (n : ℕ) → (n ≡ 0 → ⊥) → (b : Place) (c : Refusal �
 unfolding refuse
 chain-more n h Nowhere c k = record { on = k .on; stays = k .stays }
 chain-more n h (At p) c k = record { on = λ e r. absurd (h e); stays = λ e r. refl }
+
+pub chain-both : (c d : Refusal → Refusal) → Chain c → Chain d → Chain (λ r. c (d r))
+chain-both c d j k = record { on = on; stays = stays }
+  where
+    first : (c none .number ≡ 0) ⊎ (c none .number ≡ 0 → ⊥)
+    first = decided (eqb (c none .number) 0) (reads-eq (c none .number) 0)
+
+    on : c (d none) .number ≡ 0 → (r : Refusal) → c (d r) ≡ r
+    on e r = go first
+      where
+        go : (c none .number ≡ 0) ⊎ (c none .number ≡ 0 → ⊥) → c (d r) ≡ r
+        go (inl z) = j .on z (d r) ∙ k .on (sym (ap (λ (x : Refusal). x .number) (j .on z (d none))) ∙ e) r
+        go (inr n) = absurd (n (sym (ap (λ (x : Refusal). x .number) (j .stays n (d none))) ∙ e))
+
+    stays : (c (d none) .number ≡ 0 → ⊥) → (r : Refusal) → c (d r) ≡ c (d none)
+    stays m r = go first
+      where
+        go : (c none .number ≡ 0) ⊎ (c none .number ≡ 0 → ⊥) → c (d r) ≡ c (d none)
+        go (inl z) = ap c (k .stays (λ e. m (ap (λ (x : Refusal). x .number) (j .on z (d none)) ∙ e)) r)
+        go (inr n) = j .stays n (d r) ∙ sym (j .stays n (d none))
+
+-- a row of refusals that gives none answers 0 for number and place
+pub chain-none : (c : Refusal → Refusal) → Chain c → c none .number ≡ 0 → c none ≡ none
+chain-none c k e = k .on e none

@@ -1,7 +1,7 @@
 -- Where the AudioControl group's parts stand, and the rules 5 and 6 on them, both ways.
 --   Framed s before control tail ==  the AudioControl interface control stands behind the descriptors before, in front of tail,
 --                                    and the frame is where that is
-use Prim.Native.Nat.{ℕ, _+_}
+use Prim.Native.Nat.{ℕ, _+_, _-_, _≤_}
 use mathlib.Core.Path.{_≡_, refl, sym, ap, _∙_}
 use mathlib.Core.Bool.{true}
 use mathlib.Core.List.{List, [], _∷_, _++_, nil≢cons, head-eq-of-cons-eq, tail-eq-of-cons-eq}
@@ -14,11 +14,11 @@ use Rattle.ground.specs.declared.Place.{Place}
 use Rattle.ground.specs.declared.Place.the-variants.{Nowhere, At}
 use Rattle.ground.specs.Pick.{Reads, reads-same, reads-eq, decided, shows, true≠false}
 use Rattle.ground.specs.Numbers.{byte}
-use Rattle.ground.specs.Lists.{part, part-none, total, total-append, any, Some, reads-any}
+use Rattle.ground.specs.Lists.{part, part-none, part-length, total, total-append, any, Some, reads-any}
 use Rattle.ground.specs.First.{Sound}
 use Rattle.ground.specs.Refuse.{placeOr}
 use Rattle.scan.specs.Cutting.{endAt, rest}
-use Rattle.scan.specs.CuttingLaws.{rest-none, rest-more}
+use Rattle.scan.specs.CuttingLaws.{rest-none, rest-more, end-off}
 use Rattle.scan.specs.Want.{Interface, Audio, isAudio, reads-audio, wants, foundFrom}
 use Rattle.scan.specs.Found.{found, found-none, rest-split}
 use Rattle.scan.specs.declared.Want.the-variants as want
@@ -59,7 +59,7 @@ module _ (s : List ℕ) (k : Rule4 (rest s 0)) where
       go Nowhere e = absurd (true≠false (sym stands ∙ found-none (want.Audio 1) s 0 e))
       go (At q) e = (q, e)
 
-  nine : (b : List (List ℕ)) (i : List ℕ) (a : List (List ℕ)) → rest s 0 ≡ b ++ i ∷ a → Interface i → length i ≡ 9
+  pub nine : (b : List (List ℕ)) (i : List ℕ) (a : List (List ℕ)) → rest s 0 ≡ b ++ i ∷ a → Interface i → length i ≡ 9
   unfolding Sound
   nine b i a e h = ⊎-elim (λ n. n) (λ n. absurd (k .right b i a e (not-nine h n))) (decided (eqb (length i) 9) (reads-eq (length i) 9))
 
@@ -105,6 +105,13 @@ module _ (s : List ℕ) (tail : List (List ℕ)) (e : rest s (frameOf s .header)
 
   pub header-told : (h : List ℕ) (others : List (List ℕ)) → tail ≡ h ∷ others → (h ≡ headerOf s (frameOf s)) × (others ≡ rest s (frameOf s .run))
   header-told h others q = let g = sym q ∙ header-first (none-empty h others q) in (head-eq-of-cons-eq g, tail-eq-of-cons-eq g)
+
+  pub header-room : (h : List ℕ) (others : List (List ℕ)) → tail ≡ h ∷ others → (frameOf s .run ≡ frameOf s .header + length h) × (frameOf s .run ≤ length s)
+  unfolding frameOf frameFrom
+  header-room h others q =
+      let o = end-off s (frameOf s .header) (none-empty h others q) in
+      let l : length h ≡ frameOf s .run - frameOf s .header = ap length (header-told h others q .0) ∙ part-length s (frameOf s .header) (frameOf s .run) (o .1) in
+      (omega arith, o .1)
 
   pub reads-rule5 : Reads (isHeader (headerOf s (frameOf s))) (Rule5 tail)
   reads-rule5 =

@@ -5,3 +5,4 @@ pub mod InterfaceLaws
 pub mod CollectionLaws
 pub mod FrameLaws
 pub mod TotalLaws
+pub mod Judged

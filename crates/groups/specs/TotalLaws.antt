@@ -5,7 +5,7 @@ use mathlib.Core.Path.{_≡_, refl, sym, ap, _∙_}
 use mathlib.Core.Bool.{true, false, not, _&&_}
 use mathlib.Core.List.{List, [], _∷_, _++_, append-nil, cons≢nil, nil≢cons, head-eq-of-cons-eq, List·Memᴰ, List·Memᴰ·head}
 use mathlib.Core.Logic.{_⊎_, inl, inr, ⊎-elim}
-use lib.ListN.{length, drop}
+use lib.ListN.{length, take, drop}
 use lib.Seq.{getD-take, getD-drop}
 use lib.Dec.{eqb}
 use native.Mathlib.Omega.{arith}
@@ -18,7 +18,7 @@ use Rattle.ground.specs.Refuse.{placeOr}
 use Rattle.scan.specs.Cutting.{endAt, rest}
 use Rattle.scan.specs.CuttingLaws.{rest-none, rest-more, end-off}
 use Rattle.scan.specs.Want.{Interface, Class, isClass, reads-interface, reads-class, wants, foundFrom}
-use Rattle.scan.specs.Found.{Found, found, found-none, rest-split}
+use Rattle.scan.specs.Found.{Found, found, found-none, rest-split, rest-front}
 use Rattle.scan.specs.declared.Want.the-variants as want
 use Rattle.groups.specs.Rules.{GroupEnds, last, next, Rule6}
 use Rattle.groups.specs.Reading.{runEnd, straysFrom}
@@ -204,9 +204,12 @@ module _ (s h : List ℕ) (header from : ℕ) (e : from ≡ header + length h) (
   pub reads-rule6 : Reads (eqb (header + word h 5) (runEnd s from) && not (straysFrom s (runEnd s from))) (Rule6 h (rest s from))
   reads-rule6 = reads-same (reads-and _ _ (reads-eq (header + word h 5) (runEnd s from)) (reads-strays s (runEnd s from) end-inside)) rule6-of rule6-to
 
-  -- the run's end is where the rule's run ends, and it is the one run that keeps the rule
-  pub rule6-end : (k : Rule6 h (rest s from)) → runEnd s from ≡ from + total (k .run)
-  rule6-end k = r .end ∙ ap (λ (x : List (List ℕ)). from + total x) (run-one k .0)
+  -- the run's end is where the rule's run ends, and what stands up to there is that run
+  end-of : (k : Rule6 h (rest s from)) → runEnd s from ≡ from + total (k .run)
+  end-of k = r .end ∙ ap (λ (x : List (List ℕ)). from + total x) (run-one k .0)
 
-  pub rule6-one : (j k : Rule6 h (rest s from)) → j .run ≡ k .run
-  rule6-one j k = sym (run-one j .0) ∙ run-one k .0
+  run-of : (k : Rule6 h (rest s from)) → rest (take (runEnd s from) s) from ≡ k .run
+  run-of k = ap (λ (i : ℕ). rest (take i s) from) (end-of k) ∙ rest-front s from inside (k .run) (k .later ++ k .after) (k .split)
+
+  pub rule6-run : (others : List (List ℕ)) → others ≡ rest s from → (k : Rule6 h others) → rest (take (runEnd s from) s) from ≡ k .run
+  rule6-run others q = rw q run-of

@@ -1,14 +1,12 @@
 -- What a function's result has to be, from what its outcome is.
 use Prim.Native.Nat.{ℕ}
-use mathlib.Core.Path.{_≡_, refl, sym, ap, _∙_}
+use mathlib.Core.Path.{_≡_, sym, ap, _∙_}
 use mathlib.Core.List.{List}
 use lib.ListN.{length}
-use Rattle.table.specs.declared.Control.{Control}
 use Rattle.table.specs.declared.Table.{Table}
-use Rattle.table.specs.Controls.{placed}
 use Rattle.request.specs.declared.Answer.{Answer}
 use Rattle.request.specs.Outcome.{Outcome, answerOf, bytesOf, laid, Answered}
-use Rattle.request.specs.Outcome.Outcome.{refused, got, done}
+use Rattle.request.specs.Outcome.Outcome.{refused, got}
 
 abbrev pub refusal : Table → ℕ → Answer
 refusal t n = record { number = n; written = 0; table = t }

@@ -7,7 +7,7 @@
 --   loadAt t k found range w ==  20, for one that is not there
 --   loadOf t u ch s range w  ==  the whole load
 use Prim.Native.Nat.{ℕ}
-use mathlib.Core.Bool.{Bool, true, false, _&&_}
+use mathlib.Core.Bool.{true, _&&_}
 use Rattle.ground.specs.Pick.{pick}
 use Rattle.setting.specs.Setting.{fitsOf, legalOf, closestTo}
 use Rattle.setting.specs.declared.Sort.{Sort}
@@ -22,7 +22,7 @@ use Rattle.table.specs.Controls.{at, placed, senseOf}
 use Rattle.table.specs.First.{foundIn}
 use Rattle.table.specs.Sound.{soundOf}
 use Rattle.request.specs.Outcome.{Outcome}
-use Rattle.request.specs.Outcome.Outcome.{refused, got, done}
+use Rattle.request.specs.Outcome.Outcome.{refused, done}
 
 abbrev pub loadedWith : Sort → Range → ℕ → Control → Control
 loadedWith s range w c = record {

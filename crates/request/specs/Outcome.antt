@@ -9,7 +9,7 @@
 --   Answered t o b r a  ==  the function's result r and what the reply holds at exit, a, are those of o; b is the reply at entry
 --   lowFirst n x      ==  the n bytes of the number x, "low first"
 use Prim.Native.Nat.{ℕ, zero, suc, _%_, _/_}
-use mathlib.Core.Path.{_≡_, sym, ap, _∙_}
+use mathlib.Core.Path.{_≡_}
 use mathlib.Core.List.{List, [], _∷_, _++_}
 use lib.ListN.{length, drop}
 use Rattle.table.specs.declared.Table.{Table}

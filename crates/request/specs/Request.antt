@@ -27,7 +27,7 @@ use Rattle.table.specs.declared.Sense.{Sense}
 use Rattle.table.specs.declared.Sense.the-variants.{Unknown, YesNo, Ranged, Pin}
 use Rattle.table.specs.declared.Found.{Found}
 use Rattle.table.specs.declared.Found.the-variants as found
-use Rattle.table.specs.Controls.{at, placed, senseOf, sizeOf, rangeOf}
+use Rattle.table.specs.Controls.{at, senseOf, sizeOf, rangeOf}
 use Rattle.table.specs.First.{foundIn, unitIn}
 use Rattle.table.specs.Sound.{soundOf}
 use Rattle.request.specs.declared.Target.{Target}
@@ -40,7 +40,7 @@ use Rattle.request.specs.declared.Addressed.the-variants.{Refused, At}
 use Rattle.request.specs.declared.Settled.{Settled}
 use Rattle.request.specs.declared.Settled.the-variants.{NoSetting, To}
 use Rattle.request.specs.Outcome.{Outcome, lowFirst}
-use Rattle.request.specs.Outcome.Outcome.{refused, got, done}
+use Rattle.request.specs.Outcome.Outcome.{refused, got}
 use Rattle.request.specs.Load.{storedIn}
 
 abbrev pub targetOf : List ℕ → Target

@@ -11,6 +11,7 @@ use setting::Range;
 use setting::Sort;
 use table::Control;
 use table::Found;
+use table::Lookup;
 use table::Sense;
 use table::Table;
 
@@ -184,12 +185,10 @@ fn address(table: Table, number: u8, target: Target) -> Addressed
     if target.interface != number {
         return Addressed::Refused(32);
     }
-    if !table::has_unit(table, target.unit) {
-        return Addressed::Refused(33);
-    }
-    match table::find(table, target.unit, target.channel, target.selector) {
-        Found::Nothing => Addressed::Refused(34),
-        Found::At(place) => Addressed::At(place),
+    match table::look_up(table, target.unit, target.channel, target.selector) {
+        Lookup::NoUnit => Addressed::Refused(33),
+        Lookup::NoControl => Addressed::Refused(34),
+        Lookup::At(place) => Addressed::At(place),
     }
 }
 

@@ -4,15 +4,15 @@
 --   place-below, place-inside  ==  a control that is found stands below the count, and in the array
 --   sent-fits              ==  the data of a Set are not too wide for the control
 use Prim.Native.Nat.{ℕ, _+_, _*_, _≤_, _<_, min}
-use mathlib.Core.Path.{_≡_, refl, sym, ap, _∙_}
+use mathlib.Core.Path.{_≡_, refl}
 use mathlib.Core.List.{List}
-use mathlib.Core.Bool.{Bool, true, false, not, _&&_}
+use mathlib.Core.Bool.{Bool, true, false, _&&_}
 use native.Mathlib.Omega.{arith}
 use lib.Dec.{eqb, leb}
 use lib.ListN.{length, getD}
-use borrow.Author.Tests.{eq-eqb, ne-eqb, eqb-true}
-use Rattle.ground.specs.Pick.{pick, yes, no, shows, true≠false, reads-and, reads-le}
-use Rattle.setting.specs.Setting.{spanOf, fitsOf, legalOf, availableOf, closestTo}
+use borrow.Author.Tests.{eq-eqb, ne-eqb}
+use Rattle.ground.specs.Pick.{pick, yes, no, shows, reads-and, reads-le}
+use Rattle.setting.specs.Setting.{fitsOf, legalOf, closestTo}
 use Rattle.setting.specs.Legal.{fits-reads}
 use Rattle.setting.specs.Closest.{closest-fits, closest-available}
 use Rattle.setting.specs.declared.Sort.{Sort}
@@ -23,11 +23,10 @@ use Rattle.table.specs.declared.Table.{Table}
 use Rattle.table.specs.declared.Sense.{Sense}
 use Rattle.table.specs.declared.Sense.the-variants.{Unknown, YesNo, Ranged, Pin}
 use Rattle.table.specs.declared.Found.the-variants as found
-use Rattle.table.specs.Controls.{at, placed, senseOf, sizeOf, rangeOf, answersTo}
+use Rattle.table.specs.Controls.{at, senseOf, sizeOf, rangeOf, answersTo}
 use Rattle.table.specs.First.{places, foundIn}
 use Rattle.table.specs.FirstLaws.{first-at}
-use Rattle.table.specs.Meaning.{Same, SoundAs, SoundYesNo, SoundPin, SoundRanged, SoundLoaded, Sound, sound-counted}
-use Rattle.request.specs.declared.Settled.{Settled}
+use Rattle.table.specs.Meaning.{Same, SoundAs, SoundRanged, SoundLoaded, Sound, sound-counted}
 use Rattle.request.specs.declared.Settled.the-variants.{NoSetting, To}
 use Rattle.request.specs.Load.{loadedWith}
 use Rattle.request.specs.Request.{unready, valueIn, settledBetween, settledOf, withCur}

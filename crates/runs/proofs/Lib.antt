@@ -1,3 +1,8 @@
 pub mod Taken
 pub mod Kept
 pub mod Moved
+pub mod Alone
+pub mod Refusals
+pub mod Answers
+pub mod Rows
+pub mod Case

@@ -1,51 +1,46 @@
 -- What a step, and then a run, does to one control, the one of the key k at place p.
 --   Moved t k p rs ns v  ==  from the table t to the table v, k was given the ranges rs and asked to take the numbers ns, in
---                            this order: it stands where it stood, its range is the last of rs, its CUR is what is stored
---                            where the last of ns is wanted, and 30 has nothing against the table
+--                            this order: it stands where it stood, with as many pins; it is loaded if it was or was given a
+--                            range; its range is the last of rs; its CUR is what is stored where the last of ns is wanted;
+--                            it is as it was where ns is empty; and 30 has nothing against the table
 --   one-step             ==  so does every step, with what it tells k if it is accepted
 --   whole-run            ==  and every run
-use Prim.Native.Nat.{ℕ, _≤_, _<_}
+use Prim.Native.Nat.{ℕ}
 use mathlib.Core.Path.{_≡_, refl, sym, ap, _∙_}
-use mathlib.Core.List.{List, [], _∷_, _++_, List·Memᴰ, List·Memᴰ·head, List·Memᴰ·tail}
-use mathlib.Core.Bool.{Bool, true, false, not, _&&_}
+use mathlib.Core.List.{List, [], _∷_, _++_, List·Memᴰ·head, List·Memᴰ·tail}
+use mathlib.Core.Bool.{Bool, true, false, _||_, or-true, or-false, or-assoc}
 use native.Mathlib.Omega.{arith}
-use lib.Dec.{eqb}
-use lib.ListN.{length, getD}
-use borrow.Author.Tests.{eq-eqb}
-use Rattle.ground.specs.Pick.{pick, Reads, shows, refutes, true≠false, reads-and, reads-eq}
-use Rattle.setting.specs.Setting.{fitsOf, closestTo}
+use lib.ListN.{length}
+use Rattle.ground.specs.Pick.{pick, Reads, reads-and, reads-eq}
+use Rattle.setting.specs.Setting.{fitsOf}
 use Rattle.setting.specs.declared.Sort.{Sort}
 use Rattle.setting.specs.declared.Range.{Range}
 use Rattle.table.specs.declared.Control.{Control}
 use Rattle.table.specs.declared.Table.{Table}
 use Rattle.table.specs.declared.Sense.{Sense}
 use Rattle.table.specs.declared.Sense.the-variants as sense
-use Rattle.table.specs.declared.Found.{Found}
 use Rattle.table.specs.declared.Found.the-variants as found
 use Rattle.table.specs.Controls.{at, placed, senseOf, sizeOf, rangeOf, answersTo}
-use Rattle.table.specs.First.{foundIn}
 use Rattle.table.specs.Meaning.{Same, SoundAs, Sound}
 use Rattle.table.specs.Placed.{same-self, same-by, placed-here, placed-elsewhere, placed-found, placed-sound}
-use Rattle.request.specs.declared.Part.{Part}
-use Rattle.request.specs.declared.Target.{Target}
-use Rattle.request.specs.declared.Asked.{Asked}
-use Rattle.request.specs.declared.Asked.the-variants as asks
-use Rattle.request.specs.declared.Settled.{Settled}
-use Rattle.request.specs.declared.Settled.the-variants.{NoSetting, To}
+use Rattle.request.specs.declared.Settled.the-variants.{To}
 use Rattle.request.specs.Outcome.{Outcome, tableAfter}
 use Rattle.request.specs.Outcome.Outcome.{refused, got, done}
 use Rattle.request.specs.Load.{loadedWith, loadOf}
-use Rattle.request.specs.Request.{askedOf, valueIn, unready, settledOf, withCur, requestOf}
-use Rattle.runs.specs.Runs.{Key, whereIs, keyOf, Step, stepOf, accepted, tableNext, after, sameKey, rangesIn, numbersAsked, numbersIn, heard, told, lastOf, Held, StandsFor, Bytes, sent, Wired}
+use Rattle.request.specs.Request.{askedOf, valueIn, settledOf, withCur, requestOf}
+use Rattle.runs.specs.Runs.{Key, whereIs, keyOf, Step, accepted, tableNext, after, sameKey, rangesIn, numbersAsked, numbersIn, heard, told, lastOf, some, StandsFor, Bytes, sent, Wired}
 use Rattle.runs.specs.Runs.Step.{load, request}
-use Rattle.runs.proofs.Taken.{LoadTaken, SetTaken, GetTaken, load-taken, set-taken, get-taken, load-not-got}
+use Rattle.runs.proofs.Taken.{LoadTaken, SetTaken, load-taken, set-taken, get-taken, load-not-got}
 use Rattle.runs.proofs.Kept.{load-same, set-same, load-sound, set-sound, place-answers, place-below, place-inside, sent-fits, between-only}
 
 pub record Moved (t : Table) (k : Key) (p : ℕ) (rs : List Range) (ns : List ℕ) (v : Table) : Type 0 where
   pub sound : Sound v
   pub there : whereIs v k ≡ found.At p
   pub same : Same (at v p) (at t p)
+  pub pins : at v p .pins ≡ at t p .pins
+  pub loaded : at v p .loaded ≡ (at t p .loaded || some rs)
   pub ranges : rangeOf (at v p) ≡ lastOf (rangeOf (at t p)) rs
+  pub unmoved : ns ≡ [] → at v p ≡ at t p
   pub stands : (x : ℕ) → StandsFor (senseOf (k .selector)) (at t p) x → StandsFor (senseOf (k .selector)) (at v p) (lastOf x ns)
 
 last-append : {A : Type 0} (x : A) (xs ys : List A) → lastOf x (xs ++ ys) ≡ lastOf (lastOf x xs) ys
@@ -53,10 +48,34 @@ unfolding lastOf
 last-append x [] ys = refl
 last-append x (y ∷ xs) ys = last-append y xs ys
 
+some-append : {A : Type 0} (xs ys : List A) → some (xs ++ ys) ≡ (some xs || some ys)
+some-append [] ys = refl
+some-append (x ∷ xs) ys = refl
+
+none-left : {A : Type 0} (xs ys : List A) → xs ++ ys ≡ [] → xs ≡ []
+none-left [] ys e = refl
+none-left (x ∷ xs) ys e = absurd (let z : _≡_ {A = ℕ} 0 1 = cc in omega arith)
+
+none-right : {A : Type 0} (xs ys : List A) → xs ++ ys ≡ [] → ys ≡ []
+none-right [] ys e = e
+none-right (x ∷ xs) ys e = absurd (let z : _≡_ {A = ℕ} 0 1 = cc in omega arith)
+
+some-not-none : {A : Type 0} (x : A) (xs : List A) → (x ∷ xs) ≡ [] → ⊥
+some-not-none x xs e = let z : _≡_ {A = ℕ} 0 1 = cc in omega arith
+
 -- nothing told, nothing changed
 pub still : (t : Table) (k : Key) (p : ℕ) → Sound t → whereIs t k ≡ found.At p → Moved t k p [] [] t
 unfolding lastOf
-still t k p s f = record { sound = s; there = f; same = same-self (at t p); ranges = refl; stands = λ x h. h }
+still t k p s f = record {
+  sound = s;
+  there = f;
+  same = same-self (at t p);
+  pins = refl;
+  loaded = sym (or-false (at t p .loaded));
+  ranges = refl;
+  unmoved = λ e. refl;
+  stands = λ x h. h;
+}
 
 pub moved-then : (t v w : Table) (k : Key) (p : ℕ) (rs qs : List Range) (ns ms : List ℕ) → Moved t k p rs ns v → Moved v k p qs ms w
     → Moved t k p (rs ++ qs) (ns ++ ms) w
@@ -64,6 +83,10 @@ moved-then t v w k p rs qs ns ms a b = record {
   sound = b .sound;
   there = b .there;
   same = same-by (b .same) (a .same);
+  pins = b .pins ∙ a .pins;
+  loaded =
+      b .loaded ∙ ap (λ (x : Bool). x || some qs) (a .loaded) ∙ or-assoc (at t p .loaded) (some rs) (some qs) ∙ ap (λ (x : Bool). at t p .loaded || x) (sym (some-append rs qs));
+  unmoved = λ e. b .unmoved (none-right ns ms e) ∙ a .unmoved (none-left ns ms e);
   ranges = b .ranges ∙ ap (λ (r : Range). lastOf r qs) (a .ranges) ∙ sym (last-append (rangeOf (at t p)) rs qs);
   stands = λ x h. rw (last-append x ns ms) (b .stands (lastOf x ns) (a .stands x h));
 }
@@ -128,21 +151,28 @@ module _ (t : Table) (k : Key) (p : ℕ) (s : Sound t) (f : whereIs t k ≡ foun
         sound = stored-sound;
         there = stored-there;
         same = rw i (same-self (at t p));
+        pins = rw i;
+        loaded = rw i (sym (or-false (at t p .loaded)));
         ranges = rw i;
+        unmoved = λ z. i;
         stands = λ x y. rw i y;
       }
 
   -- or at this one
-  here : sameKey k l ≡ true → (rs : List Range) (ns : List ℕ) → rangeOf c ≡ lastOf (rangeOf (at t q)) rs
+  here : sameKey k l ≡ true → (rs : List Range) (ns : List ℕ) → c .pins ≡ at t q .pins → c .loaded ≡ (at t q .loaded || some rs)
+      → rangeOf c ≡ lastOf (rangeOf (at t q)) rs → (ns ≡ [] → ⊥)
       → ((x : ℕ) → StandsFor (senseOf (k .selector)) (at t q) x → StandsFor (senseOf (k .selector)) c (lastOf x ns)) → Moved t k p rs ns (placed t q c)
-  here e rs ns a b =
+  here e rs ns m n a o b =
       let j : q ≡ p = one-place t k l p q f g e in
       let i : at (placed t q c) p ≡ c = ap (at (placed t q c)) (sym j) ∙ placed-here t q (place-inside t l q g s) c in
       record {
         sound = stored-sound;
         there = stored-there;
         same = rw (i, ← j) h;
+        pins = rw (i, ← j) m;
+        loaded = rw (i, ← j) n;
         ranges = rw (i, ← j) a;
+        unmoved = λ z. absurd (o z);
         stands = rw (i, ← j) b;
       }
 
@@ -150,7 +180,7 @@ module _ (t : Table) (k : Key) (p : ℕ) (s : Sound t) (f : whereIs t k ≡ foun
 selector-at : (t : Table) (k : Key) (p : ℕ) → whereIs t k ≡ found.At p → at t p .selector ≡ k .selector
 selector-at t k p f = answers-key k (at t p) (place-answers t k p f) .selector
 
-sense-at : (t : Table) (k : Key) (p : ℕ) → whereIs t k ≡ found.At p → senseOf (at t p .selector) ≡ senseOf (k .selector)
+pub sense-at : (t : Table) (k : Key) (p : ℕ) → whereIs t k ≡ found.At p → senseOf (at t p .selector) ≡ senseOf (k .selector)
 sense-at t k p f = ap senseOf (selector-at t k p f)
 
 -- a load of the control tells it a range and a number
@@ -183,7 +213,7 @@ module _ (t : Table) (k : Key) (p : ℕ) (s : Sound t) (f : whereIs t k ≡ foun
       go : (b : Bool) → sameKey k l ≡ b
           → Moved t k p (pick b (range ∷ []) []) (pick b (w ∷ []) []) (placed t (a .place) (loadedWith (a .sort) range w (at t (a .place))))
       go true e =
-          here t k p s f l (a .place) (a .there) _ (load-same (a .sort) range w (at t (a .place))) ok e (range ∷ []) (w ∷ []) refl
+          here t k p s f l (a .place) (a .there) _ (load-same (a .sort) range w (at t (a .place))) ok e (range ∷ []) (w ∷ []) refl (sym (or-true (at t (a .place) .loaded))) refl (some-not-none w [])
           (λ x y.
           load-stands (senseOf (k .selector)) (a .sort) (ap senseOf (reads-key k l .says e .selector) ∙ a .sense) range w (at t (a .place)) (a .fits))
       go false e = elsewhere t k p s f l (a .place) (a .there) _ (load-same (a .sort) range w (at t (a .place))) ok e
@@ -210,7 +240,7 @@ module _ (t : Table) (k : Key) (p : ℕ) (s : Sound t) (f : whereIs t k ≡ foun
 
       go : (y : Bool) → sameKey k l ≡ y → Moved t k p [] (pick y (valueIn d ∷ []) []) (placed t (a .place) (withCur (a .value) c))
       go true e =
-          here t k p s f l (a .place) (a .there) (withCur (a .value) c) (set-same (a .value) c) ok e [] (valueIn d ∷ []) refl (λ x y. stands e)
+          here t k p s f l (a .place) (a .there) (withCur (a .value) c) (set-same (a .value) c) ok e [] (valueIn d ∷ []) refl (sym (or-false (c .loaded))) refl (some-not-none (valueIn d) []) (λ x y. stands e)
       go false e = elsewhere t k p s f l (a .place) (a .there) (withCur (a .value) c) (set-same (a .value) c) ok e
 
   load-step : (l : Key) (range : Range) (w : ℕ) (o : Outcome) → loadOf t (l .unit) (l .channel) (l .selector) range w ≡ o

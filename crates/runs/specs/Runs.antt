@@ -6,12 +6,14 @@
 --   stepOf t st       ==  what the step comes to on the table t
 --   accepted o        ==  it is not refused
 --   tableNext t st    ==  the table after the step
+--   stepKey st        ==  the control that the step addresses
 --   after t run       ==  the table after the run
 --   sameKey k l       ==  the two are the same control
 --   rangesIn k st     ==  the range that the step gives to k, if it is a load of k
 --   numbersIn k st    ==  the number that the step asks k to take, if it is a load or a Set of k
 --   told f t run      ==  what f finds in the accepted steps of the run, in their order
 --   lastOf x xs       ==  the last of xs, or x where there is none
+--   some xs           ==  there is one
 --   Held s c x        ==  the ranged control's CUR is the closest setting to x, which is not too wide; silence as it is
 --   StandsFor k c x   ==  the control's CUR is what is stored where x is wanted: of a ranged control that is loaded the
 --                         closest setting to x, of another x itself
@@ -40,7 +42,7 @@ use Rattle.request.specs.declared.Asked.the-variants.{Unknown, Set, Get}
 use Rattle.request.specs.Outcome.{Outcome, tableAfter}
 use Rattle.request.specs.Outcome.Outcome.{refused, got, done}
 use Rattle.request.specs.Load.{loadOf}
-use Rattle.request.specs.Request.{askedOf, valueIn, requestOf}
+use Rattle.request.specs.Request.{targetOf, askedOf, valueIn, requestOf}
 
 pub record Key : Type 0 where
   pub unit : ℕ
@@ -68,6 +70,10 @@ accepted (done t) = true
 
 abbrev pub tableNext : Table → Step → Table
 tableNext t st = tableAfter t (stepOf t st)
+
+abbrev pub stepKey : Step → Key
+stepKey (load k range w) = k
+stepKey (request n s d room) = keyOf (targetOf s)
 
 unfoldable pub after : Table → List Step → Table
 after t [] = t
@@ -99,6 +105,10 @@ told f t (st ∷ run) = heard f t st ++ told f (tableNext t st) run
 unfoldable pub lastOf : {A : Type 0} → A → List A → A
 lastOf x [] = x
 lastOf x (y ∷ ys) = lastOf y ys
+
+abbrev pub some : {A : Type 0} → List A → Bool
+some [] = false
+some (x ∷ xs) = true
 
 pub record Held (s : Sort) (c : Control) (x : ℕ) : Type 0 where
   pub fits : fitsOf s x ≡ true

@@ -1,18 +1,19 @@
 -- What a search by what is wanted has found: its place, what it passed, and that nothing of what it passed was wanted.
 --   Found w s from q ==  q is the place of the first wanted descriptor; the descriptors before it are passed, none of them wanted
-use Prim.Native.Nat.{ℕ, _+_, _≤_, _<_}
+use Prim.Native.Nat.{ℕ, _+_, _-_, _≤_, _<_}
 use mathlib.Core.Path.{_≡_, refl, sym, ap, _∙_}
 use mathlib.Core.Bool.{Bool, true, false}
-use mathlib.Core.List.{List, [], _∷_, _++_, flatten, append-assoc, append-cancel-left, Memᴰ·append-left}
-use lib.ListN.{length, drop}
+use mathlib.Core.List.{List, [], _∷_, _++_, flatten, append-assoc, append-nil, append-cancel-left, List·Memᴰ, Memᴰ·append-left}
+use lib.ListN.{length, take, drop, length-take}
+use lib.Seq.{take-at}
 use lib.Dec.{leb}
 use native.Mathlib.Omega.{arith}
 use borrow.Author.Tests.{leb-true, leb-false}
 use Rattle.ground.specs.declared.Place.the-variants.{Nowhere, At}
 use Rattle.ground.specs.Pick.{reads-true, true≠false}
-use Rattle.ground.specs.Lists.{part-drop, flatten-append, total, total-append, any, of-split}
+use Rattle.ground.specs.Lists.{part-drop, drop-take, length-flatten, flatten-append, total, total-append, any, of-split}
 use Rattle.ground.specs.First.{firstFrom, Breaks, first-at, first-none-any, first-at-any, first-before, isBefore, sound-none}
-use Rattle.scan.specs.Cutting.{rest}
+use Rattle.scan.specs.Cutting.{Descriptor, rest}
 use Rattle.scan.specs.CuttingLaws.{Standing, standing, rest-of, rest-none, end-none}
 use Rattle.scan.specs.Search.{searched, Passed}
 use Rattle.scan.specs.Want.{wants, foundFrom}
@@ -27,14 +28,32 @@ pub found-none : (w : Want) (s : List ℕ) (from : ℕ) → foundFrom s from w �
 unfolding foundFrom searched
 found-none w s from e = first-none-any (wants w) from [] (rest s from) e
 
--- what stands from a place on, cut in two: the second part is what stands behind the first
-pub rest-split : (s : List ℕ) (from : ℕ) → from ≤ length s → (x y : List (List ℕ)) → rest s from ≡ x ++ y → rest s (from + total x) ≡ y
-rest-split s from h x y e =
-    let k = standing s from h in
-    let all = from + total (rest s from) in
-    let flat : drop from s ≡ flatten x ++ (flatten y ++ drop all s) =
-    sym (part-drop s from all (omega arith)) ∙ ap (λ (l : List ℕ). l ++ drop all s) (sym (k .flat) ∙ ap flatten e ∙ flatten-append x y) ∙ append-assoc (flatten x) (flatten y) (drop all s) in
-    append-cancel-left x (rest s (from + total x)) y (sym (rest-of s from x (flatten y ++ drop all s) flat (λ d m. k .each d (rw e (Memᴰ·append-left y m)))) ∙ e)
+-- what stands from a place on, cut in two: the second part is what stands behind the first, and the first is all that stands up to there
+module _ (s : List ℕ) (from : ℕ) (h : from ≤ length s) (x y : List (List ℕ)) (e : rest s from ≡ x ++ y) where
+  k : Standing s from (rest s from)
+  k = standing s from h
+
+  all : ℕ
+  all = from + total (rest s from)
+
+  flat : drop from s ≡ flatten x ++ (flatten y ++ drop all s)
+  unfolding all
+  flat = sym (part-drop s from all (omega arith)) ∙ ap (λ (l : List ℕ). l ++ drop all s) (sym (k .flat) ∙ ap flatten e ∙ flatten-append x y) ∙ append-assoc (flatten x) (flatten y) (drop all s)
+
+  each : (d : List ℕ) → List·Memᴰ d x → Descriptor d
+  each d m = k .each d (rw e (Memᴰ·append-left y m))
+
+  pub rest-split : rest s (from + total x) ≡ y
+  rest-split = append-cancel-left x (rest s (from + total x)) y (sym (rest-of s from x (flatten y ++ drop all s) flat each) ∙ e)
+
+  pub rest-front : rest (take (from + total x) s) from ≡ x
+  rest-front =
+      let end = from + total x in
+      let n : end - from ≡ total x = omega arith in
+      let f : drop from (take end s) ≡ flatten x ++ [] =
+      drop-take from end s ∙ ap (λ (i : ℕ). take i (drop from s)) n ∙ ap (take (total x)) flat ∙ take-at (flatten x) (flatten y ++ drop all s) (total x) (length-flatten x) ∙ sym (append-nil (flatten x)) in
+      let l : length (take end s) ≤ end = rw length-take (omega arith) in
+      rest-of (take end s) from x [] f each ∙ ap (λ (r : List (List ℕ)). x ++ r) (rest-none (take end s) end (end-none (take end s) end (λ two room. omega arith))) ∙ append-nil x
 
 pub record Found (w : Want) (s : List ℕ) (from q : ℕ) : Type 0 where
   pub passed : List (List ℕ)

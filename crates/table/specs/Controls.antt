@@ -12,11 +12,10 @@
 --   rangeOf c           ==  the control's MIN, MAX and RES
 --   answersTo u ch s c  ==  c is the control of unit u, channel ch and selector s
 use Prim.Native.Nat.{ℕ}
-use mathlib.Core.Bool.{Bool, true, false, _&&_}
+use mathlib.Core.Bool.{Bool, false, _&&_}
 use lib.ListN.{getD, set, replicate}
 use lib.Dec.{eqb}
 use Rattle.ground.specs.Pick.{pick}
-use Rattle.setting.specs.declared.Sort.{Sort}
 use Rattle.setting.specs.declared.Sort.the-variants.{Volume, Tone, Delay}
 use Rattle.setting.specs.declared.Range.{Range}
 use Rattle.table.specs.declared.Control.{Control}

@@ -1,20 +1,21 @@
 -- What a search for the first place says.
 --   first-here, first-on, first-over  ==  the search, one place at a time
+--   some-on                           ==  the same of whether there is such a place
 --   FirstAt f k i p                   ==  p is the first of the k places from i on where f holds
 --   first-at, at-first                ==  the search answers At p exactly there
 --   first-none, none-first            ==  it answers Nothing exactly where f holds at none of them
 --   first-same                        ==  tests that agree at these places have the same first place
 use Prim.Native.Nat.{ℕ, zero, suc, _+_, _-_, _≤_, _<_}
 use mathlib.Core.Path.{_≡_, refl, sym, ap, _∙_}
-use mathlib.Core.Bool.{Bool, true, false}
-use mathlib.Core.Logic.{_⊎_, inl, inr, ⊎-elim}
+use mathlib.Core.Bool.{Bool, true, false, _||_}
+use mathlib.Core.Logic.{_⊎_, ⊎-elim}
 use native.Mathlib.Numerals.{add-one}
 use native.Mathlib.Omega.{arith}
 use lib.Dec.{eqb}
-use Rattle.ground.specs.Pick.{pick, yes, no, true≠false, decided, reads-eq}
+use Rattle.ground.specs.Pick.{pick, yes, no, decided, reads-eq}
 use Rattle.table.specs.declared.Found.{Found}
 use Rattle.table.specs.declared.Found.the-variants.{Nothing, At}
-use Rattle.table.specs.First.{firstFrom}
+use Rattle.table.specs.First.{firstFrom, isSome}
 
 module _ (f : ℕ → Bool) (n p : ℕ) where
   pub first-over : n ≤ p → firstFrom f (n - p) p ≡ Nothing
@@ -28,6 +29,13 @@ module _ (f : ℕ → Bool) (n p : ℕ) where
   pub first-on : p < n → f p ≡ false → firstFrom f (n - p) p ≡ firstFrom f (n - (p + 1)) (p + 1)
   unfolding firstFrom
   first-on h e = let q : n - p ≡ suc (n - suc p) = omega arith in rw (q, add-one) (no _ _ e)
+
+  some-by : p < n → (b : Bool) → f p ≡ b → isSome (firstFrom f (n - p) p) ≡ (b || isSome (firstFrom f (n - (p + 1)) (p + 1)))
+  some-by h true e = ap isSome (first-here h e)
+  some-by h false e = ap isSome (first-on h e)
+
+  pub some-on : p < n → isSome (firstFrom f (n - p) p) ≡ (f p || isSome (firstFrom f (n - (p + 1)) (p + 1)))
+  some-on h = some-by h (f p) refl
 
 pub record FirstAt (f : ℕ → Bool) (k i p : ℕ) : Type 0 where
   pub from : i ≤ p

@@ -12,16 +12,17 @@
 --   Sound t         ==  30 has nothing against the table
 --   sound-reads     ==  the test holds exactly there
 --   sound-empty     ==  the empty table is one
+--   found-unit      ==  the unit of a control that is found is a unit with controls
 --   sound-counted   ==  each control of such a table stands in the array
-use Prim.Native.Nat.{ℕ, zero, suc, _+_, _-_, _≤_, _<_, min}
+use Prim.Native.Nat.{ℕ, _-_, _≤_, _<_, min}
 use mathlib.Core.Path.{_≡_, refl, sym, ap, _∙_}
 use mathlib.Core.Bool.{Bool, true, false, not, _&&_, _||_}
-use mathlib.Core.Logic.{_⊎_, inl, inr, ⊎-elim}
+use mathlib.Core.Logic.{_⊎_, ⊎-elim}
 use native.Mathlib.Omega.{arith}
 use lib.Dec.{eqb, leb}
-use lib.ListN.{length, getD, List·getD-eq-default}
-use borrow.Author.Tests.{not-true, not-false, eqb-true}
-use Rattle.ground.specs.Pick.{true≠false, Reads, shows, refutes, decided, reads-eq, reads-le, reads-and, reads-not}
+use lib.ListN.{length, List·getD-eq-default}
+use borrow.Author.Tests.{not-false, eqb-true}
+use Rattle.ground.specs.Pick.{true≠false, Reads, shows, refutes, decided, reads-eq, reads-le, reads-and}
 use Rattle.setting.specs.Setting.{fitsOf, legalOf, availableOf}
 use Rattle.setting.specs.Legal.{reads-itself}
 use Rattle.setting.specs.declared.Sort.{Sort}
@@ -32,8 +33,8 @@ use Rattle.table.specs.declared.Sense.the-variants.{Unknown, YesNo, Rang
 use Rattle.table.specs.declared.Found.{Found}
 use Rattle.table.specs.declared.Found.the-variants.{Nothing, At}
 use Rattle.table.specs.Controls.{mostControls, mostPins, blankControl, emptyTable, at, senseOf, rangeOf, answersTo}
-use Rattle.table.specs.First.{firstFrom, isSome, places, foundIn}
-use Rattle.table.specs.FirstLaws.{FirstAt, NoneOf, first-none, none-first, first-at, at-first}
+use Rattle.table.specs.First.{firstFrom, isSome, places, foundIn, unitIn}
+use Rattle.table.specs.FirstLaws.{FirstAt, first-none, none-first, first-at, at-first}
 use Rattle.table.specs.Sound.{narrowOf, soundYesNo, soundPin, soundRanged, soundBy, soundControl, isAt, firstThere, soundPlace, soundOf}
 
 pub record Narrow (c : Control) : Type 0 where
@@ -222,3 +223,21 @@ sound-counted t h p l = ⊎-elim (λ (k : length (t .controls) ≤ p). absurd (p
         let s : SoundPin blankControl = rw e at (h .each p l) in
         let n = s .pins .0 in
         omega arith
+
+-- the unit of a control that is found has a control
+pub found-unit : (t : Table) (u ch s p : ℕ) → foundIn t u ch s ≡ At p → unitIn t u ≡ true
+unfolding foundIn unitIn answersTo
+found-unit t u ch s p e = go (firstFrom owned (places t) 0) refl
+  where
+    owned : ℕ → Bool
+    owned q = eqb (at t q .unit) u
+
+    a : FirstAt (λ q. answersTo u ch s (at t q)) (places t) 0 p
+    a = first-at _ (places t) 0 p e
+
+    mine : owned p ≡ true
+    mine = reads-and (eqb (at t p .unit) u) _ (reads-itself _) (reads-itself _) .says (a .holds) .0
+
+    go : (x : Found) → firstFrom owned (places t) 0 ≡ x → isSome (firstFrom owned (places t) 0) ≡ true
+    go (At q) h = ap isSome h
+    go Nothing h = absurd (true≠false (sym mine ∙ first-none owned (places t) 0 h p (a .from) (a .inside)))

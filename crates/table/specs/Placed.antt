@@ -3,23 +3,22 @@
 --   placed-here      ==  the control stands at its place
 --   placed-elsewhere ==  at every other place stands what stood there, spare places among them
 --   placed-keeps     ==  each place holds the control that it held
+--   kept-found       ==  tables whose places hold the same controls find each where the other does
 --   placed-found     ==  each control is found where it was
 --   placed-sound     ==  30 has nothing against the table if it had nothing and has nothing against the control
-use Prim.Native.Nat.{ℕ, _≤_, _<_}
+use Prim.Native.Nat.{ℕ, _<_, min}
 use mathlib.Core.Path.{_≡_, refl, sym, ap, _∙_}
-use mathlib.Core.Bool.{Bool, true, false}
 use mathlib.Core.Logic.{⊎-elim}
-use native.Mathlib.Omega.{arith}
 use lib.Dec.{eqb}
-use lib.ListN.{length, getD, set}
+use lib.ListN.{length}
 use lib.Seq.{getD-set-same, getD-set-other}
 use Rattle.ground.specs.Pick.{decided, reads-eq}
 use Rattle.table.specs.declared.Control.{Control}
 use Rattle.table.specs.declared.Table.{Table}
-use Rattle.table.specs.Controls.{blankControl, at, placed, senseOf, answersTo}
+use Rattle.table.specs.Controls.{mostControls, blankControl, at, placed, senseOf, answersTo}
 use Rattle.table.specs.First.{firstFrom, places, foundIn}
 use Rattle.table.specs.FirstLaws.{first-same}
-use Rattle.table.specs.Meaning.{Same, SoundAs, Sound, sound-counted}
+use Rattle.table.specs.Meaning.{Same, SoundAs, Sound}
 
 pub same-self : (a : Control) → Same a a
 same-self a = record { unit = refl; channel = refl; selector = refl }
@@ -33,6 +32,13 @@ same-by h k = record { unit = h .unit ∙ k .unit; channel = h .channel ∙ k .c
 same-answers : (u ch s : ℕ) (a b : Control) → Same a b → answersTo u ch s a ≡ answersTo u ch s b
 unfolding answersTo
 same-answers u ch s a b h = rw (h .unit, h .channel, h .selector)
+
+-- tables whose places hold the same controls find each where the other does
+pub kept-found : (t v : Table) → v .count ≡ t .count → ((q : ℕ) → Same (at v q) (at t q)) → (u ch s : ℕ) → foundIn v u ch s ≡ foundIn t u ch s
+unfolding foundIn
+kept-found t v e h u ch s =
+    ap (λ (n : ℕ). firstFrom (λ q. answersTo u ch s (at v q)) (min n mostControls) 0) e
+    ∙ first-same (λ q. answersTo u ch s (at v q)) (λ q. answersTo u ch s (at t q)) (places t) 0 (λ j l m. same-answers u ch s (at v j) (at t j) (h j))
 
 pub placed-elsewhere : (t : Table) (p : ℕ) (c : Control) (q : ℕ) → (q ≡ p → ⊥) → at (placed t p c) q ≡ at t q
 placed-elsewhere t p c q h = getD-set-other (t .controls) p q c blankControl h
@@ -50,10 +56,7 @@ module _ (t : Table) (p : ℕ) (inside : p < length (t .controls)) (c : Control)
         (decided (eqb q p) (reads-eq q p))
 
     pub placed-found : (u ch s : ℕ) → foundIn (placed t p c) u ch s ≡ foundIn t u ch s
-    unfolding foundIn
-    placed-found u ch s =
-        first-same (λ q. answersTo u ch s (at (placed t p c) q)) (λ q. answersTo u ch s (at t q)) (places t) 0
-        (λ j l m. same-answers u ch s (at (placed t p c) j) (at t j) (placed-keeps j))
+    placed-found u ch s = kept-found t (placed t p c) refl placed-keeps u ch s
 
     pub placed-sound : Sound t → SoundAs (senseOf (c .selector)) c → Sound (placed t p c)
     placed-sound s k = record {

@@ -8,7 +8,7 @@
 --   soundPlace t p      ==  30 has nothing against the control at place p
 --   soundOf t           ==  30 has nothing against the table
 use Prim.Native.Nat.{ℕ}
-use mathlib.Core.Bool.{Bool, true, false, not, _&&_, _||_}
+use mathlib.Core.Bool.{Bool, false, not, _&&_, _||_}
 use lib.Dec.{eqb, leb}
 use Rattle.setting.specs.Setting.{fitsOf, legalOf, availableOf}
 use Rattle.setting.specs.declared.Sort.{Sort}

@@ -3,7 +3,7 @@
 // to the layer above: each function answers, for every table whatever, as the definitions of specs/ say.
 ghost use mathlib.Core.Path.{_≡_};
 ghost use Rattle.table.specs.Controls.{blankControl, emptyTable, at, placed, senseOf, sizeOf, answersTo};
-ghost use Rattle.table.specs.First.{foundIn, unitIn};
+ghost use Rattle.table.specs.First.{foundIn, sawUnit, missingBy, lookedUp};
 ghost use Rattle.table.specs.Sound.{narrowOf, soundYesNo, soundPin, soundRanged, soundControl, firstThere, soundPlace, soundOf};
 use setting::Range;
 use setting::Sort;
@@ -48,6 +48,13 @@ pub enum Found {
     At(usize),
 }
 
+// The same, and whether the unit has any control.
+pub enum Lookup {
+    NoUnit,
+    NoControl,
+    At(usize),
+}
+
 // A spare place.
 pub fn blank() -> Control
     ensures { λ r. ⌜ r ≡ blankControl ⌝ }
@@ -80,10 +87,10 @@ pub fn empty() -> Table
 pub fn control_at(table: Table, place: usize) -> Control
     ensures { λ r. ⌜ r ≡ at table place ⌝ }
 {
-    if place < CONTROLS {
-        return table.controls[place];
+    if CONTROLS <= place {
+        return blank();
     }
-    blank()
+    table.controls[place]
 }
 
 // The table with the control at a place, and else as it was; past the last place nothing can be put.
@@ -164,23 +171,46 @@ pub fn find(table: Table, unit: u8, channel: u8, selector: u8) -> Found
     Found::Nothing
 }
 
-// Whether the unit has a control in the table.
-pub fn has_unit(table: Table, unit: u8) -> bool
-    ensures { λ r. ⌜ r ≡ unitIn table unit ⌝ }
+// Whether a unit's control was seen by now.
+fn saw(seen: bool, control: Control, unit: u8) -> bool
+    ensures { λ r. ⌜ r ≡ sawUnit seen unit control ⌝ }
+{
+    if seen {
+        return true;
+    }
+    control.unit == unit
+}
+
+// What is missing where no control was found.
+fn missing(seen: bool) -> Lookup
+    ensures { λ r. ⌜ r ≡ missingBy seen ⌝ }
+{
+    if seen {
+        Lookup::NoControl
+    } else {
+        Lookup::NoUnit
+    }
+}
+
+// Where the control of this unit, channel and selector stands, or whether not even the unit has a control. One pass.
+pub fn look_up(table: Table, unit: u8, channel: u8, selector: u8) -> Lookup
+    ensures { λ r. ⌜ r ≡ lookedUp table unit channel selector ⌝ }
 {
     let count = table.count;
+    let mut seen = false;
     let mut place = 0;
     while place < CONTROLS {
         if count <= place {
-            return false;
+            return missing(seen);
         }
         let control = table.controls[place];
-        if control.unit == unit {
-            return true;
+        if answers(control, unit, channel, selector) {
+            return Lookup::At(place);
         }
+        seen = saw(seen, control, unit);
         place += 1;
     }
-    false
+    missing(seen)
 }
 
 // Whether no number of the control is too wide for one byte.

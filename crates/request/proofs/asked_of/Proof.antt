@@ -1,3 +1,4 @@
+-- Type and request, number by number.
 use borrow.Author.Needs.{needs}
 use Prim.Native.Nat.{ℕ}
 use mathlib.Core.Path.{_≡_, sym, ap, _∙_}
@@ -5,13 +6,10 @@ use borrow.Author.Tests.{eq-eqb, ne-eqb}
 use Rattle.ground.specs.Pick.{yes, no}
 use Rattle.request.specs.declared.Target.{Target}
 use Rattle.request.specs.declared.Part.the-variants.{Cur, Min, Max, Res}
-use Rattle.request.specs.declared.Asked.{Asked}
 use Rattle.request.specs.declared.Asked.the-variants.{Unknown, Set, Get}
 use Rattle.request.specs.Request.{getAsked, askedBy}
 use Rattle.request.proofs.asked_of.Statement.{statement}
 use Rattle.request.proofs.asked_of.Tie as tie
-use Rattle.request.proofs.asked_of.Reads as reads
-use Rattle.request.proofs.asked_of.Lts as lts
 
 -- one law for each way out
 module _ (g : Target) (a b : ℕ) where

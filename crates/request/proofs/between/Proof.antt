@@ -1,3 +1,4 @@
+-- Below the least and above the most there is no setting.
 use borrow.Author.Needs.{needs}
 use Prim.Native.Nat.{ℕ, _≤_, _<_}
 use mathlib.Core.Path.{_≡_}
@@ -6,8 +7,6 @@ use Rattle.request.specs.declared.Settled.the-variants.{NoSetting, To}
 use Rattle.request.specs.Request.{settledBetween}
 use Rattle.request.proofs.between.Statement.{statement}
 use Rattle.request.proofs.between.Tie as tie
-use Rattle.request.proofs.between.Reads as reads
-use Rattle.request.proofs.between.Lts as lts
 
 -- one law for each way out
 module _ (least most x : ℕ) where

@@ -1,3 +1,4 @@
+-- Either there is no place, and its refusal is handed on, or the control at the place answers.
 use borrow.Author.Needs.{needs}
 use Prim.Native.Nat.{ℕ}
 use mathlib.Core.Path.{_≡_, sym, ap, _∙_}
@@ -13,11 +14,6 @@ use Rattle.request.specs.Request.{addressedIn, getAt, getFrom, getOf}
 use Rattle.request.proofs.Outcomes.{refusal, refuses-all, hands-all-on}
 use Rattle.request.proofs.get.Statement.{statement}
 use Rattle.request.proofs.get.Tie as tie
-use Rattle.request.proofs.get.Reads as reads
-use Rattle.request.proofs.get.Lts as lts
-use Rattle.request.proofs.address.Reads as address-reads
-use Rattle.request.proofs.get_at.Reads as get-at-reads
-use Rattle.request.proofs.refused.Reads as refused-reads
 
 -- one law for each way out
 module _ (t : Table) (n : ℕ) (part : Part) (g : Target) (room : ℕ) (b : List ℕ) (r : Answer) (a : Addressed) (e : a ≡ addressedIn t n g) where

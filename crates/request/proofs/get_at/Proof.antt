@@ -1,3 +1,4 @@
+-- Each refusal ends it in the paper's order; past them the value has one byte or two, and they fit the reply.
 use borrow.Author.Needs.{needs}
 use Prim.Native.Nat.{ℕ, zero, suc, _≤_, _<_}
 use mathlib.Core.Path.{_≡_, refl, sym, ap, _∙_}
@@ -6,7 +7,7 @@ use mathlib.Core.Bool.{Bool, true, false, not}
 use native.Mathlib.Omega.{arith}
 use lib.Dec.{eqb}
 use lib.ListN.{length}
-use borrow.Author.Tests.{eq-eqb, ne-eqb, lt-ltb, le-ltb, not-true, not-false}
+use borrow.Author.Tests.{eq-eqb, ne-eqb, lt-ltb, le-ltb}
 use Rattle.ground.specs.Pick.{yes, no}
 use Rattle.setting.specs.declared.Sort.the-variants.{Volume, Tone, Delay}
 use Rattle.table.specs.declared.Control.{Control}
@@ -16,22 +17,11 @@ use Rattle.table.specs.declared.Sense.the-variants.{Unknown, YesNo, Ranged, Pin
 use Rattle.table.specs.Controls.{at, senseOf, sizeOf}
 use Rattle.request.specs.declared.Answer.{Answer}
 use Rattle.request.specs.declared.Part.{Part}
-use Rattle.request.specs.Outcome.{Outcome, laid, lowFirst, Answered}
-use Rattle.request.specs.Outcome.Outcome.{refused, got}
+use Rattle.request.specs.Outcome.{laid, lowFirst, Answered}
 use Rattle.request.specs.Request.{lacking, partOf, unready, getBy, getAt}
 use Rattle.request.proofs.Outcomes.{refusal, refuses-all, gives-all}
 use Rattle.request.proofs.get_at.Statement.{statement}
 use Rattle.request.proofs.get_at.Tie as tie
-use Rattle.request.proofs.get_at.Reads as reads
-use Rattle.request.proofs.get_at.Lts as lts
-use Rattle.request.proofs.is_unready.Reads as is-unready-reads
-use Rattle.request.proofs.lacks.Reads as lacks-reads
-use Rattle.request.proofs.part_of.Reads as part-of-reads
-use Rattle.request.proofs.refused.Reads as refused-reads
-use Rattle.request.proofs.write.Reads as write-reads
-use Rattle.table.proofs.control_at.Reads as control-at-reads
-use Rattle.table.proofs.sense_of.Reads as sense-of-reads
-use Rattle.table.proofs.size.Reads as size-reads
 
 -- a value has one byte or two
 sized : (k : Sense) → (1 ≤ sizeOf k) × (sizeOf k ≤ 2)

@@ -1,3 +1,4 @@
+-- An unranged control is always ready; a ranged one where it is loaded.
 use borrow.Author.Needs.{needs}
 use mathlib.Core.Path.{_≡_, sym, _∙_}
 use mathlib.Core.Bool.{Bool, true, false, not}
@@ -7,9 +8,6 @@ use Rattle.table.specs.declared.Sense.{Sense}
 use Rattle.request.specs.Request.{isRanged, unready}
 use Rattle.request.proofs.is_unready.Statement.{statement}
 use Rattle.request.proofs.is_unready.Tie as tie
-use Rattle.request.proofs.is_unready.Reads as reads
-use Rattle.request.proofs.is_unready.Lts as lts
-use Rattle.request.proofs.is_ranged.Reads as is-ranged-reads
 
 -- one law for each way out
 module _ (k : Sense) (c : Control) (b : Bool) (e : b ≡ isRanged k) where

@@ -1,5 +1,6 @@
+-- CUR is a part of every control; the others of the ranged ones.
 use borrow.Author.Needs.{needs}
-use mathlib.Core.Path.{_≡_, sym, ap, _∙_}
+use mathlib.Core.Path.{_≡_, sym, _∙_}
 use mathlib.Core.Bool.{Bool, true, false, not}
 use borrow.Author.Tests.{not-true, not-false}
 use Rattle.table.specs.declared.Sense.{Sense}
@@ -7,10 +8,6 @@ use Rattle.request.specs.declared.Part.{Part}
 use Rattle.request.specs.Request.{isRanged, ofRange, lacking}
 use Rattle.request.proofs.lacks.Statement.{statement}
 use Rattle.request.proofs.lacks.Tie as tie
-use Rattle.request.proofs.lacks.Reads as reads
-use Rattle.request.proofs.lacks.Lts as lts
-use Rattle.request.proofs.is_ranged.Reads as is-ranged-reads
-use Rattle.request.proofs.of_range.Reads as of-range-reads
 
 -- one law for each way out
 module _ (k : Sense) (part : Part) (a : Bool) (e : a ≡ ofRange part) where

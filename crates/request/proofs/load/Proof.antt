@@ -1,3 +1,4 @@
+-- 30, then the control is sought; where it stands its sense decides.
 use borrow.Author.Needs.{needs}
 use Prim.Native.Nat.{ℕ}
 use mathlib.Core.Path.{_≡_, sym, ap, _∙_}
@@ -18,13 +19,6 @@ use Rattle.request.specs.Load.{loadBy, loadAt, loadOf}
 use Rattle.request.proofs.Outcomes.{refusal, refuses, hands-on}
 use Rattle.request.proofs.load.Statement.{statement}
 use Rattle.request.proofs.load.Tie as tie
-use Rattle.request.proofs.load.Reads as reads
-use Rattle.request.proofs.load.Lts as lts
-use Rattle.request.proofs.load_by.Reads as load-by-reads
-use Rattle.request.proofs.refused.Reads as refused-reads
-use Rattle.table.proofs.find.Reads as find-reads
-use Rattle.table.proofs.sense_of.Reads as sense-of-reads
-use Rattle.table.proofs.sound.Reads as sound-reads
 
 -- one law for each way out
 module _ (t : Table) (u ch s : ℕ) (range : Range) (w : ℕ) (r : Answer) (a : Bool) (e : a ≡ soundOf t) where

@@ -1,6 +1,7 @@
+-- Only a ranged control can be loaded.
 use borrow.Author.Needs.{needs}
 use Prim.Native.Nat.{ℕ}
-use mathlib.Core.Path.{_≡_, sym, ap, _∙_}
+use mathlib.Core.Path.{_≡_}
 use Rattle.setting.specs.declared.Sort.{Sort}
 use Rattle.setting.specs.declared.Range.{Range}
 use Rattle.table.specs.declared.Table.{Table}
@@ -12,10 +13,6 @@ use Rattle.request.specs.Load.{loadRange, loadBy}
 use Rattle.request.proofs.Outcomes.{refusal, refuses, hands-on}
 use Rattle.request.proofs.load_by.Statement.{statement}
 use Rattle.request.proofs.load_by.Tie as tie
-use Rattle.request.proofs.load_by.Reads as reads
-use Rattle.request.proofs.load_by.Lts as lts
-use Rattle.request.proofs.load_range.Reads as load-range-reads
-use Rattle.request.proofs.refused.Reads as refused-reads
 
 -- one law for each way out
 module _ (t : Table) (p : ℕ) (k : Sense) (range : Range) (w : ℕ) (r : Answer) where

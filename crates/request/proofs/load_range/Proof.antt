@@ -1,6 +1,7 @@
+-- A range that is illegal, or a CUR too wide, ends it; past that the control is stored with the closest setting.
 use borrow.Author.Needs.{needs}
 use Prim.Native.Nat.{ℕ}
-use mathlib.Core.Path.{_≡_, sym, ap, _∙_}
+use mathlib.Core.Path.{_≡_, sym, _∙_}
 use mathlib.Core.Bool.{Bool, true, false, not, _&&_}
 use borrow.Author.Tests.{not-true, not-false}
 use Rattle.ground.specs.Pick.{yes, no}
@@ -12,19 +13,10 @@ use Rattle.table.specs.declared.Table.{Table}
 use Rattle.table.specs.Controls.{at}
 use Rattle.request.specs.declared.Answer.{Answer}
 use Rattle.request.specs.Outcome.{answerOf}
-use Rattle.request.specs.Outcome.Outcome.{refused}
 use Rattle.request.specs.Load.{loadedWith, storedIn, loadRange}
 use Rattle.request.proofs.Outcomes.{refusal, refuses, hands-on}
 use Rattle.request.proofs.load_range.Statement.{statement}
 use Rattle.request.proofs.load_range.Tie as tie
-use Rattle.request.proofs.load_range.Reads as reads
-use Rattle.request.proofs.load_range.Lts as lts
-use Rattle.request.proofs.refused.Reads as refused-reads
-use Rattle.request.proofs.stored.Reads as stored-reads
-use Rattle.setting.proofs.closest.Reads as closest-reads
-use Rattle.setting.proofs.fits.Reads as fits-reads
-use Rattle.setting.proofs.legal.Reads as legal-reads
-use Rattle.table.proofs.control_at.Reads as control-at-reads
 
 -- one law for each way out
 module _ (t : Table) (p : ℕ) (s : Sort) (range : Range) (w : ℕ) (a : Bool) (e : a ≡ legalOf s range) (r : Answer) where

@@ -1,20 +1,16 @@
+-- Eight bytes are read into the target, and the first two say what is asked of it.
 use borrow.Author.Needs.{needs}
 use Prim.Native.Nat.{ℕ, _+_, _*_}
-use mathlib.Core.Path.{_≡_, sym, ap, _∙_}
+use mathlib.Core.Path.{_≡_, sym, _∙_}
 use mathlib.Core.List.{List}
 use lib.ListN.{length, getD}
 use borrow.Author.Tests.{eq-eqb, ne-eqb}
 use Rattle.ground.specs.Pick.{yes, no}
-use Rattle.request.specs.declared.Target.{Target}
 use Rattle.request.specs.declared.Asked.{Asked}
 use Rattle.request.specs.declared.Asked.the-variants.{Unknown}
 use Rattle.request.specs.Request.{askedBy, askedOf}
 use Rattle.request.proofs.read_setup.Statement.{statement}
 use Rattle.request.proofs.read_setup.Tie as tie
-use Rattle.request.proofs.read_setup.Reads as reads
-use Rattle.request.proofs.read_setup.Lts as lts
-use Rattle.request.proofs.asked_of.Reads as asked-of-reads
-use Rattle.request.proofs.word.Reads as word-reads
 
 -- one law for each way out
 module _ (s : List ℕ) where

@@ -1,3 +1,4 @@
+-- 30, then what the setup asks; a Set writes nothing, so it leaves the reply, and a Get hands on what it wrote.
 use borrow.Author.Needs.{needs}
 use Prim.Native.Nat.{ℕ}
 use mathlib.Core.Path.{_≡_, refl, sym, ap, _∙_}
@@ -13,7 +14,7 @@ use Rattle.request.specs.declared.Part.{Part}
 use Rattle.request.specs.declared.Asked.{Asked}
 use Rattle.request.specs.declared.Asked.the-variants as asks
 use Rattle.request.specs.Outcome.{Outcome, answerOf, bytesOf, laid, Answered}
-use Rattle.request.specs.Outcome.Outcome.{refused, got, done}
+use Rattle.request.specs.Outcome.Outcome.{refused}
 use lib.Dec.{eqb}
 use lib.ListN.{length}
 use Rattle.table.specs.declared.Sense.{Sense}
@@ -26,13 +27,6 @@ use Rattle.request.specs.Request.{addressedIn, unready, valueIn, settled
 use Rattle.request.proofs.Outcomes.{refusal, refuses-all, hands-all-on}
 use Rattle.request.proofs.request.Statement.{statement}
 use Rattle.request.proofs.request.Tie as tie
-use Rattle.request.proofs.request.Reads as reads
-use Rattle.request.proofs.request.Lts as lts
-use Rattle.request.proofs.get.Reads as get-reads
-use Rattle.request.proofs.read_setup.Reads as read-setup-reads
-use Rattle.request.proofs.refused.Reads as refused-reads
-use Rattle.request.proofs.set.Reads as set-reads
-use Rattle.table.proofs.sound.Reads as sound-reads
 
 -- a Set writes nothing
 silent : (x : Bool) (o q : Outcome) → bytesOf o ≡ [] → bytesOf q ≡ [] → bytesOf (pick x o q) ≡ []

@@ -1,3 +1,4 @@
+-- Either there is no place, and its refusal is handed on, or the control at the place is set.
 use borrow.Author.Needs.{needs}
 use Prim.Native.Nat.{ℕ}
 use mathlib.Core.Path.{_≡_, sym, ap, _∙_}
@@ -12,11 +13,6 @@ use Rattle.request.specs.Request.{addressedIn, setAt, setFrom, setOf}
 use Rattle.request.proofs.Outcomes.{refusal, refuses, hands-on}
 use Rattle.request.proofs.set.Statement.{statement}
 use Rattle.request.proofs.set.Tie as tie
-use Rattle.request.proofs.set.Reads as reads
-use Rattle.request.proofs.set.Lts as lts
-use Rattle.request.proofs.address.Reads as address-reads
-use Rattle.request.proofs.refused.Reads as refused-reads
-use Rattle.request.proofs.set_at.Reads as set-at-reads
 
 -- one law for each way out
 module _ (t : Table) (n : ℕ) (g : Target) (d : List ℕ) (r : Answer) (a : Addressed) (e : a ≡ addressedIn t n g) where

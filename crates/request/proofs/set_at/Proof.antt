@@ -1,6 +1,7 @@
+-- Each refusal ends it in the paper's order; past them the control is stored with what is settled.
 use borrow.Author.Needs.{needs}
 use Prim.Native.Nat.{ℕ}
-use mathlib.Core.Path.{_≡_, refl, sym, ap, _∙_}
+use mathlib.Core.Path.{_≡_, sym, ap, _∙_}
 use mathlib.Core.List.{List}
 use mathlib.Core.Bool.{Bool, true, false, not, _||_}
 use lib.Dec.{eqb}
@@ -14,23 +15,13 @@ use Rattle.table.specs.Controls.{at, senseOf, sizeOf}
 use Rattle.request.specs.declared.Answer.{Answer}
 use Rattle.request.specs.declared.Settled.{Settled}
 use Rattle.request.specs.declared.Settled.the-variants.{NoSetting, To}
-use Rattle.request.specs.Outcome.{Outcome, answerOf}
+use Rattle.request.specs.Outcome.{answerOf}
 use Rattle.request.specs.Outcome.Outcome.{refused}
 use Rattle.request.specs.Load.{storedIn}
 use Rattle.request.specs.Request.{unready, valueIn, settledOf, withCur, setTo, setBy, setAt}
 use Rattle.request.proofs.Outcomes.{refusal, refuses, hands-on}
 use Rattle.request.proofs.set_at.Statement.{statement}
 use Rattle.request.proofs.set_at.Tie as tie
-use Rattle.request.proofs.set_at.Reads as reads
-use Rattle.request.proofs.set_at.Lts as lts
-use Rattle.request.proofs.is_unready.Reads as is-unready-reads
-use Rattle.request.proofs.refused.Reads as refused-reads
-use Rattle.request.proofs.settle.Reads as settle-reads
-use Rattle.request.proofs.stored.Reads as stored-reads
-use Rattle.request.proofs.value_in.Reads as value-in-reads
-use Rattle.table.proofs.control_at.Reads as control-at-reads
-use Rattle.table.proofs.sense_of.Reads as sense-of-reads
-use Rattle.table.proofs.size.Reads as size-reads
 
 -- the outcome, for each way out
 module _ (t : Table) (p : ℕ) (n : ℕ) (d : List ℕ) (k : Sense) where

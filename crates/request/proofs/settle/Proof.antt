@@ -1,6 +1,7 @@
+-- What the control holds says which numbers it takes.
 use borrow.Author.Needs.{needs}
 use Prim.Native.Nat.{ℕ}
-use mathlib.Core.Path.{_≡_, sym, ap, _∙_}
+use mathlib.Core.Path.{_≡_}
 use Rattle.setting.specs.Setting.{closestTo}
 use Rattle.setting.specs.declared.Sort.{Sort}
 use Rattle.table.specs.Controls.{rangeOf}
@@ -12,10 +13,6 @@ use Rattle.request.specs.declared.Settled.the-variants.{NoSetting, To}
 use Rattle.request.specs.Request.{settledBetween, settledOf}
 use Rattle.request.proofs.settle.Statement.{statement}
 use Rattle.request.proofs.settle.Tie as tie
-use Rattle.request.proofs.settle.Reads as reads
-use Rattle.request.proofs.settle.Lts as lts
-use Rattle.request.proofs.between.Reads as between-reads
-use Rattle.setting.proofs.closest.Reads as closest-reads
 
 -- one law for each way out
 module _ (k : Sense) (c : Control) (x : ℕ) where

@@ -1,3 +1,4 @@
+-- The control is put at its place, and no byte is written.
 use borrow.Author.Needs.{needs}
 use Prim.Native.Nat.{ℕ}
 use mathlib.Core.Path.{_≡_, ap}
@@ -8,9 +9,6 @@ use Rattle.request.specs.Outcome.{answerOf}
 use Rattle.request.specs.Load.{storedIn}
 use Rattle.request.proofs.stored.Statement.{statement}
 use Rattle.request.proofs.stored.Tie as tie
-use Rattle.request.proofs.stored.Reads as reads
-use Rattle.request.proofs.stored.Lts as lts
-use Rattle.table.proofs.put.Reads as put-reads
 
 puts : (t u : Table) (p : ℕ) (c : Control) → u ≡ placed t p c → record { number = 0; written = 0; table = u } ≡ answerOf t (storedIn t p c)
 unfolding answerOf

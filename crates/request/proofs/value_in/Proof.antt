@@ -1,6 +1,7 @@
+-- One byte, or two with the low one first.
 use borrow.Author.Needs.{needs}
 use Prim.Native.Nat.{ℕ, _+_, _*_}
-use mathlib.Core.Path.{_≡_, sym, ap, _∙_}
+use mathlib.Core.Path.{_≡_, sym, _∙_}
 use mathlib.Core.List.{List}
 use native.Mathlib.Omega.{arith}
 use lib.ListN.{length, getD}
@@ -9,9 +10,6 @@ use Rattle.ground.specs.Pick.{yes, no}
 use Rattle.request.specs.Request.{valueIn}
 use Rattle.request.proofs.value_in.Statement.{statement}
 use Rattle.request.proofs.value_in.Tie as tie
-use Rattle.request.proofs.value_in.Reads as reads
-use Rattle.request.proofs.value_in.Lts as lts
-use Rattle.request.proofs.word.Reads as word-reads
 
 -- one law for each way out
 module _ (d : List ℕ) where

@@ -1,15 +1,14 @@
+-- One byte or two are stored at the front; the rest of the list is what it was.
 use borrow.Author.Needs.{needs}
-use Prim.Native.Nat.{ℕ, zero, suc, _≤_, _<_, _%_, _/_}
-use mathlib.Core.Path.{_≡_, refl, sym, ap, _∙_}
+use Prim.Native.Nat.{ℕ, _≤_, _<_, _%_, _/_}
+use mathlib.Core.Path.{_≡_, refl}
 use mathlib.Core.List.{List, [], _∷_}
 use native.Mathlib.Omega.{arith}
 use native.Mathlib.Nat.{mod-eq-of-lt, div-mul-le-self}
-use lib.ListN.{length, getD, set, length-set}
+use lib.ListN.{length, set, length-set}
 use Rattle.request.specs.Outcome.{laid, lowFirst}
 use Rattle.request.proofs.write.Statement.{statement}
 use Rattle.request.proofs.write.Tie as tie
-use Rattle.request.proofs.write.Reads as reads
-use Rattle.request.proofs.write.Lts as lts
 
 -- one law for each way out
 two : (x : ℕ) (b : List ℕ) → x < 65536 → 2 ≤ length b → set (set b 0 (x % 256)) 1 (x / 256) ≡ laid (lowFirst 2 x) b

@@ -1,3 +1,5 @@
+-- A control answers where its unit, channel and selector are the three asked for: each test that fails ends the search for
+-- a yes.
 use borrow.Author.Needs.{needs}
 use mathlib.Core.Path.{_≡_}
 use mathlib.Core.Bool.{false}
@@ -8,8 +10,6 @@ use Rattle.table.specs.declared.Control.{Control}
 use Rattle.table.specs.Controls.{answersTo}
 use Rattle.table.proofs.answers.Statement.{statement}
 use Rattle.table.proofs.answers.Tie as tie
-use Rattle.table.proofs.answers.Reads as reads
-use Rattle.table.proofs.answers.Lts as lts
 
 -- one law for each way out
 module _ (u ch s : ℕ) (c : Control) where

@@ -1,9 +1,7 @@
+-- An array of spare places is the list of as many.
 use borrow.Author.Needs.{needs}
 use Rattle.table.proofs.empty.Statement.{statement}
 use Rattle.table.proofs.empty.Tie as tie
-use Rattle.table.proofs.empty.Reads as reads
-use Rattle.table.proofs.empty.Lts as lts
-use Rattle.table.proofs.blank.Reads as blank-reads
 
 -- src/lib.rt:72:9
 blank-requires : tie.Need-blank-requires

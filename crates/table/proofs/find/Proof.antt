@@ -1,27 +1,24 @@
 -- The search has come to a place, and what is left of it is the whole search.
 use borrow.Author.Needs.{needs}
 use Prim.Native.Nat.{ℕ, _+_, _-_, _≤_, _<_}
-use mathlib.Core.Path.{_≡_, refl, sym, _∙_}
+use mathlib.Core.Path.{_≡_, sym, _∙_}
 use mathlib.Core.Bool.{Bool, true, false}
 use native.Mathlib.Nat.{sub-zero}
 use native.Mathlib.Omega.{arith}
 use Rattle.table.specs.declared.Table.{Table}
 use Rattle.table.specs.declared.Found.the-variants.{Nothing, At}
-use Rattle.table.specs.Controls.{at, answersTo}
+use Rattle.table.specs.Controls.{mostControls, at, answersTo}
 use Rattle.table.specs.First.{firstFrom, places, foundIn}
 use Rattle.table.specs.FirstLaws.{first-here, first-on, first-over}
 use Rattle.table.proofs.find.Statement.{statement}
 use Rattle.table.proofs.find.Tie as tie
-use Rattle.table.proofs.find.Reads as reads
-use Rattle.table.proofs.find.Lts as lts
-use Rattle.table.proofs.answers.Reads as answers-reads
 
 module _ (t : Table) (u ch s : ℕ) where
   abbrev wanted : ℕ → Bool
   wanted p = answersTo u ch s (at t p)
 
   record Come (p : ℕ) : Type 0 where
-    low : p ≤ 128
+    low : p ≤ mostControls
     same : foundIn t u ch s ≡ firstFrom wanted (places t - p) p
 
   start : Come 0
@@ -32,10 +29,10 @@ module _ (t : Table) (u ch s : ℕ) where
     none-left : t .count ≤ p → Nothing ≡ foundIn t u ch s
     none-left h = sym (g .same ∙ first-over wanted (places t) p (omega arith))
 
-    no-place : 128 ≤ p → Nothing ≡ foundIn t u ch s
+    no-place : mostControls ≤ p → Nothing ≡ foundIn t u ch s
     no-place h = sym (g .same ∙ first-over wanted (places t) p (omega arith))
 
-    module _ (h : p < 128) (k : p < t .count) (b : Bool) (e : b ≡ wanted p) where
+    module _ (h : p < mostControls) (k : p < t .count) (b : Bool) (e : b ≡ wanted p) where
       here : b ≡ true → At p ≡ foundIn t u ch s
       here f = sym (g .same ∙ first-here wanted (places t) p (omega arith) (sym e ∙ f))
 
@@ -48,7 +45,7 @@ abbrev Inv-loop : tie.InvT-loop
 Inv-loop unit channel selector table count place₀ place = Come table unit channel selector place
 
 abbrev μ-loop : tie.MeasureT-loop
-μ-loop unit channel selector table count place₀ place = 128 - place
+μ-loop unit channel selector table count place₀ place = mostControls - place
 
 loop-holds : tie.Need-loop-holds Inv-loop μ-loop
 loop-holds c = search laws

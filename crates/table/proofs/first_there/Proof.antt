@@ -1,3 +1,4 @@
+-- The search says where the control first stands; the answer is whether that is this place.
 use borrow.Author.Needs.{needs}
 use Prim.Native.Nat.{ℕ}
 use mathlib.Core.Path.{_≡_, sym, ap, _∙_}
@@ -11,9 +12,6 @@ use Rattle.table.specs.First.{foundIn}
 use Rattle.table.specs.Sound.{isAt, firstThere}
 use Rattle.table.proofs.first_there.Statement.{statement}
 use Rattle.table.proofs.first_there.Tie as tie
-use Rattle.table.proofs.first_there.Reads as reads
-use Rattle.table.proofs.first_there.Lts as lts
-use Rattle.table.proofs.find.Reads as find-reads
 
 module _ (t : Table) (p : ℕ) (c : Control) (f : Found) (e : f ≡ foundIn t (c .unit) (c .channel) (c .selector)) where
   nowhere : f ≡ Nothing → false ≡ firstThere t p c

@@ -1,3 +1,4 @@
+-- Each number over 255 ends it; the last test is the answer.
 use borrow.Author.Needs.{needs}
 use Prim.Native.Nat.{_≤_, _<_}
 use mathlib.Core.Path.{_≡_}

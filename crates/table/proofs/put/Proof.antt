@@ -1,3 +1,4 @@
+-- Below the last place the array is written; past it writing a list changes nothing.
 use Prim.Native.Nat.{ℕ, _≤_}
 use mathlib.Core.Path.{_≡_, sym, ap}
 use mathlib.Core.List.{List}
@@ -10,8 +11,6 @@ use Rattle.table.specs.Controls.{mostControls, placed}
 use borrow.Author.Needs.{needs}
 use Rattle.table.proofs.put.Statement.{statement}
 use Rattle.table.proofs.put.Tie as tie
-use Rattle.table.proofs.put.Reads as reads
-use Rattle.table.proofs.put.Lts as lts
 
 past-end : (t : Table) (p : ℕ) (c : Control) → length (t .controls) ≡ mostControls → mostControls ≤ p → t ≡ placed t p c
 past-end t p c h k =

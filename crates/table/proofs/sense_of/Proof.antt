@@ -1,14 +1,13 @@
+-- Each number of document 01 by itself; any other is unknown.
 use borrow.Author.Needs.{needs}
 use Prim.Native.Nat.{ℕ}
-use mathlib.Core.Path.{_≡_, refl}
+use mathlib.Core.Path.{_≡_}
 use borrow.Author.Tests.{ne-eqb}
 use Rattle.setting.specs.declared.Sort.the-variants.{Volume, Tone, Delay}
 use Rattle.table.specs.declared.Sense.the-variants.{Unknown, YesNo, Ranged, Pin}
 use Rattle.table.specs.Controls.{senseOf}
 use Rattle.table.proofs.sense_of.Statement.{statement}
 use Rattle.table.proofs.sense_of.Tie as tie
-use Rattle.table.proofs.sense_of.Reads as reads
-use Rattle.table.proofs.sense_of.Lts as lts
 
 -- one law for each number
 module _ (n : ℕ) where

@@ -1,38 +1,34 @@
 -- The test has come to a place, and what is left of it is the whole test.
 use borrow.Author.Needs.{needs}
 use Prim.Native.Nat.{ℕ, _+_, _-_, _≤_, _<_}
-use mathlib.Core.Path.{_≡_, refl, sym, ap, _∙_}
-use mathlib.Core.Bool.{Bool, true, false, not, _&&_}
+use mathlib.Core.Path.{_≡_, sym, ap, _∙_}
+use mathlib.Core.Bool.{Bool, true, false, not}
 use native.Mathlib.Nat.{sub-zero}
 use native.Mathlib.Omega.{arith}
 use borrow.Author.Tests.{le-leb, lt-leb, not-true, not-false}
 use Rattle.table.specs.declared.Table.{Table}
 use Rattle.table.specs.declared.Found.{Found}
-use Rattle.table.specs.Controls.{at}
+use Rattle.table.specs.Controls.{mostControls, at}
 use Rattle.table.specs.First.{firstFrom, isSome}
 use Rattle.table.specs.FirstLaws.{first-here, first-on, first-over}
 use Rattle.table.specs.Sound.{soundControl, firstThere, soundPlace, soundOf}
 use Rattle.table.proofs.sound.Statement.{statement}
 use Rattle.table.proofs.sound.Tie as tie
-use Rattle.table.proofs.sound.Reads as reads
-use Rattle.table.proofs.sound.Lts as lts
-use Rattle.table.proofs.first_there.Reads as first-there-reads
-use Rattle.table.proofs.sound_control.Reads as sound-control-reads
 
 module _ (t : Table) where
   abbrev bad : ℕ → Bool
   bad p = not (soundPlace t p)
 
   record Come (p : ℕ) : Type 0 where
-    few : t .count ≤ 128
+    few : t .count ≤ mostControls
     low : p ≤ t .count
     same : soundOf t ≡ not (isSome (firstFrom bad (t .count - p) p))
 
-  too-many : 128 < t .count → false ≡ soundOf t
+  too-many : mostControls < t .count → false ≡ soundOf t
   unfolding soundOf
   too-many h = simp (lt-leb _ _ h)
 
-  start : t .count ≤ 128 → Come 0
+  start : t .count ≤ mostControls → Come 0
   unfolding soundOf
   start h = record { few = h; low = omega arith; same = rw (sub-zero, le-leb _ _ h) }
 
@@ -64,7 +60,7 @@ module _ (t : Table) where
             }
 
 -- a place of the table is one of the array
-inside : (t : Table) (p : ℕ) → Come t p → p < t .count → p < 128
+inside : (t : Table) (p : ℕ) → Come t p → p < t .count → p < mostControls
 inside t p g h = let k = g .few in omega arith
 
 ruleset laws = (too-many, start, over, unsound, twin, on, inside, needs)

@@ -1,5 +1,6 @@
+-- The sense of the selector says which of the three tests is asked.
 use borrow.Author.Needs.{needs}
-use mathlib.Core.Path.{_≡_, refl, sym, ap, _∙_}
+use mathlib.Core.Path.{_≡_, sym, ap, _∙_}
 use mathlib.Core.Bool.{Bool, false}
 use Rattle.setting.specs.declared.Sort.{Sort}
 use Rattle.table.specs.declared.Control.{Control}
@@ -9,12 +10,6 @@ use Rattle.table.specs.Controls.{senseOf}
 use Rattle.table.specs.Sound.{soundBy, soundYesNo, soundPin, soundRanged, soundControl}
 use Rattle.table.proofs.sound_control.Statement.{statement}
 use Rattle.table.proofs.sound_control.Tie as tie
-use Rattle.table.proofs.sound_control.Reads as reads
-use Rattle.table.proofs.sound_control.Lts as lts
-use Rattle.table.proofs.sense_of.Reads as sense-of-reads
-use Rattle.table.proofs.sound_pin.Reads as sound-pin-reads
-use Rattle.table.proofs.sound_ranged.Reads as sound-ranged-reads
-use Rattle.table.proofs.sound_yes_no.Reads as sound-yes-no-reads
 
 -- one law for each way out
 module _ (c : Control) (k : Sense) (e : k ≡ senseOf (c .selector)) where

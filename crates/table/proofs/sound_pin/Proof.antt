@@ -1,3 +1,5 @@
+-- Each thing that 30 has against a Selector's control ends it, in the order of the definition; the last test is the
+-- answer.
 use borrow.Author.Needs.{needs}
 use Prim.Native.Nat.{_≤_, _<_}
 use mathlib.Core.Path.{_≡_, sym, _∙_}
@@ -9,9 +11,6 @@ use Rattle.table.specs.Controls.{mostPins}
 use Rattle.table.specs.Sound.{narrowOf, soundPin}
 use Rattle.table.proofs.sound_pin.Statement.{statement}
 use Rattle.table.proofs.sound_pin.Tie as tie
-use Rattle.table.proofs.sound_pin.Reads as reads
-use Rattle.table.proofs.sound_pin.Lts as lts
-use Rattle.table.proofs.narrow.Reads as narrow-reads
 
 -- one law for each way out
 module _ (c : Control) where

@@ -1,3 +1,4 @@
+-- Each thing that 30 has against a ranged control ends it; one that is not loaded passes after its channel.
 use borrow.Author.Needs.{needs}
 use Prim.Native.Nat.{_≤_, _<_}
 use mathlib.Core.Path.{_≡_, sym, _∙_}
@@ -10,11 +11,6 @@ use Rattle.table.specs.Controls.{rangeOf}
 use Rattle.table.specs.Sound.{soundRanged}
 use Rattle.table.proofs.sound_ranged.Statement.{statement}
 use Rattle.table.proofs.sound_ranged.Tie as tie
-use Rattle.table.proofs.sound_ranged.Reads as reads
-use Rattle.table.proofs.sound_ranged.Lts as lts
-use Rattle.setting.proofs.available.Reads as available-reads
-use Rattle.setting.proofs.fits.Reads as fits-reads
-use Rattle.setting.proofs.legal.Reads as legal-reads
 
 -- one law for each way out
 module _ (s : Sort) (c : Control) where

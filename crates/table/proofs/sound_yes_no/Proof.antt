@@ -1,3 +1,4 @@
+-- Each thing that 30 has against a yes/no control ends it; the last test is the answer.
 use borrow.Author.Needs.{needs}
 use Prim.Native.Nat.{_≤_, _<_}
 use mathlib.Core.Path.{_≡_, sym, _∙_}
@@ -8,9 +9,6 @@ use Rattle.table.specs.declared.Control.{Control}
 use Rattle.table.specs.Sound.{narrowOf, soundYesNo}
 use Rattle.table.proofs.sound_yes_no.Statement.{statement}
 use Rattle.table.proofs.sound_yes_no.Tie as tie
-use Rattle.table.proofs.sound_yes_no.Reads as reads
-use Rattle.table.proofs.sound_yes_no.Lts as lts
-use Rattle.table.proofs.narrow.Reads as narrow-reads
 
 -- one law for each way out
 module _ (c : Control) where

@@ -1,0 +1,3 @@
+pub mod Edition
+pub mod Audio
+pub mod Topology

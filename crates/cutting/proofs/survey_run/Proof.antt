@@ -1,0 +1,85 @@
+use borrow.Author.Needs.{needs}
+use Prim.Native.Nat.{ℕ, _+_, _-_}
+use mathlib.Core.Path.{_≡_, refl, sym, ap, _∙_}
+use mathlib.Core.List.{List}
+use native.Mathlib.Omega.{arith}
+use lib.ListN.{length, take}
+use borrow.Author.Tests.{eq-eqb, ne-eqb}
+use Rattle.ground.specs.declared.Refusal.{Refusal}
+use Rattle.ground.specs.Pick.{yes, no}
+use Rattle.ground.specs.Numbers.{byte}
+use Rattle.ground.specs.Lists.{part}
+use Rattle.ground.specs.Refuse.{none}
+use Rattle.scan.specs.Cutting.{rest}
+use Rattle.entities.specs.declared.Run.{Run}
+use Rattle.entities.specs.Run.{runIn}
+use Rattle.groups.specs.declared.Frame.{Frame}
+use Rattle.cutting.specs.declared.Survey.{Survey}
+use Rattle.ground.specs.Refuse.{chain-none}
+use Rattle.cutting.specs.Verdict.{run-chain}
+use Rattle.cutting.specs.Survey.{runOf, breach8, breach9, runJudged, refusedSurvey, surveyed, runRefused, runSurvey}
+use Rattle.cutting.proofs.survey_run.Statement.{statement}
+use Rattle.cutting.proofs.survey_run.Tie as tie
+
+module _ (c : List ℕ) (f : Frame) (s : List ℕ) (e : s ≡ part c 0 (f .end)) where
+  front : s ≡ take (f .end) c
+  front = let z : f .end - 0 ≡ f .end = omega arith in e ∙ ap (λ (i : ℕ). take i c) z
+
+  module _ (run : Run) (g : run ≡ runIn (f .run) (rest s (f .run))) where
+    run-told : run ≡ runIn (f .run) (runOf c f)
+    unfolding runOf
+    run-told = g ∙ ap (λ (x : List ℕ). runIn (f .run) (rest x (f .run))) front
+
+    count-told : run .count ≡ length (runOf c f)
+    unfolding runIn
+    count-told = ap (λ (r : Run). r .count) run-told
+
+    module _ (v : Refusal) (h : v ≡ runRefused s (f .run) (run .count) (f .header)) where
+      judged-told : v ≡ runJudged c f none
+      unfolding runRefused runJudged breach8 breach9
+      judged-told = h ∙ rw (count-told, front) refl
+
+      turned-away : (v .number ≡ 0 → ⊥) → (r : Survey) → r ≡ refusedSurvey v → r ≡ runSurvey c f
+      unfolding runSurvey
+      turned-away n r k = k ∙ ap refusedSurvey judged-told ∙ sym (no _ _ (ne-eqb _ _ (λ q. n (ap (λ (x : Refusal). x .number) judged-told ∙ q))))
+
+      taken : v .number ≡ 0 → (b : ℕ) → b ≡ byte c (f .control + 2) → record { refusal = v; control = b; header = f .header; run = run } ≡ runSurvey c f
+      unfolding runSurvey surveyed
+      taken z b k =
+          let n : v ≡ none = judged-told ∙ chain-none (runJudged c f) (run-chain c f) (sym (ap (λ (x : Refusal). x .number) judged-told) ∙ z) in
+          rw (n, k, run-told) (sym (yes _ _ (eq-eqb _ _ (sym (ap (λ (x : Refusal). x .number) judged-told) ∙ z))))
+
+ruleset laws = (turned-away, taken, needs)
+
+stretch-requires : tie.Need-stretch-requires
+stretch-requires c κs = search laws
+
+read-run-requires : tie.Need-read-run-requires
+read-run-requires c κs = search laws
+
+judge-run-requires : tie.Need-judge-run-requires
+judge-run-requires c κs = search laws
+
+refused-requires : tie.Need-refused-requires
+refused-requires c κs = search laws
+
+returns : tie.Need-returns
+returns c = search laws
+
+number-of-requires : tie.Need-number-of-requires
+number-of-requires c κs = search laws
+
+returns-2 : tie.Need-returns-2
+returns-2 c = search laws
+
+pub survey-run-spec : {M : Type 1} → statement M
+survey-run-spec =
+    tie.close
+    (tie.spec
+    stretch-requires
+    read-run-requires
+    judge-run-requires
+    refused-requires
+    returns
+    number-of-requires
+    returns-2)

@@ -1,0 +1,88 @@
+-- What the rules that are kept so far say of the places that the reader works with.
+use Prim.Native.Nat.{ℕ, _+_, _≤_}
+use mathlib.Core.Path.{_≡_, sym, ap, _∙_}
+use mathlib.Core.Bool.{not, _&&_}
+use mathlib.Core.List.{List, _∷_, _++_, List·Memᴰ, head-eq-of-cons-eq, tail-eq-of-cons-eq}
+use lib.ListN.{length}
+use lib.Dec.{eqb}
+use native.Mathlib.Omega.{arith}
+use Rattle.ground.specs.Pick.{Reads}
+use Rattle.ground.specs.Numbers.{word}
+use Rattle.ground.specs.Lists.{total, total-append, length-flatten, stop-at, front-one}
+use Rattle.ground.specs.First.{Sound}
+use Rattle.scan.specs.Cutting.{rest}
+use Rattle.scan.specs.CuttingLaws.{cutting-rest}
+use Rattle.scan.specs.Want.{Audio}
+use Rattle.groups.specs.Rules.{second-control, Rule5, Rule6, Rule7}
+use Rattle.groups.specs.Reading.{frameOf, frameFrom, headerOf, isHeader, straysFrom, listedOf, collects}
+use Rattle.groups.specs.FrameLaws.{Framed, framed, nine, header-told, header-room, reads-rule5}
+use Rattle.groups.specs.TotalLaws.{reads-rule6, rule6-run}
+use Rattle.groups.specs.CollectionLaws.{reads-rule7}
+use Rattle.cutting.specs.Rules.{Opened, headerPlace}
+use Rattle.cutting.specs.Survey.{runOf}
+
+module _ (s : List ℕ) (o : Opened s) where
+  pub cut-told : rest s 0 ≡ o .descriptors
+  cut-told = cutting-rest s (o .descriptors) (o .rule3)
+
+  none-before : (before : List (List ℕ)) (control : List ℕ) (tail : List (List ℕ)) → o .descriptors ≡ before ++ control ∷ tail → Audio 1 control → (d : List ℕ) → List·Memᴰ d before → Audio 1 d → ⊥
+  unfolding Sound
+  none-before before control tail e c d m a = o .rule4 .right before control tail e (second-control c (record { one = d; among = m; has = a }))
+
+  -- the AudioControl interface is one, so it stands where the reader finds it
+  pub frame-told : Framed s (o .before) (o .control) (o .tail)
+  frame-told = go (framed s (rw cut-told (o .rule4)))
+    where
+      go : (before : List (List ℕ)) × (control : List ℕ) × (tail : List (List ℕ)) × Framed s before control tail → Framed s (o .before) (o .control) (o .tail)
+      go (before, control, tail, f) =
+          let e : before ++ control ∷ tail ≡ o .before ++ o .control ∷ o .tail = sym (f .whole) ∙ cut-told ∙ o .split in
+          let one = front-one (λ d. Audio 1 d → ⊥) before (control ∷ tail) (o .before) (o .control ∷ o .tail) e
+          (λ d m a. f .none-before (record { one = d; among = m; has = a }))
+          (none-before (o .before) (o .control) (o .tail) (o .split) (o .is-control))
+          (stop-at (λ n. n (f .is-control))) (stop-at (λ n. n (o .is-control))) in
+          rw (← (one .0), ← (head-eq-of-cons-eq (one .1)), ← (tail-eq-of-cons-eq (one .1))) f
+
+  pub header-place : frameOf s .header ≡ headerPlace o
+  header-place = frame-told .header-at
+
+  pub rule5-reads : Reads (isHeader (headerOf s (frameOf s))) (Rule5 (o .tail))
+  rule5-reads = reads-rule5 s (o .tail) (frame-told .behind)
+
+  module _ (h : Rule5 (o .tail)) where
+    pub header-is : h .header ≡ headerOf s (frameOf s)
+    header-is = header-told s (o .tail) (frame-told .behind) (h .header) (h .others) (h .stands) .0
+
+    pub others-are : h .others ≡ rest s (frameOf s .run)
+    others-are = header-told s (o .tail) (frame-told .behind) (h .header) (h .others) (h .stands) .1
+
+    -- the whole length, part by part
+    lengths : length s ≡ total (o .before) + (length (o .control) + (length (h .header) + total (h .others)))
+    unfolding total
+    lengths =
+        ap length (sym (o .rule3 .whole)) ∙ length-flatten (o .descriptors) ∙ ap total (o .split ∙ ap (λ (x : List (List ℕ)). o .before ++ o .control ∷ x) (h .stands)) ∙ total-append (o .before) (o .control ∷ h .header ∷ h .others)
+
+    room : (frameOf s .run ≡ frameOf s .header + length (h .header)) × (frameOf s .run ≤ length s)
+    room = header-room s (o .tail) (frame-told .behind) (h .header) (h .others) (h .stands)
+
+    pub run-place : frameOf s .run ≡ headerPlace o + length (h .header)
+    run-place = room .0 ∙ ap (λ (i : ℕ). i + length (h .header)) header-place
+
+    full : frameOf s .run + total (rest s (frameOf s .run)) ≡ length s
+    full =
+        let n : length (o .control) ≡ 9 = nine s (rw cut-told (o .rule4)) (o .before) (o .control) (o .tail) (cut-told ∙ o .split) (o .is-control .0) in
+        let l = lengths in
+        let r = run-place in
+        let t : total (h .others) ≡ total (rest s (frameOf s .run)) = ap total others-are in
+        omega arith
+
+    pub rule6-reads : Reads (eqb (frameOf s .header + word (headerOf s (frameOf s)) 5) (frameOf s .end) && not (straysFrom s (frameOf s .end))) (Rule6 (h .header) (h .others))
+    unfolding frameOf frameFrom
+    rule6-reads = rw (others-are, ← header-is) (reads-rule6 s (h .header) (frameOf s .header) (frameOf s .run) (room .0) (room .1) full)
+
+    pub rule7-reads : Reads (collects s (listedOf (headerOf s (frameOf s)))) (Rule7 (o .descriptors) (listedOf (h .header)))
+    rule7-reads = rw (← cut-told, header-is) (reads-rule7 s (listedOf (headerOf s (frameOf s))))
+
+    -- the run that the rule speaks of is the run that the reader works with
+    pub run-is : (t : Rule6 (h .header) (h .others)) → runOf s (frameOf s) ≡ t .run
+    unfolding runOf frameOf frameFrom
+    run-is t = rule6-run s (h .header) (frameOf s .header) (frameOf s .run) (room .0) (room .1) full (h .others) others-are t

@@ -1,0 +1,5 @@
+pub mod Rules
+pub mod Survey
+pub mod Verdict
+pub mod Context
+pub mod Exact

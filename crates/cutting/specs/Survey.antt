@@ -1,0 +1,57 @@
+-- What the reader computes for the rules 8 and 9, the verdict of all nine, and the survey that the layer above stands on.
+--   runOf s f     ==  the run's descriptors, the entities; f is where the AudioControl group's parts stand
+--   breach8, 9    ==  where rule 8, 9 is broken first
+--   verdict s     ==  the lowest number of 1 to 9 that applies, with its place; 0 and 0 where none does
+--   verdictThen s r ==  the same, with r where none applies
+--   surveyOf s    ==  the verdict; where nothing is refused, the AudioControl number, the header's place and the entities
+use Prim.Native.Nat.{ℕ, _+_}
+use mathlib.Core.List.{List, []}
+use lib.ListN.{length, take}
+use lib.Dec.{eqb}
+use Rattle.ground.specs.declared.Place.{Place}
+use Rattle.ground.specs.declared.Refusal.{Refusal}
+use Rattle.ground.specs.Pick.{pick, within}
+use Rattle.ground.specs.Numbers.{byte}
+use Rattle.ground.specs.Refuse.{none, refuse, keptAt}
+use Rattle.scan.specs.Cutting.{rest}
+use Rattle.scan.specs.Search.{searched}
+use Rattle.layout.specs.Layout.{entityOf, isUnknown}
+use Rattle.entities.specs.Run.{mostEntities, runIn}
+use Rattle.groups.specs.declared.Frame.{Frame}
+use Rattle.groups.specs.Reading.{frameOf, judged}
+use Rattle.cutting.specs.declared.Survey.{Survey}
+
+unfoldable pub runOf : List ℕ → Frame → List (List ℕ)
+runOf s f = rest (take (f .end) s) (f .run)
+
+unfoldable pub breach8 : List ℕ → Frame → Place
+breach8 s f = keptAt (within 1 (length (runOf s f)) mostEntities) (f .header)
+
+unfoldable pub breach9 : List ℕ → Frame → Place
+breach9 s f = searched (λ b d. isUnknown (entityOf d)) (take (f .end) s) (f .run)
+
+unfoldable pub runJudged : List ℕ → Frame → Refusal → Refusal
+runJudged s f r = refuse 8 (breach8 s f) (refuse 9 (breach9 s f) r)
+
+unfoldable pub verdictThen : List ℕ → Refusal → Refusal
+verdictThen s r = judged s (runJudged s (frameOf s) r)
+
+unfoldable pub verdict : List ℕ → Refusal
+verdict s = verdictThen s none
+
+-- a refusal answers interface number 0 and no entity
+unfoldable pub refusedSurvey : Refusal → Survey
+refusedSurvey r = record { refusal = r; control = 0; header = 0; run = runIn 0 [] }
+
+unfoldable pub surveyed : List ℕ → Frame → Survey
+surveyed s f = record { refusal = none; control = byte s (f .control + 2); header = f .header; run = runIn (f .run) (runOf s f) }
+
+-- the same in the order of the reader's steps: rules 8 and 9 of a run in s that is count long, then the survey
+unfoldable pub runRefused : List ℕ → ℕ → ℕ → ℕ → Refusal
+runRefused s from count header = refuse 8 (keptAt (within 1 count mostEntities) header) (refuse 9 (searched (λ b d. isUnknown (entityOf d)) s from) none)
+
+unfoldable pub runSurvey : List ℕ → Frame → Survey
+runSurvey s f = pick (eqb (runJudged s f none .number) 0) (surveyed s f) (refusedSurvey (runJudged s f none))
+
+unfoldable pub surveyOf : List ℕ → Survey
+surveyOf s = pick (eqb (verdict s .number) 0) (surveyed s (frameOf s)) (refusedSurvey (verdict s))

@@ -1,0 +1,27 @@
+use borrow.Author.Needs.{needs}
+use Prim.Native.Nat.{ℕ, _*_}
+use mathlib.Core.Path.{_≡_, refl}
+use lib.Dec.{leb}
+use Rattle.entities.specs.declared.Run.{Run}
+use Rattle.sources.specs.Held.{held}
+use Rattle.records.specs.Records.{roomFor}
+use Rattle.records.proofs.has_room.Statement.{statement}
+use Rattle.records.proofs.has_room.Tie as tie
+
+same : (run : Run) (n room : ℕ) → n ≡ held run → leb (n * 16) room ≡ roomFor run room
+unfolding roomFor
+same run n room e = rw e refl
+
+ruleset laws = (same, needs)
+
+count-requires : tie.Need-count-requires
+count-requires c κs = search laws
+
+mul-result : tie.Need-mul-result
+mul-result c = search laws
+
+returns : tie.Need-returns
+returns c = search laws
+
+pub has-room-spec : {M : Type 1} → statement M
+has-room-spec = tie.close (tie.spec count-requires mul-result returns)

@@ -1,0 +1,82 @@
+-- A table as it is made, before any load: "spare places, and numbers not yet loaded or that a control does not use, are zero.
+-- Yes/no .. at first 0 .. A Selector's value is a pin, at first 1." Refusal 30 has nothing against such a table.
+--   Unused c      ==  MIN, MAX and RES are zero
+--   FreshAs k c   ==  a control that holds k, as it is made
+--   Fresh t       ==  a table whose controls are as they are made: no more than 128, none twice
+--   fresh-sound   ==  30 has nothing against it
+--   fresh-passes, empty-passes  ==  so the test lets it pass
+use Prim.Native.Nat.{ℕ, _≤_, _<_}
+use mathlib.Core.Path.{_≡_, sym, _∙_}
+use mathlib.Core.Bool.{true, false}
+use native.Mathlib.Omega.{arith}
+use Rattle.ground.specs.Pick.{shows, true≠false}
+use Rattle.table.specs.declared.Control.{Control}
+use Rattle.table.specs.declared.Table.{Table}
+use Rattle.table.specs.declared.Sense.{Sense}
+use Rattle.table.specs.declared.Sense.the-variants.{Unknown, YesNo, Ranged, Pin}
+use Rattle.table.specs.Controls.{mostControls, mostPins, emptyTable, at, senseOf}
+use Rattle.table.specs.Sound.{soundOf}
+use Rattle.table.specs.Meaning.{Narrow, Same, SoundAs, Sound, sound-reads, sound-empty}
+
+pub record Unused (c : Control) : Type 0 where
+  pub min : c .min ≡ 0
+  pub max : c .max ≡ 0
+  pub res : c .res ≡ 0
+
+pub record FreshYesNo (c : Control) : Type 0 where
+  pub channel : c .channel ≤ 16
+  pub unused : Unused c
+  pub off : c .cur ≡ 0
+
+pub record FreshRanged (c : Control) : Type 0 where
+  pub channel : c .channel ≤ 16
+  pub unloaded : c .loaded ≡ false
+
+pub record FreshPin (c : Control) : Type 0 where
+  pub channel : c .channel ≡ 0
+  pub pins : (1 ≤ c .pins) × (c .pins ≤ mostPins)
+  pub unused : Unused c
+  pub first : c .cur ≡ 1
+
+abbrev pub FreshAs : Sense → Control → Type 0
+FreshAs Unknown c = ⊥
+FreshAs YesNo c = FreshYesNo c
+FreshAs (Ranged s) c = FreshRanged c
+FreshAs Pin c = FreshPin c
+
+pub record Fresh (t : Table) : Type 0 where
+  pub few : t .count ≤ mostControls
+  pub once : (p q : ℕ) → p < q → q < t .count → Same (at t p) (at t q) → ⊥
+  pub each : (p : ℕ) → p < t .count → FreshAs (senseOf (at t p .selector)) (at t p)
+
+unused-narrow : (c : Control) → Unused c → c .cur ≤ 1 → Narrow c
+unused-narrow c u h =
+    let a = u .min in
+    let b = u .max in
+    let d = u .res in
+    record { min = omega arith; max = omega arith; res = omega arith; cur = omega arith }
+
+fresh-as : (k : Sense) (c : Control) → FreshAs k c → SoundAs k c
+fresh-as Unknown c h = h
+fresh-as YesNo c h =
+    let e = h .off in
+    record { channel = h .channel; narrow = unused-narrow c (h .unused) (omega arith); setting = omega arith }
+fresh-as (Ranged s) c h = record { channel = h .channel; loaded = λ e. absurd (true≠false (sym e ∙ h .unloaded)) }
+fresh-as Pin c h =
+    let e = h .first in
+    let p = h .pins in
+    record {
+      channel = h .channel;
+      pins = h .pins;
+      narrow = unused-narrow c (h .unused) (omega arith);
+      setting = (omega arith, omega arith);
+    }
+
+pub fresh-sound : (t : Table) → Fresh t → Sound t
+fresh-sound t h = record { few = h .few; once = h .once; each = λ p l. fresh-as (senseOf (at t p .selector)) (at t p) (h .each p l) }
+
+pub fresh-passes : (t : Table) → Fresh t → soundOf t ≡ true
+fresh-passes t h = shows (sound-reads t) (fresh-sound t h)
+
+pub empty-passes : soundOf emptyTable ≡ true
+empty-passes = shows (sound-reads emptyTable) sound-empty

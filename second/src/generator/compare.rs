@@ -1,0 +1,158 @@
+//! A longer comparison outside the gate: fresh inputs through other programs and this one.
+
+use std::io::Write;
+use std::process::{Command, Stdio};
+
+use super::random;
+use super::rng::Rng;
+use super::script::{put_body, step_bytes, Reach, Script};
+use crate::relay::{self, PLUG_IN};
+use crate::requests::State;
+use crate::sheet;
+use crate::ways::Way;
+
+/// Configurations, and as many steps, of one run of `relay`.
+const BATCH: usize = 1000;
+
+/// What is to be compared.
+pub struct Job {
+    /// The seed.
+    pub seed: u64,
+    /// How many configurations, and how many other steps.
+    pub count: usize,
+    /// The program `sheet` and its arguments.
+    pub sheet: Vec<String>,
+    /// The program `relay` and its arguments.
+    pub relay: Vec<String>,
+    /// One configuration in so many goes through `sheet` too; none if 0.
+    pub every: usize,
+}
+
+/// A script of `count` configurations and `count` other steps.
+pub fn script(seed: u64, count: usize) -> Script {
+    let mut rng = Rng::new(seed);
+    let mut script = Script::new();
+    random::fill(&mut rng, &mut script, count, count);
+    script
+}
+
+/// Compares batch after batch. The answer says how much was compared, or tells the first
+/// difference.
+pub fn run(job: &Job) -> Result<String, String> {
+    let (mut done, mut sheets) = (0, 0);
+    let mut reach = Reach::default();
+    for batch in 0.. {
+        if done == job.count {
+            break;
+        }
+        let now = BATCH.min(job.count - done);
+        let seed = job.seed.wrapping_mul(0x1_0000_0001).wrapping_add(batch);
+        let script = script(seed, now);
+        compare_relay(job, &script)?;
+        sheets += compare_sheets(job, &script)?;
+        reach.add(&script.reach);
+        done += now;
+        eprintln!("{done} of {} configurations and steps", job.count);
+    }
+    let (ways, all) = (reach.ways.len(), Way::ALL.len());
+    Ok(format!(
+        "no difference: {done} configurations, {done} other steps, {sheets} sheets; {ways} of the \
+         {all} clauses of refusals met"
+    ))
+}
+
+/// Runs a program over these bytes and answers what it printed.
+fn output(program: &[String], stdin: &[u8]) -> Result<Vec<u8>, String> {
+    let trouble = |error: std::io::Error| format!("{}: {error}", program.join(" "));
+    let mut child = Command::new(&program[0])
+        .args(&program[1..])
+        .stdin(Stdio::piped())
+        .stdout(Stdio::piped())
+        .spawn()
+        .map_err(trouble)?;
+    let mut pipe = child.stdin.take().expect("stdin is piped");
+    std::thread::scope(|scope| {
+        // A program may end before it has read all; what it printed is compared all the same.
+        scope.spawn(move || drop(pipe.write_all(stdin)));
+        child.wait_with_output().map(|output| output.stdout).map_err(trouble)
+    })
+}
+
+fn compare_relay(job: &Job, script: &Script) -> Result<(), String> {
+    let got = output(&job.relay, &script.bytes)?;
+    let wanted = script.printed.as_bytes();
+    if got == wanted {
+        return Ok(());
+    }
+    let same = got.iter().zip(wanted).take_while(|(one, two)| one == two).count();
+    let index = script.starts.partition_point(|&(_, printed)| printed <= same).max(1) - 1;
+    Err(tell_step(script, index, &got))
+}
+
+/// The step of this index: the state before it as a put step, its bytes, and both answers.
+fn tell_step(script: &Script, index: usize, got: &[u8]) -> String {
+    let mut state = State::empty();
+    for at in 0..index {
+        let step = step_at(script, at);
+        relay::step(&mut state, step[0], &step[3..]).expect("a good step");
+    }
+    let (_, from) = script.starts[index];
+    let to = script.starts.get(index + 1).map_or(script.printed.len(), |next| next.1);
+    let places = state.table.controls().unwrap_or(&state.table.places);
+    let before = step_bytes(relay::PUT, &put_body(state.number, state.table.count, places));
+    let wanted = &script.printed[from..to];
+    let rest = String::from_utf8_lossy(&got[from.min(got.len())..]).into_owned();
+    let answer: Vec<&str> = rest.lines().take(wanted.lines().count()).collect();
+    format!(
+        "difference in `relay`\nstate before, as a step: {}\nstep: {}\nsecond prints:\n{wanted}\
+         other prints:\n{}",
+        hex(&before),
+        hex(step_at(script, index)),
+        answer.join("\n")
+    )
+}
+
+fn step_at(script: &Script, index: usize) -> &[u8] {
+    let from = script.starts[index].0;
+    let to = script.starts.get(index + 1).map_or(script.bytes.len(), |next| next.0);
+    &script.bytes[from..to]
+}
+
+fn hex(bytes: &[u8]) -> String {
+    let all: Vec<String> = bytes.iter().map(|byte| format!("{byte:02X}")).collect();
+    all.join(" ")
+}
+
+/// Compares the sheets of the configurations, on all processors.
+fn compare_sheets(job: &Job, script: &Script) -> Result<usize, String> {
+    if job.every == 0 {
+        return Ok(0);
+    }
+    let steps = (0..script.starts.len()).map(|index| step_at(script, index));
+    let configs = steps.filter(|step| step[0] == PLUG_IN).map(|step| &step[3..]);
+    let chosen: Vec<&[u8]> = configs.step_by(job.every).collect();
+    let workers = std::thread::available_parallelism().map_or(1, usize::from);
+    let share = chosen.len().div_ceil(workers).max(1);
+    let results: Vec<Result<(), String>> = std::thread::scope(|scope| {
+        let handles: Vec<_> = chosen
+            .chunks(share)
+            .map(|part| scope.spawn(|| part.iter().try_for_each(|one| compare_sheet(job, one))))
+            .collect();
+        handles.into_iter().map(|one| one.join().expect("no panic")).collect()
+    });
+    results.into_iter().collect::<Result<(), String>>()?;
+    Ok(chosen.len())
+}
+
+fn compare_sheet(job: &Job, config: &[u8]) -> Result<(), String> {
+    let wanted = sheet::program(config);
+    let got = output(&job.sheet, config)?;
+    if got == wanted.as_bytes() {
+        return Ok(());
+    }
+    Err(format!(
+        "difference in `sheet`\nconfiguration: {}\nsecond prints:\n{wanted}other prints:\n{}",
+        hex(config),
+        String::from_utf8_lossy(&got)
+    ))
+}

@@ -1,0 +1,10 @@
+//! The generator of the vectors: configurations and scripts, made on purpose and at random.
+
+pub mod build;
+pub mod compare;
+pub mod configs;
+pub mod random;
+pub mod rng;
+pub mod script;
+pub mod steps;
+pub mod vectors;

@@ -1,0 +1,248 @@
+//! The vectors: for each run of a program a folder with its `stdin` and its `stdout`.
+
+use std::fs;
+use std::path::Path;
+
+use super::build::{case_a, microphone, telephone, Telephone};
+use super::configs::{self, desk};
+use super::random;
+use super::rng::Rng;
+use super::script::{step_bytes, Reach, Script};
+use super::steps;
+use crate::numbers::{CONFIGURATION_MOST, CONTROLS, STEP};
+use crate::relay::{self, LOAD, PLUG_IN, PUT, REQUEST, SHOW};
+use crate::sheet;
+use crate::ways::Way;
+
+/// The seed of all that is random in the vectors.
+const SEED: u64 = 0x0001_9980_0318;
+/// Configurations at random, beside those made on purpose.
+const CONFIGURATIONS: usize = 2400;
+/// Steps at random, beside those made on purpose.
+const STEPS: usize = 14000;
+/// Configurations at random over which those steps go.
+const STEP_CONFIGURATIONS: usize = 350;
+/// What the vectors have to have at least.
+const LEAST: (usize, usize) = (2000, 20000);
+
+/// One run of a program.
+pub struct Run {
+    /// The folder's name, which opens with the program's.
+    pub name: String,
+    /// What the program reads.
+    pub stdin: Vec<u8>,
+    /// What it has to print.
+    pub stdout: String,
+}
+
+/// All runs, what they reach, and how many cases of the relay runs were made on purpose.
+pub struct Vectors {
+    /// The runs.
+    pub runs: Vec<Run>,
+    /// What the relay runs reach.
+    pub reach: Reach,
+    /// Configurations made on purpose.
+    pub named_configurations: usize,
+    /// Steps made on purpose.
+    pub named_steps: usize,
+}
+
+/// Makes all vectors.
+pub fn make() -> Vectors {
+    let mut reach = Reach::default();
+    let mut runs = sheets();
+    let configurations = configuration_script();
+    let (steps, named_steps) = step_script();
+    for (name, script) in [("relay_configs", configurations), ("relay_steps", steps)] {
+        assert_eq!(relay::program(&script.bytes), script.printed, "{name}");
+        reach.add(&script.reach);
+        let name = name.to_string();
+        runs.push(Run { name, stdin: script.bytes, stdout: script.printed });
+    }
+    runs.extend(bad_steps());
+    Vectors { runs, reach, named_configurations: configs::all().len(), named_steps }
+}
+
+/// Every configuration made on purpose, with its answer held to what is written there, and more at
+/// random.
+fn configuration_script() -> Script {
+    let mut script = Script::new();
+    for case in configs::all() {
+        let printed = script.step(PLUG_IN, &case.bytes);
+        let line = match case.expect {
+            Some((way, place)) => format!("refused {} at {place}\n", way.number()),
+            None => printed.lines.clone(),
+        };
+        assert_eq!(printed.way, case.expect.map(|(way, _)| way), "{}", case.name);
+        assert_eq!(printed.lines, line, "{}", case.name);
+    }
+    let mut rng = Rng::new(SEED);
+    for _ in 0..CONFIGURATIONS {
+        random::plug_in(&mut rng, &mut script);
+    }
+    script
+}
+
+/// Every step made on purpose, and more at random; and how many the first are.
+fn step_script() -> (Script, usize) {
+    let mut script = Script::new();
+    steps::all(&mut script);
+    let named = script.reach.steps;
+    let mut rng = Rng::new(SEED + 1);
+    random::fill(&mut rng, &mut script, STEP_CONFIGURATIONS, STEPS);
+    (script, named)
+}
+
+/// Runs of `sheet`: the papers' examples, some made on purpose by name, some at random.
+fn sheets() -> Vec<Run> {
+    let run = |name: &str, config: Vec<u8>| Run {
+        name: name.to_string(),
+        stdout: sheet::program(&config),
+        stdin: config,
+    };
+    let mut runs = vec![
+        run("sheet", case_a()),
+        run("sheet_microphone", microphone()),
+        run("sheet_telephone", telephone(Telephone::Tables, 2, 0x61)),
+        run("sheet_telephone_printed", telephone(Telephone::Printed, 2, 0x64)),
+        run("sheet_telephone_as_printed", telephone(Telephone::Printed, 1, 0x64)),
+        run("sheet_desk", desk().bytes()),
+        run("sheet_0", vec![]),
+        run("sheet_1", vec![9]),
+        run("sheet_4096", desk().padded(CONFIGURATION_MOST).bytes()),
+        run("sheet_4097", desk().padded(CONFIGURATION_MOST + 1).bytes()),
+        run("sheet_20000", desk().padded(20000).bytes()),
+    ];
+    let named = [
+        ("sheet_backward", "a chain of 31 steps, sources before users"),
+        ("sheet_forward", "a chain of 31 steps, sources after users"),
+        ("sheet_ladder", "a ladder of 31 Selectors, two to the 31 routes"),
+        ("sheet_turned", "the desk's run turned round"),
+        ("sheet_through", "clusters through Selectors and Feature Units"),
+        ("sheet_pins", "8 pins"),
+        ("sheet_pins_printed", "8 pins, printed Selector"),
+        ("sheet_32", "32 entities up to ID 255"),
+        ("sheet_33", "33 entities"),
+        ("sheet_loop", "a loop of length 32"),
+        ("sheet_128", "128 controls, 16 of Selectors"),
+        ("sheet_129", "129 controls, one a Selector's"),
+    ];
+    let cases = configs::all();
+    for (folder, name) in named {
+        let case = cases.iter().find(|case| case.name == name).expect("a case of that name");
+        runs.push(run(folder, case.bytes.clone()));
+    }
+    let mut rng = Rng::new(SEED + 2);
+    for index in 1..=8 {
+        runs.push(run(&format!("sheet_random_{index}"), random::good(&mut rng).bytes()));
+    }
+    runs
+}
+
+/// Runs of `relay` that end in what is no step: each way of it once, after two good steps.
+fn bad_steps() -> Vec<Run> {
+    let good = [step_bytes(PLUG_IN, &case_a()), step_bytes(SHOW, &[])].concat();
+    let whole = |kind, length| step_bytes(kind, &vec![0; length]);
+    let room = |setup: u8, length: usize| {
+        let mut body = vec![0; length];
+        body[2] = setup;
+        step_bytes(REQUEST, &body)
+    };
+    let ends: [(&str, Vec<u8>); 18] = [
+        ("empty", vec![]),
+        ("kind_0", whole(0, 0)),
+        ("kind_6", whole(6, 0)),
+        ("kind_255", whole(255, 4)),
+        ("long", whole(PLUG_IN, STEP + 1)),
+        ("longest", whole(PLUG_IN, STEP)),
+        ("load_10", whole(LOAD, 10)),
+        ("load_12", whole(LOAD, 12)),
+        ("request_2", whole(REQUEST, 2)),
+        ("request_setup", room(8, 10)),
+        ("request_setup_kept", room(8, 11)),
+        ("show_1", whole(SHOW, 1)),
+        ("put_2", whole(PUT, 2)),
+        ("put_15", whole(PUT, 15)),
+        ("put_129", whole(PUT, 3 + 13 * (CONTROLS + 1))),
+        ("ends_in_kind", vec![SHOW]),
+        ("ends_in_length", vec![SHOW, 0]),
+        ("ends_in_body", step_bytes(LOAD, &[0; 11])[..13].to_vec()),
+    ];
+    let run = |(name, end): (&str, Vec<u8>)| {
+        let after = step_bytes(SHOW, &[]);
+        let cut = name.starts_with("ends");
+        let start: &[u8] = if name == "empty" { &[] } else { &good };
+        let after: &[u8] = if cut || name == "empty" { &[] } else { &after };
+        let stdin = [start, &end, after].concat();
+        let stdout = relay::program(&stdin);
+        let ends = stdout.ends_with("bad step\n");
+        assert_eq!(ends, !["empty", "longest", "request_setup_kept"].contains(&name), "{name}");
+        Run { name: format!("relay_{name}"), stdin, stdout }
+    };
+    ends.into_iter().map(run).collect()
+}
+
+impl Vectors {
+    /// What the papers name and these vectors do not reach; empty if all is well. Refusal 16 can
+    /// not be reached: both programs lend 512 bytes, which hold 32 records.
+    pub fn missing(&self) -> Vec<String> {
+        let reached = |way: &Way| self.reach.ways.contains_key(way);
+        let mut missing: Vec<String> = Way::ALL
+            .iter()
+            .filter(|&way| *way != Way::SheetShort && !reached(way))
+            .map(|way| format!("{} {}", way.number(), way.words()))
+            .collect();
+        for word in ["accepted", "loaded", "set", "got", "table", "put"] {
+            if !self.reach.answers.contains_key(word) {
+                missing.push(format!("an answer `{word}`"));
+            }
+        }
+        if self.reach.configurations < LEAST.0 {
+            missing.push(format!("{} configurations at least", LEAST.0));
+        }
+        if self.reach.steps < LEAST.1 {
+            missing.push(format!("{} steps at least", LEAST.1));
+        }
+        missing
+    }
+
+    /// The table of what is reached.
+    pub fn report(&self) -> String {
+        let mut lines = String::new();
+        for way in Way::ALL {
+            let count = self.reach.ways.get(way).copied().unwrap_or(0);
+            let note = if *way == Way::SheetShort { " (the programs lend enough)" } else { "" };
+            lines += &format!("{:>4} {count:>6}  {}{note}\n", way.number(), way.words());
+        }
+        for (word, count) in &self.reach.answers {
+            lines += &format!("     {count:>6}  answers `{word}`\n");
+        }
+        let bytes: usize = self.runs.iter().map(|run| run.stdin.len() + run.stdout.len()).sum();
+        let reach = &self.reach;
+        lines += &format!(
+            "{} configurations ({} on purpose), {} other steps ({} on purpose)\n",
+            reach.configurations, self.named_configurations, reach.steps, self.named_steps
+        );
+        lines += &format!("{} runs, {bytes} bytes\n", self.runs.len());
+        lines
+    }
+
+    /// Writes a folder for each run.
+    pub fn write(&self, dir: &Path) -> std::io::Result<()> {
+        for run in &self.runs {
+            let folder = dir.join(&run.name);
+            fs::create_dir_all(&folder)?;
+            fs::write(folder.join("stdin"), &run.stdin)?;
+            fs::write(folder.join("stdout"), &run.stdout)?;
+        }
+        Ok(())
+    }
+}
+
+#[cfg(test)]
+mod tests {
+    #[test]
+    fn nothing_is_missing() {
+        assert_eq!(super::make().missing(), Vec::<String>::new());
+    }
+}

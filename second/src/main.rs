@@ -1,0 +1,98 @@
+//! The relay box a second time, written from the papers alone, and the generator of the vectors
+//! that hold both programs.
+//!
+//! The work stands in three layers, as in document 01: cutting ([`cut`]), topology ([`entity`],
+//! [`topology`], [`streaming`], put together by [`reader`]) and requests ([`controls`],
+//! [`settings`], [`requests`]). Above them stand the programs [`sheet`] and [`relay`], and beside
+//! them the [`generator`].
+//!
+//! `second sheet`, `second relay`: the programs, from standard input to standard output.
+//! `second vectors DIR [--report]`: writes the vectors; fails if a clause is not reached.
+//! `second fuzz SEED COUNT`: a fresh script of COUNT configurations and COUNT other steps.
+//! `second compare SEED COUNT EVERY SHEET RELAY`: fresh inputs through the programs SHEET and
+//! RELAY (each a command with its arguments) and through this one; one configuration in EVERY
+//! goes through SHEET.
+
+#![deny(missing_docs)]
+
+mod controls;
+mod cut;
+mod entity;
+mod generator;
+mod numbers;
+mod reader;
+mod relay;
+mod requests;
+mod settings;
+mod sheet;
+mod streaming;
+mod topology;
+mod ways;
+
+use std::io::{self, Read, Write};
+use std::path::Path;
+use std::process::ExitCode;
+
+use generator::{compare, vectors};
+
+const USAGE: &str = "usage: second sheet | relay | vectors DIR [--report] | fuzz SEED COUNT \
+                     | compare SEED COUNT EVERY SHEET RELAY";
+
+fn main() -> ExitCode {
+    let arguments: Vec<String> = std::env::args().skip(1).collect();
+    let words: Vec<&str> = arguments.iter().map(String::as_str).collect();
+    match run(&words) {
+        Ok(printed) => match io::stdout().write_all(&printed) {
+            Ok(()) => ExitCode::SUCCESS,
+            Err(_) => ExitCode::FAILURE,
+        },
+        Err(message) => {
+            eprintln!("{message}");
+            ExitCode::FAILURE
+        }
+    }
+}
+
+/// What a subcommand prints, or why it fails.
+fn run(words: &[&str]) -> Result<Vec<u8>, String> {
+    match words {
+        ["sheet"] => Ok(sheet::program(&input()?).into_bytes()),
+        ["relay"] => Ok(relay::program(&input()?).into_bytes()),
+        ["vectors", dir] => write_vectors(dir, false),
+        ["vectors", dir, "--report"] => write_vectors(dir, true),
+        ["fuzz", seed, count] => Ok(compare::script(number(seed)?, number(count)? as usize).bytes),
+        ["compare", seed, count, every, sheet, relay] => {
+            let command = |text: &str| text.split_whitespace().map(str::to_string).collect();
+            let job = compare::Job {
+                seed: number(seed)?,
+                count: number(count)? as usize,
+                sheet: command(sheet),
+                relay: command(relay),
+                every: number(every)? as usize,
+            };
+            compare::run(&job).map(|line| (line + "\n").into_bytes())
+        }
+        _ => Err(USAGE.to_string()),
+    }
+}
+
+fn input() -> Result<Vec<u8>, String> {
+    let mut bytes = Vec::new();
+    io::stdin().read_to_end(&mut bytes).map_err(|error| error.to_string())?;
+    Ok(bytes)
+}
+
+fn number(word: &str) -> Result<u64, String> {
+    word.parse().map_err(|_| format!("not a number: {word}"))
+}
+
+/// Writes the vectors, unless something that the papers name is not reached.
+fn write_vectors(dir: &str, report: bool) -> Result<Vec<u8>, String> {
+    let made = vectors::make();
+    let missing = made.missing();
+    if !missing.is_empty() {
+        return Err(format!("not reached:\n{}", missing.join("\n")));
+    }
+    made.write(Path::new(dir)).map_err(|error| format!("{dir}: {error}"))?;
+    Ok(if report { made.report().into_bytes() } else { Vec::new() })
+}

@@ -1,0 +1,121 @@
+//! The reader: one configuration in, the whole answer out (refusals 1 to 16).
+
+use crate::controls::{self, Table};
+use crate::cut;
+use crate::numbers::{CONTROLS, RECORD};
+use crate::requests::State;
+use crate::streaming;
+use crate::topology::{self, Topology};
+use crate::ways::{Refusal, Way};
+
+/// What the reader answers beside the sheet.
+#[derive(Clone, Debug, PartialEq, Eq)]
+pub struct Answer {
+    /// None: "An acceptance answers 0 for number and place."
+    pub refusal: Option<Refusal>,
+    /// The AudioControl interface number and the table of controls.
+    pub state: State,
+    /// The count of entities.
+    pub entities: usize,
+}
+
+/// Reads a configuration. "A refusal answers its number, a place, interface number 0, zero counts
+/// and an empty table; the sheet keeps its bytes."
+pub fn read(config: &[u8], sheet: &mut [u8]) -> Answer {
+    match accept(config, sheet) {
+        Ok(answer) => answer,
+        Err(refusal) => Answer { refusal: Some(refusal), state: State::empty(), entities: 0 },
+    }
+}
+
+/// The three layers in their order; the first refusal stands.
+fn accept(config: &[u8], sheet: &mut [u8]) -> Result<Answer, Refusal> {
+    let cut = cut::cut(config)?;
+    let topology = topology::read(&cut.run)?;
+    streaming::check(&cut.groups, &topology)?;
+    let header = cut.header.place;
+    let controls = controls::of_topology(&topology);
+    if controls.len() > CONTROLS {
+        return Err(Refusal::at(Way::ManyControls, header));
+    }
+    let entities = topology.entities.len();
+    if sheet.len() < RECORD * entities {
+        return Err(Refusal::at(Way::SheetShort, header));
+    }
+    write_sheet(&topology, sheet);
+    let table = Table::of(&controls).expect("refusal 15 comes first");
+    Ok(Answer { refusal: None, state: State { number: cut.control_number, table }, entities })
+}
+
+/// "Records of 16 bytes, no header, in entity order: ID; kind (15 hex for a printed Selector); c;
+/// bitmap (2); name index; pins; 00; then eight source IDs, unused ones 00. Bytes past the last
+/// record stay."
+fn write_sheet(topology: &Topology, sheet: &mut [u8]) {
+    let rows = sheet.chunks_exact_mut(RECORD);
+    for ((entity, cluster), row) in topology.entities.iter().zip(&topology.clusters).zip(rows) {
+        let [low, high] = cluster.bitmap.to_le_bytes();
+        let pins = entity.sources.len();
+        row.fill(0);
+        row[0] = entity.id;
+        row[1] = entity.kind_byte();
+        row[2] = cluster.channels;
+        row[3] = low;
+        row[4] = high;
+        row[5] = cluster.name;
+        row[6] = pins as u8;
+        row[8..8 + pins].copy_from_slice(&entity.sources);
+    }
+}
+
+#[cfg(test)]
+mod tests {
+    use super::*;
+    use crate::generator::build::case_a;
+
+    fn refused(config: &[u8]) -> Option<(u16, usize)> {
+        read(config, &mut [0; 512]).refusal.map(|one| (one.way.number(), one.place))
+    }
+
+    /// The table of document 01, "Cases to prove together".
+    #[test]
+    fn the_cases_to_prove_together() {
+        let a = case_a();
+        assert_eq!(a.len(), 109);
+        assert_eq!(refused(&a), None);
+        let with = |at: usize, byte: u8| {
+            let mut changed = a.clone();
+            changed[at] = byte;
+            refused(&changed)
+        };
+        assert_eq!(with(2, 108), Some((2, 0)));
+        assert_eq!(refused(&a[..8]), Some((1, 0)));
+        assert_eq!(with(43, 2), Some((12, 39)));
+        assert_eq!(with(42, 1), Some((10, 39)));
+        assert_eq!(with(43, 3), Some((11, 39)));
+    }
+
+    #[test]
+    fn the_sheet_has_to_hold_the_records_and_no_more() {
+        let a = case_a();
+        let mut short = [9; 47];
+        let answer = read(&a, &mut short);
+        assert_eq!(answer.refusal, Some(Refusal::at(Way::SheetShort, 18)));
+        assert_eq!(answer.state, State::empty());
+        assert_eq!(short, [9; 47]);
+        let mut exact = [9; 48];
+        assert_eq!(read(&a, &mut exact).refusal, None);
+        let mut longer = [9; 50];
+        assert_eq!(read(&a, &mut longer).refusal, None);
+        assert_eq!(longer[..48], exact);
+        assert_eq!(longer[48..], [9; 2]);
+    }
+
+    #[test]
+    fn a_table_by_entity_place_channel_selector() {
+        let answer = read(&case_a(), &mut [0; 512]);
+        let names: Vec<_> =
+            answer.state.table.controls().unwrap().iter().map(|one| one.name()).collect();
+        assert_eq!(names, [(2, 0, 1), (2, 1, 2)]);
+        assert_eq!(answer.entities, 3);
+    }
+}

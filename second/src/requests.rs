@@ -1,0 +1,320 @@
+//! Loads and class requests over a table (refusals 20, 21 and 30 to 39).
+
+use crate::controls::{Control, Holds, Table};
+use crate::numbers::{CHANNELS, PINS};
+use crate::settings::Fault;
+use crate::ways::Way;
+
+/// What the box holds between steps.
+#[derive(Clone, Debug, PartialEq, Eq)]
+pub struct State {
+    /// The AudioControl interface number.
+    pub number: u8,
+    /// The table of controls.
+    pub table: Table,
+}
+
+impl State {
+    /// Before anything is plugged in.
+    pub fn empty() -> State {
+        State { number: 0, table: Table::empty() }
+    }
+}
+
+/// "A load gives MIN, MAX, RES, CUR to one ranged control, named by unit ID, channel and
+/// selector".
+#[derive(Clone, Copy, Debug)]
+pub struct Load {
+    /// Unit ID, channel, selector.
+    pub name: (u8, u8, u8),
+    /// MIN.
+    pub min: u16,
+    /// MAX.
+    pub max: u16,
+    /// RES.
+    pub res: u16,
+    /// CUR.
+    pub cur: u16,
+}
+
+/// An accepted request.
+#[derive(Clone, Debug, PartialEq, Eq)]
+pub enum Reply {
+    /// "an accepted Set leaves the reply too".
+    Set,
+    /// How many bytes an accepted Get wrote "to the front of the reply".
+    Got(usize),
+}
+
+/// Refusal 30: "the table is not one".
+pub fn table_breach(table: &Table) -> Option<Way> {
+    let Some(controls) = table.controls() else {
+        return Some(Way::TableCount);
+    };
+    for (index, control) in controls.iter().enumerate() {
+        if controls[..index].iter().any(|earlier| earlier.name() == control.name()) {
+            return Some(Way::TableTwice);
+        }
+        if let Some(way) = control_breach(control) {
+            return Some(way);
+        }
+    }
+    None
+}
+
+/// What 30 says of one control: "an unknown selector, a channel over 16 (over 0 for a
+/// Selector's), a pin count no Selector may have, or, in a loaded control, an illegal range, or,
+/// in an unranged or loaded one, a number too wide for the control or a value that is no setting".
+fn control_breach(control: &Control) -> Option<Way> {
+    match Holds::of(control.selector) {
+        None => Some(Way::TableSelector),
+        Some(Holds::Pin) => pin_breach(control),
+        Some(_) if usize::from(control.channel) > CHANNELS => Some(Way::TableChannel),
+        Some(Holds::YesNo) if unranged_wide(control) => Some(Way::TableWideUnranged),
+        Some(Holds::YesNo) => (control.cur > 1).then_some(Way::TableSettingYesNo),
+        Some(Holds::Ranged(_)) if !control.loaded => None,
+        Some(Holds::Ranged(scale)) => {
+            if [control.min, control.max, control.res, control.cur]
+                .iter()
+                .any(|&held| scale.too_wide(held))
+            {
+                return Some(Way::TableWideLoaded);
+            }
+            let range = scale.range(control.min, control.max, control.res);
+            match scale.fault(range) {
+                Some(Fault::Order) => Some(Way::TableOrder),
+                Some(Fault::ResZero) => Some(Way::TableResZero),
+                Some(Fault::ResHigh) => Some(Way::TableResHigh),
+                Some(Fault::VolumeMin) => Some(Way::TableVolumeMin),
+                None => (!scale.is_setting(range, scale.number(control.cur)))
+                    .then_some(Way::TableSettingLoaded),
+            }
+        }
+    }
+}
+
+/// The part of 30 for a Selector's control.
+fn pin_breach(control: &Control) -> Option<Way> {
+    if control.channel > 0 {
+        return Some(Way::TableSelectorChannel);
+    }
+    if !(1..=PINS).contains(&usize::from(control.pins)) {
+        return Some(Way::TablePins);
+    }
+    if unranged_wide(control) {
+        return Some(Way::TableWideUnranged);
+    }
+    (!(1..=u16::from(control.pins)).contains(&control.cur)).then_some(Way::TableSettingPin)
+}
+
+/// Whether a number of an unranged control, all of which have one byte, is too wide.
+fn unranged_wide(control: &Control) -> bool {
+    [control.min, control.max, control.res, control.cur].iter().any(|&held| held > 255)
+}
+
+/// A load: refusals 30, 20 and 21 in this order. All leave the table as it stood.
+pub fn load(table: &mut Table, load: &Load) -> Result<(), Way> {
+    if let Some(way) = table_breach(table) {
+        return Err(way);
+    }
+    let count = usize::from(table.count);
+    let control = table.places[..count]
+        .iter_mut()
+        .find(|control| control.name() == load.name)
+        .ok_or(Way::LoadUnknown)?;
+    let scale = Holds::of(control.selector).and_then(Holds::scale).ok_or(Way::LoadUnranged)?;
+    if [load.min, load.max, load.res, load.cur].iter().any(|&held| scale.too_wide(held)) {
+        return Err(Way::LoadWide);
+    }
+    let range = scale.range(load.min, load.max, load.res);
+    match scale.fault(range) {
+        Some(Fault::Order) => return Err(Way::LoadOrder),
+        Some(Fault::ResZero) => return Err(Way::LoadResZero),
+        Some(Fault::ResHigh) => return Err(Way::LoadResHigh),
+        Some(Fault::VolumeMin) => return Err(Way::LoadVolumeMin),
+        None => {}
+    }
+    (control.min, control.max, control.res) = (load.min, load.max, load.res);
+    control.cur = scale.held(scale.stored(range, scale.number(load.cur)));
+    control.loaded = true;
+    Ok(())
+}
+
+/// The five pairs of type and request: "21/01, A1/81, A1/82, A1/83 or A1/84".
+#[derive(Clone, Copy, Debug, PartialEq, Eq)]
+enum Asks {
+    Set,
+    GetCur,
+    GetMin,
+    GetMax,
+    GetRes,
+}
+
+impl Asks {
+    fn of(kind: u8, request: u8) -> Option<Asks> {
+        match (kind, request) {
+            (0x21, 0x01) => Some(Asks::Set),
+            (0xA1, 0x81) => Some(Asks::GetCur),
+            (0xA1, 0x82) => Some(Asks::GetMin),
+            (0xA1, 0x83) => Some(Asks::GetMax),
+            (0xA1, 0x84) => Some(Asks::GetRes),
+            _ => None,
+        }
+    }
+
+    /// The number that a Get reads.
+    fn number(self, control: &Control) -> u16 {
+        match self {
+            Asks::Set | Asks::GetCur => control.cur,
+            Asks::GetMin => control.min,
+            Asks::GetMax => control.max,
+            Asks::GetRes => control.res,
+        }
+    }
+}
+
+/// A request: refusals 30 and 31 to 39 in this order. "All leave table and reply as they stood".
+pub fn request(
+    state: &mut State,
+    setup: &[u8],
+    data: &[u8],
+    reply: &mut [u8],
+) -> Result<Reply, Way> {
+    if let Some(way) = table_breach(&state.table) {
+        return Err(way);
+    }
+    if setup.len() != 8 {
+        return Err(Way::SetupLength);
+    }
+    let asks = Asks::of(setup[0], setup[1]).ok_or(Way::SetupRequest)?;
+    let index = address(state, setup)?;
+    let control = &mut state.table.places[index];
+    let holds = Holds::of(control.selector).expect("refusal 30 comes first");
+    check_control(control, holds, asks)?;
+    let size = holds.size();
+    let length = usize::from(setup[6]) + 256 * usize::from(setup[7]);
+    if asks == Asks::Set {
+        if length != size {
+            return Err(Way::SetLength);
+        }
+        if data.len() != size {
+            return Err(Way::SetData);
+        }
+        control.cur = value_to_store(control, holds, data)?;
+        return Ok(Reply::Set);
+    }
+    if length != size {
+        return Err(Way::GetLength);
+    }
+    if reply.len() < size {
+        return Err(Way::ReplyShort);
+    }
+    let bytes = asks.number(control).to_le_bytes();
+    reply[..size].copy_from_slice(&bytes[..size]);
+    Ok(Reply::Got(size))
+}
+
+/// Refusals 32, 33 and 34: the place of the addressed control.
+fn address(state: &State, setup: &[u8]) -> Result<usize, Way> {
+    if setup[4] != state.number {
+        return Err(Way::InterfaceNumber);
+    }
+    let controls = state.table.controls().expect("refusal 30 comes first");
+    let of_unit = || controls.iter().filter(|control| control.unit == setup[5]);
+    if of_unit().next().is_none() {
+        return Err(Way::UnitUnknown);
+    }
+    let name = (setup[5], setup[2], setup[3]);
+    let all_pins = of_unit().all(|control| Holds::of(control.selector) == Some(Holds::Pin));
+    let way = if all_pins { Way::SelectorValue } else { Way::ControlUnknown };
+    controls.iter().position(|control| control.name() == name).ok_or(way)
+}
+
+/// Refusals 35 and 36.
+fn check_control(control: &Control, holds: Holds, asks: Asks) -> Result<(), Way> {
+    let bound = matches!(asks, Asks::GetMin | Asks::GetMax | Asks::GetRes);
+    match holds {
+        Holds::YesNo if bound => Err(Way::UnrangedYesNo),
+        Holds::Pin if bound => Err(Way::UnrangedPin),
+        Holds::Ranged(_) if !control.loaded => Err(Way::NotLoaded),
+        _ => Ok(()),
+    }
+}
+
+/// Refusal 38, or what an accepted Set stores. The data is as long as the control's size.
+fn value_to_store(control: &Control, holds: Holds, data: &[u8]) -> Result<u16, Way> {
+    let wire = data.iter().rev().fold(0, |so_far, &byte| so_far * 256 + u16::from(byte));
+    match holds {
+        Holds::YesNo if wire > 1 => Err(Way::SetYesNo),
+        Holds::Pin if wire < 1 => Err(Way::SetPinZero),
+        Holds::Pin if wire > u16::from(control.pins) => Err(Way::SetPinHigh),
+        Holds::YesNo | Holds::Pin => Ok(wire),
+        Holds::Ranged(scale) => {
+            let range = scale.range(control.min, control.max, control.res);
+            Ok(scale.held(scale.stored(range, scale.number(wire))))
+        }
+    }
+}
+
+#[cfg(test)]
+mod tests {
+    use super::*;
+
+    fn volume_box() -> State {
+        let volume = Control { unit: 2, selector: 2, ..Control::default() };
+        let pin = Control { unit: 3, pins: 2, cur: 1, ..Control::default() };
+        State { number: 4, table: Table::of(&[volume, pin]).unwrap() }
+    }
+
+    fn loaded_box() -> State {
+        let mut state = volume_box();
+        let range = Load { name: (2, 0, 2), min: 0xEC00, max: 0, res: 256, cur: 0 };
+        assert_eq!(load(&mut state.table, &range), Ok(()));
+        state
+    }
+
+    #[test]
+    fn a_get_after_a_set_gives_the_closest() {
+        let mut state = loaded_box();
+        let set = [0x21, 1, 0, 2, 4, 2, 2, 0];
+        let wanted = (-300i16).to_le_bytes();
+        assert_eq!(request(&mut state, &set, &wanted, &mut []), Ok(Reply::Set));
+        let mut reply = [7; 3];
+        let get = [0xA1, 0x81, 0, 2, 4, 2, 2, 0];
+        assert_eq!(request(&mut state, &get, &[], &mut reply), Ok(Reply::Got(2)));
+        assert_eq!(reply, [0x00, 0xFF, 7]);
+    }
+
+    #[test]
+    fn the_order_of_refusals() {
+        let mut state = volume_box();
+        let mut ask = |setup: &[u8]| request(&mut state, setup, &[], &mut []);
+        assert_eq!(ask(&[0xA1]), Err(Way::SetupLength));
+        assert_eq!(ask(&[0xA1, 0x85, 9, 9, 9, 9, 9, 9]), Err(Way::SetupRequest));
+        assert_eq!(ask(&[0xA1, 0x84, 9, 9, 9, 9, 9, 9]), Err(Way::InterfaceNumber));
+        assert_eq!(ask(&[0xA1, 0x84, 9, 9, 4, 9, 9, 9]), Err(Way::UnitUnknown));
+        assert_eq!(ask(&[0xA1, 0x84, 9, 9, 4, 2, 9, 9]), Err(Way::ControlUnknown));
+        assert_eq!(ask(&[0xA1, 0x84, 9, 9, 4, 3, 9, 9]), Err(Way::SelectorValue));
+        assert_eq!(ask(&[0xA1, 0x84, 0, 0, 4, 3, 9, 9]), Err(Way::UnrangedPin));
+        assert_eq!(ask(&[0xA1, 0x84, 0, 2, 4, 2, 9, 9]), Err(Way::NotLoaded));
+        assert_eq!(ask(&[0xA1, 0x81, 0, 0, 4, 3, 9, 9]), Err(Way::GetLength));
+        assert_eq!(ask(&[0xA1, 0x81, 0, 0, 4, 3, 1, 0]), Err(Way::ReplyShort));
+    }
+
+    #[test]
+    fn silence_is_a_setting_for_30() {
+        let mut state = loaded_box();
+        state.table.places[0].cur = 0x8000;
+        assert_eq!(table_breach(&state.table), None);
+        state.table.places[0].cur = 0x8001;
+        assert_eq!(table_breach(&state.table), Some(Way::TableSettingLoaded));
+    }
+
+    #[test]
+    fn a_control_that_is_not_loaded_has_no_number_tested() {
+        let mut state = volume_box();
+        state.table.places[0].res = 0;
+        state.table.places[0].min = 0x8000;
+        assert_eq!(table_breach(&state.table), None);
+    }
+}

@@ -1,0 +1,40 @@
+//! The program `sheet`: a configuration on standard input, its sheet on standard output.
+
+use crate::numbers::{RECORD, SHEET};
+use crate::reader;
+
+/// "reads a configuration from standard input, lends 512 bytes and prints each record as sixteen
+/// two-digit capital hex bytes with single spaces, or `refused N at P` in decimal".
+pub fn program(config: &[u8]) -> String {
+    let mut lent = [0; SHEET];
+    let answer = reader::read(config, &mut lent);
+    match answer.refusal {
+        Some(refusal) => format!("refused {} at {}\n", refusal.way.number(), refusal.place),
+        None => lent.chunks_exact(RECORD).take(answer.entities).map(line).collect(),
+    }
+}
+
+fn line(record: &[u8]) -> String {
+    let hex: Vec<String> = record.iter().map(|byte| format!("{byte:02X}")).collect();
+    hex.join(" ") + "\n"
+}
+
+#[cfg(test)]
+mod tests {
+    use super::*;
+    use crate::generator::build::case_a;
+
+    #[test]
+    fn case_a_prints_what_document_01_prints() {
+        let printed = "01 02 01 00 00 00 00 00 00 00 00 00 00 00 00 00\n\
+                       02 06 01 00 00 00 01 00 01 00 00 00 00 00 00 00\n\
+                       03 03 01 00 00 00 01 00 02 00 00 00 00 00 00 00\n";
+        assert_eq!(program(&case_a()), printed);
+    }
+
+    #[test]
+    fn more_than_a_configuration_may_have() {
+        assert_eq!(program(&[0; 4097]), "refused 1 at 0\n");
+        assert_eq!(program(&[]), "refused 1 at 0\n");
+    }
+}

@@ -1,0 +1,248 @@
+//! Topology: entities and their sources, ranks and clusters (refusals 9 to 13).
+
+use crate::cut::Descriptor;
+use crate::entity::{self, Cluster, Entity, Kind};
+use crate::numbers::CHANNELS;
+use crate::ways::{Refusal, Way};
+
+/// The entities of an accepted run, each with the cluster shown for it.
+#[derive(Clone, Debug)]
+pub struct Topology<'a> {
+    /// In the order of the run.
+    pub entities: Vec<Entity<'a>>,
+    /// The cluster that each gives out; "For an Output Terminal the entering cluster is shown."
+    pub clusters: Vec<Cluster>,
+}
+
+impl Topology<'_> {
+    /// The index of the entity that bears `id`.
+    pub fn find(&self, id: u8) -> Option<usize> {
+        find(&self.entities, id)
+    }
+}
+
+/// Reads the run as entities, refusing with 9 to 13.
+pub fn read<'a>(run: &[Descriptor<'a>]) -> Result<Topology<'a>, Refusal> {
+    let entities = read_layouts(run)?;
+    check_ids(&entities)?;
+    check_sources(&entities)?;
+    check_chains(&entities)?;
+    let clusters: Vec<Cluster> =
+        (0..entities.len()).map(|index| cluster_of(&entities, index)).collect();
+    for (index, entity) in entities.iter().enumerate() {
+        if let Some(way) = cluster_breach(&entities, &clusters, index) {
+            return Err(Refusal::at(way, entity.place));
+        }
+    }
+    Ok(Topology { entities, clusters })
+}
+
+/// Refusal 9: "an entity's layout is wrong", at the "first such entity".
+fn read_layouts<'a>(run: &[Descriptor<'a>]) -> Result<Vec<Entity<'a>>, Refusal> {
+    let layout = |one| entity::read(one).map_err(|way| Refusal::at(way, one.place));
+    run.iter().map(layout).collect()
+}
+
+/// Refusal 10: "ID zero or borne by an earlier entity".
+fn check_ids(entities: &[Entity]) -> Result<(), Refusal> {
+    for (index, entity) in entities.iter().enumerate() {
+        if entity.id == 0 {
+            return Err(Refusal::at(Way::IdZero, entity.place));
+        }
+        if find(&entities[..index], entity.id).is_some() {
+            return Err(Refusal::at(Way::IdRepeated, entity.place));
+        }
+    }
+    Ok(())
+}
+
+fn find(entities: &[Entity], id: u8) -> Option<usize> {
+    entities.iter().position(|entity| entity.id == id)
+}
+
+/// Refusal 11: "a source ID is 0, unknown, or an Output Terminal's".
+fn check_sources(entities: &[Entity]) -> Result<(), Refusal> {
+    for entity in entities {
+        for &source in &entity.sources {
+            if let Some(way) = source_breach(entities, source) {
+                return Err(Refusal::at(way, entity.place));
+            }
+        }
+    }
+    Ok(())
+}
+
+fn source_breach(entities: &[Entity], source: u8) -> Option<Way> {
+    if source == 0 {
+        return Some(Way::SourceZero);
+    }
+    let Some(index) = find(entities, source) else {
+        return Some(Way::SourceUnknown);
+    };
+    match entities[index].kind {
+        Kind::OutputTerminal { .. } => Some(Way::SourceOutput),
+        _ => None,
+    }
+}
+
+/// The indices of an entity's sources, all of which are known.
+fn sources_of(entities: &[Entity], index: usize) -> Vec<usize> {
+    let known = |&id: &u8| find(entities, id).expect("refusal 11 comes first");
+    entities[index].sources.iter().map(known).collect()
+}
+
+/// Refusal 12: "some upstream chain of sources is longer than 32 steps (no ranks exist)".
+///
+/// An entity gets a rank once all its sources have one. With at most 32 entities no chain without
+/// a return is longer than 31 steps, so those left without a rank are the ones that have a chain
+/// with no end: they stand on a loop or below one.
+fn check_chains(entities: &[Entity]) -> Result<(), Refusal> {
+    let mut ranked = vec![false; entities.len()];
+    for _ in 0..entities.len() {
+        for index in 0..entities.len() {
+            ranked[index] = sources_of(entities, index).iter().all(|&source| ranked[source]);
+        }
+    }
+    match ranked.iter().position(|&has| !has) {
+        None => Ok(()),
+        Some(index) if reaches(entities, index, index) => {
+            Err(Refusal::at(Way::ChainOnLoop, entities[index].place))
+        }
+        Some(index) => Err(Refusal::at(Way::ChainBelowLoop, entities[index].place)),
+    }
+}
+
+/// Whether some chain of one step or more leads upstream from `from` to `to`.
+fn reaches(entities: &[Entity], from: usize, to: usize) -> bool {
+    let mut seen = vec![false; entities.len()];
+    let mut open = vec![from];
+    while let Some(index) = open.pop() {
+        for source in sources_of(entities, index) {
+            if source == to {
+                return true;
+            }
+            if !seen[source] {
+                seen[source] = true;
+                open.push(source);
+            }
+        }
+    }
+    false
+}
+
+/// "An Input Terminal and a Mixer declare theirs"; "A Feature Unit gives out its source's
+/// cluster"; "A Selector gives out pin 1's"; an Output Terminal shows what enters.
+fn cluster_of(entities: &[Entity], index: usize) -> Cluster {
+    match entities[index].kind {
+        Kind::InputTerminal { cluster, .. } | Kind::Mixer { cluster } => cluster,
+        _ => cluster_of(entities, sources_of(entities, index)[0]),
+    }
+}
+
+/// Refusal 13 for one entity. "Each rule reads the declared bytes, even where those break a rule
+/// themselves."
+fn cluster_breach(entities: &[Entity], clusters: &[Cluster], index: usize) -> Option<Way> {
+    let entity = &entities[index];
+    let entering: Vec<usize> = sources_of(entities, index)
+        .into_iter()
+        .map(|source| usize::from(clusters[source].channels))
+        .collect();
+    let length = entity.bytes.len();
+    match entity.kind {
+        Kind::InputTerminal { cluster, .. } => declared_breach(cluster, &INPUT_TERMINAL),
+        Kind::OutputTerminal { .. } => None,
+        Kind::Mixer { cluster } => declared_breach(cluster, &MIXER).or_else(|| {
+            let bits = entering.iter().sum::<usize>() * usize::from(cluster.channels);
+            let wanted = 10 + entering.len() + bits.div_ceil(8);
+            (length != wanted).then_some(Way::MixerControls)
+        }),
+        Kind::Selector { .. } => {
+            entering.iter().any(|&c| c != entering[0]).then_some(Way::SelectorChannels)
+        }
+        Kind::FeatureUnit { size } => {
+            (length != 7 + (entering[0] + 1) * size).then_some(Way::FeatureMasks)
+        }
+    }
+}
+
+/// The names of the clauses for one of the two kinds that declare a cluster.
+struct Declared {
+    zero: Way,
+    high: Way,
+    reserved: Way,
+    ones: Way,
+    equal: Way,
+    index: Way,
+}
+
+const INPUT_TERMINAL: Declared = Declared {
+    zero: Way::InputChannelsZero,
+    high: Way::InputChannelsHigh,
+    reserved: Way::InputReserved,
+    ones: Way::InputOnes,
+    equal: Way::InputIndexEqual,
+    index: Way::InputIndexHigh,
+};
+
+const MIXER: Declared = Declared {
+    zero: Way::MixerChannelsZero,
+    high: Way::MixerChannelsHigh,
+    reserved: Way::MixerReserved,
+    ones: Way::MixerOnes,
+    equal: Way::MixerIndexEqual,
+    index: Way::MixerIndexHigh,
+};
+
+/// "c is 1 to 16; bits 12 to 15 are 0; the ones in the bitmap are at most c; if equal, the index
+/// is 0; if fewer and the index is not 0, index + c − ones − 1 is at most 255."
+fn declared_breach(cluster: Cluster, names: &Declared) -> Option<Way> {
+    let c = usize::from(cluster.channels);
+    let ones = cluster.bitmap.count_ones() as usize;
+    let index = usize::from(cluster.name);
+    if c == 0 {
+        return Some(names.zero);
+    }
+    if c > CHANNELS {
+        return Some(names.high);
+    }
+    if cluster.bitmap & 0xF000 != 0 {
+        return Some(names.reserved);
+    }
+    if ones > c {
+        return Some(names.ones);
+    }
+    if ones == c && index != 0 {
+        return Some(names.equal);
+    }
+    if ones < c && index != 0 && index + (c - ones) - 1 > 255 {
+        return Some(names.index);
+    }
+    None
+}
+
+#[cfg(test)]
+mod tests {
+    use super::*;
+
+    fn declared(channels: u8, bitmap: u16, name: u8) -> Option<Way> {
+        declared_breach(Cluster { channels, bitmap, name }, &INPUT_TERMINAL)
+    }
+
+    /// "cluster 5, 0x0051, index 254: kept, 255: broken; 4, 0x0107, index 0: kept, 1: broken."
+    #[test]
+    fn the_clusters_of_the_cases_to_prove_together() {
+        assert_eq!(declared(5, 0x0051, 254), None);
+        assert_eq!(declared(5, 0x0051, 255), Some(Way::InputIndexHigh));
+        assert_eq!(declared(4, 0x0107, 0), None);
+        assert_eq!(declared(4, 0x0107, 1), Some(Way::InputIndexEqual));
+    }
+
+    #[test]
+    fn the_bounds_of_c() {
+        assert_eq!(declared(0, 0, 0), Some(Way::InputChannelsZero));
+        assert_eq!(declared(1, 0, 255), None);
+        assert_eq!(declared(16, 0x0FFF, 0), None);
+        assert_eq!(declared(17, 0, 0), Some(Way::InputChannelsHigh));
+        assert_eq!(declared(16, 0x1000, 0), Some(Way::InputReserved));
+    }
+}

@@ -1,0 +1,174 @@
+//! Every way in which document 01 names a refusal: the number it is given, and the words.
+//!
+//! The programs print the number only. The generator counts the ways, so that a clause that no
+//! vector reaches is seen.
+
+macro_rules! ways {
+    ($($name:ident = $number:literal, $words:literal;)*) => {
+        /// One clause of one refusal.
+        #[derive(Clone, Copy, Debug, PartialEq, Eq, Hash, PartialOrd, Ord)]
+        pub enum Way { $(#[doc = $words] $name,)* }
+
+        impl Way {
+            /// All clauses, in the order of the papers.
+            pub const ALL: &'static [Way] = &[$(Way::$name,)*];
+
+            /// The number that document 01 gives this refusal.
+            pub fn number(self) -> u16 {
+                match self { $(Way::$name => $number,)* }
+            }
+
+            /// The clause in words.
+            pub fn words(self) -> &'static str {
+                match self { $(Way::$name => $words,)* }
+            }
+        }
+    };
+}
+
+ways! {
+    LengthLow = 1, "L below 9";
+    LengthHigh = 1, "L above 4,096";
+    OpeningLength = 2, "byte 0 is not 09";
+    OpeningType = 2, "byte 1 is not 02";
+    OpeningTotal = 2, "bytes 2..3 are not L";
+    DescriptorShort = 3, "a descriptor's length is below 2";
+    DescriptorLong = 3, "a descriptor's length runs past L";
+    InterfaceLength = 4, "an interface descriptor is not 9 long";
+    InterfacePair = 4, "repeats an earlier pair of number and alternate setting";
+    SecondAudioControl = 4, "a second AudioControl one";
+    AudioControlSetting = 4, "AudioControl with a setting other than 0";
+    NoAudioControl = 4, "there is no AudioControl one";
+    HeaderAtEnd = 5, "header absent: the configuration ends";
+    HeaderAtGroup = 5, "header absent: the next group begins";
+    HeaderOpening = 5, "header malformed: bytes 1 to 4";
+    HeaderLength = 5, "header malformed: length is not 8+n";
+    TotalWrong = 6, "total wrong";
+    ClassAfterRun = 6, "class descriptors after the run";
+    ListedTwice = 7, "the listed numbers are not distinct";
+    ListedUnknown = 7, "a listed number of no streaming or MIDI group";
+    StreamingUnlisted = 7, "a streaming group's number is not listed";
+    MidiUnlisted = 7, "a MIDI group's number is not listed";
+    NoEntity = 8, "no entity";
+    ManyEntities = 8, "more than 32 entities";
+    KindAbsent = 9, "too few bytes for a kind and an ID";
+    KindUnknown = 9, "any other kind";
+    InputTerminalLength = 9, "Input Terminal: length is not 12";
+    OutputTerminalLength = 9, "Output Terminal: length is not 9";
+    MixerPins = 9, "Mixer: p is not 1 to 8";
+    MixerLength = 9, "Mixer: length below 10+p";
+    SelectorPins = 9, "Selector: p is not 1 to 8";
+    SelectorLength = 9, "Selector: length is neither 6+p nor 7+p";
+    SelectorPad = 9, "Selector: length 7+p and byte 5 is not 0";
+    FeatureLength = 9, "Feature Unit: length below 7";
+    FeatureSize = 9, "Feature Unit: control size is not 1 to 4";
+    IdZero = 10, "ID zero";
+    IdRepeated = 10, "ID borne by an earlier entity";
+    SourceZero = 11, "a source ID is 0";
+    SourceUnknown = 11, "a source ID is unknown";
+    SourceOutput = 11, "a source ID is an Output Terminal's";
+    ChainOnLoop = 12, "an upstream chain longer than 32 steps: on a loop";
+    ChainBelowLoop = 12, "an upstream chain longer than 32 steps: below a loop";
+    InputChannelsZero = 13, "Input Terminal: c is 0";
+    InputChannelsHigh = 13, "Input Terminal: c is above 16";
+    InputReserved = 13, "Input Terminal: one of bits 12 to 15 is not 0";
+    InputOnes = 13, "Input Terminal: the ones are more than c";
+    InputIndexEqual = 13, "Input Terminal: ones equal c and the index is not 0";
+    InputIndexHigh = 13, "Input Terminal: index + c - ones - 1 above 255";
+    MixerChannelsZero = 13, "Mixer: c is 0";
+    MixerChannelsHigh = 13, "Mixer: c is above 16";
+    MixerReserved = 13, "Mixer: one of bits 12 to 15 is not 0";
+    MixerOnes = 13, "Mixer: the ones are more than c";
+    MixerIndexEqual = 13, "Mixer: ones equal c and the index is not 0";
+    MixerIndexHigh = 13, "Mixer: index + c - ones - 1 above 255";
+    MixerControls = 13, "Mixer: length is not 10+p+N";
+    FeatureMasks = 13, "Feature Unit: length is not 7+(c+1)n";
+    SelectorChannels = 13, "Selector: pins differ in c";
+    IdleClass = 14, "no endpoints, and a type 24 in the group";
+    GeneralAbsent = 14, "GENERAL absent: the group ends";
+    GeneralOpening = 14, "GENERAL is not 24 01";
+    GeneralLength = 14, "GENERAL's length is not 7";
+    LinkUnknown = 14, "the linked ID is no entity's";
+    LinkUnit = 14, "the linked entity is no Terminal";
+    LinkType = 14, "the linked Terminal is not of type 0x0101";
+    FormatAbsent = 14, "FORMAT_TYPE absent: the group ends";
+    FormatOpening = 14, "FORMAT_TYPE is not 24 02";
+    FormatLength = 14, "FORMAT_TYPE's length is below 4";
+    PcmLength = 14, "tag 1: length below 8";
+    PcmFormat = 14, "tag 1: format byte 3 is not 1";
+    PcmChannels = 14, "tag 1: byte 4 is not the terminal's c";
+    PcmSubframe = 14, "tag 1: byte 5 is not 1 to 4";
+    PcmResolution = 14, "tag 1: byte 6 is not 1 to 8 times byte 5";
+    PcmRates = 14, "tag 1: f above 0 and length is not 8+3f";
+    PcmRangeLength = 14, "tag 1: f is 0 and length is not 14";
+    PcmRangeOrder = 14, "tag 1: f is 0 and the lower rate is above the upper";
+    ManyControls = 15, "more than 128 controls";
+    SheetShort = 16, "sheet shorter than 16 bytes for each entity";
+    LoadUnknown = 20, "load: no such control";
+    LoadUnranged = 20, "load: the control is not a ranged one";
+    LoadWide = 21, "load: a number too wide for the control";
+    LoadOrder = 21, "load: MIN above MAX";
+    LoadResZero = 21, "load: RES is 0";
+    LoadResHigh = 21, "load: RES above its most";
+    LoadVolumeMin = 21, "load: volume MIN is -32768";
+    TableCount = 30, "over 128 controls";
+    TableTwice = 30, "a control twice";
+    TableSelector = 30, "an unknown selector";
+    TableChannel = 30, "a channel over 16";
+    TableSelectorChannel = 30, "a channel over 0 for a Selector's";
+    TablePins = 30, "a pin count no Selector may have";
+    TableOrder = 30, "loaded: MIN above MAX";
+    TableResZero = 30, "loaded: RES is 0";
+    TableResHigh = 30, "loaded: RES above its most";
+    TableVolumeMin = 30, "loaded: volume MIN is -32768";
+    TableWideLoaded = 30, "loaded: a number too wide for the control";
+    TableWideUnranged = 30, "unranged: a number too wide for the control";
+    TableSettingLoaded = 30, "loaded: a value that is no setting";
+    TableSettingYesNo = 30, "yes/no: a value that is no setting";
+    TableSettingPin = 30, "Selector: a value that is no setting";
+    SetupLength = 31, "setup not 8 bytes";
+    SetupRequest = 31, "type and request are none of the five";
+    InterfaceNumber = 32, "wIndex low byte is not the AudioControl number";
+    UnitUnknown = 33, "wIndex high byte is no unit with controls";
+    ControlUnknown = 34, "no such control of a Feature Unit";
+    SelectorValue = 34, "wValue is not 0 for a Selector";
+    UnrangedYesNo = 35, "MIN, MAX, RES of a yes/no";
+    UnrangedPin = 35, "MIN, MAX, RES of a Selector";
+    NotLoaded = 36, "ranged control not loaded";
+    GetLength = 37, "Get: wLength is not the control's size";
+    SetLength = 37, "Set: wLength is not the control's size";
+    SetData = 37, "Set data is not that long";
+    SetYesNo = 38, "Set of a yes/no to other than 0, 1";
+    SetPinZero = 38, "Set of a Selector below its pins";
+    SetPinHigh = 38, "Set of a Selector above its pins";
+    ReplyShort = 39, "Get: reply buffer too short";
+}
+
+/// A refusal of a configuration: its clause and its place.
+#[derive(Clone, Copy, Debug, PartialEq, Eq)]
+pub struct Refusal {
+    /// The clause, which bears the number.
+    pub way: Way,
+    /// "an offset from the first byte".
+    pub place: usize,
+}
+
+impl Refusal {
+    /// The refusal of `way` at `place`.
+    pub fn at(way: Way, place: usize) -> Refusal {
+        Refusal { way, place }
+    }
+}
+
+#[cfg(test)]
+mod tests {
+    use super::Way;
+
+    #[test]
+    fn every_number_of_the_papers_has_a_way() {
+        let wanted = (1..=16).chain([20, 21]).chain(30..=39);
+        for number in wanted {
+            assert!(Way::ALL.iter().any(|way| way.number() == number), "{number}");
+        }
+    }
+}
