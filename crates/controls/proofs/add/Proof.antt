@@ -1,3 +1,4 @@
+-- The control goes to the next place; past the last, `put` changes nothing.
 use borrow.Author.Needs.{needs}
 use Prim.Native.Nat.{_+_}
 use mathlib.Core.Path.{_≡_, ap}

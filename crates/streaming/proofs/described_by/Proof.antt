@@ -1,3 +1,4 @@
+-- GENERAL, then what its link leads to, then that Terminal's type, then FORMAT_TYPE.
 use borrow.Author.Needs.{needs}
 use Prim.Native.Nat.{ℕ}
 use mathlib.Core.Path.{_≡_, refl, sym, ap, _∙_}

@@ -1,3 +1,4 @@
+-- Type, then subtype: each way out is one test decided.
 use borrow.Author.Needs.{needs}
 use Prim.Native.Nat.{ℕ}
 use mathlib.Core.Path.{_≡_, sym, _∙_}

@@ -1,3 +1,4 @@
+-- Byte 7 parts the discrete form from the continuous one; each has its own length.
 use borrow.Author.Needs.{needs}
 use Prim.Native.Nat.{ℕ, _+_, _*_, _≤_, _<_}
 use mathlib.Core.Path.{_≡_}
