@@ -1,4 +1,7 @@
--- How many controls there may be: one for a bit, ten for a mask, ten for each channel of an entity and its master.
+-- How many controls there may be, so that counting them cannot wrap.
+--   bit-few     ==  one at most for a bit
+--   mask-few    ==  ten at most for a mask
+--   entity-few, node-few  ==  ten at most for each channel of an entity, and ten for master
 use Prim.Native.Nat.{ℕ, zero, suc, _+_, _*_, _≤_}
 use mathlib.Core.Bool.{Bool, true, false}
 use mathlib.Core.List.{List, [], _∷_}
