@@ -5,7 +5,8 @@
 --   selectorControl u p     ==  the control of the Selector u with p pins; its value is a pin, at first 1
 --   maskOf d n k            ==  channel k's mask in the Feature Unit d of control size n: "masks of n bytes from 6"
 --   bitSet m b              ==  bit b of the mask m is set, the low byte first
---   bitControls m u k b     ==  the control that bit b carries, if it carries one
+--   bitCarries m b          ==  bit b of the mask m, which is 0 to 9, carries a control
+--   bitControls m u k b     ==  that control, if it carries one
 --   maskControls m u k      ==  those of channel k's mask m
 --   featureControls u n c d ==  those of the Feature Unit d with ID u and control size n, whose cluster has c channels
 --   entityControls e d c    ==  those of the entity e, which d is
@@ -13,9 +14,9 @@
 --   controlsOfRun s r cs    ==  the same, as the reader has the run: entities that stand at places of the configuration s
 --   breach15 k p            ==  where rule 15 is broken by k controls: nowhere, or at the header's place p
 use Prim.Native.Nat.{ℕ, zero, suc, _+_, _*_, _/_, _%_, _^_}
-use mathlib.Core.Bool.{Bool, true, false, not, _&&_}
+use mathlib.Core.Bool.{Bool, false, not, _&&_}
 use mathlib.Core.List.{List, [], _∷_, _++_}
-use lib.ListN.{length, take}
+use lib.ListN.{take}
 use lib.Dec.{eqb, leb}
 use Rattle.ground.specs.declared.Place.{Place}
 use Rattle.ground.specs.Pick.{pick}
@@ -46,8 +47,11 @@ maskOf d n k = part d (6 + k * n) (6 + k * n + n)
 unfoldable pub bitSet : List ℕ → ℕ → Bool
 bitSet m b = eqb (byte m (b / 8) / 2 ^ (b % 8) % 2) 1
 
+unfoldable pub bitCarries : List ℕ → ℕ → Bool
+bitCarries m b = not (eqb b 5) && bitSet m b
+
 unfoldable pub bitControls : List ℕ → ℕ → ℕ → ℕ → List Control
-bitControls m u k b = pick (not (eqb b 5) && bitSet m b) (unitControl u k (b + 1) ∷ []) []
+bitControls m u k b = pick (bitCarries m b) (unitControl u k (b + 1) ∷ []) []
 
 -- the next n bits, from bit b on
 unfoldable pub bitsFrom : ℕ → ℕ → List ℕ → ℕ → ℕ → List Control

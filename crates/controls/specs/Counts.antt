@@ -1,11 +1,12 @@
--- How many controls there may be: one for a bit, ten for a mask, ten for each channel of an entity and its master.
-use Prim.Native.Nat.{ℕ, zero, suc, _+_, _*_, _≤_, _<_}
-use mathlib.Core.Path.{_≡_, refl, sym, ap, _∙_}
-use mathlib.Core.Bool.{Bool, true, false, not, _&&_}
-use mathlib.Core.List.{List, [], _∷_, _++_}
+-- How many controls there may be, so that counting them cannot wrap.
+--   bit-few     ==  one at most for a bit
+--   mask-few    ==  ten at most for a mask
+--   entity-few, node-few  ==  ten at most for each channel of an entity, and ten for master
+use Prim.Native.Nat.{ℕ, zero, suc, _+_, _*_, _≤_}
+use mathlib.Core.Bool.{Bool, true, false}
+use mathlib.Core.List.{List, [], _∷_}
 use native.Mathlib.Omega.{arith}
 use lib.ListN.{length, length-append}
-use lib.Dec.{eqb}
 use Rattle.ground.specs.Pick.{pick}
 use Rattle.ground.specs.Lists.{part}
 use Rattle.scan.specs.Cutting.{endAt}
@@ -13,15 +14,15 @@ use Rattle.entities.specs.declared.Node.{Node}
 use Rattle.layout.specs.declared.Entity.{Entity}
 use Rattle.layout.specs.declared.Entity.the-variants.{Unknown, Input, Output, Mixer, Selector, Printed, Feature}
 use Rattle.table.specs.declared.Control.{Control}
-use Rattle.controls.specs.Controls.{unitControl, maskOf, bitSet, bitControls, bitsFrom, maskControls, channelsFrom, featureControls, entityControls, nodeControls}
+use Rattle.controls.specs.Controls.{unitControl, maskOf, bitCarries, bitControls, bitsFrom, maskControls, channelsFrom, featureControls, entityControls, nodeControls}
+
+one-few : (t : Bool) (x : Control) → length (pick t (x ∷ []) []) ≤ 1
+one-few true x = omega arith
+one-few false x = omega arith
 
 pub bit-few : (m : List ℕ) (u k b : ℕ) → length (bitControls m u k b) ≤ 1
 unfolding bitControls
-bit-few m u k b = go (not (eqb b 5) && bitSet m b)
-  where
-    go : (t : Bool) → length (pick t (unitControl u k (b + 1) ∷ []) []) ≤ 1
-    go true = omega arith
-    go false = omega arith
+bit-few m u k b = one-few (bitCarries m b) (unitControl u k (b + 1))
 
 bits-few : (n b : ℕ) (m : List ℕ) (u k : ℕ) → length (bitsFrom n b m u k) ≤ n
 unfolding bitsFrom

@@ -5,9 +5,8 @@ use Prim.Native.Nat.{ℕ}
 use mathlib.Core.Path.{_≡_, refl}
 use mathlib.Core.List.{List, [], _∷_}
 use Rattle.layout.specs.declared.Cluster.{Cluster}
-use Rattle.layout.specs.Layout.{entityOf, inputOf, outputOf, selectorOf, featureOf}
-use Rattle.table.specs.declared.Control.{Control}
-use Rattle.controls.specs.Controls.{unitControl, selectorControl, bitSet, bitControls, bitsFrom, maskControls, channelsFrom, featureControls, entityControls, controlsOf}
+use Rattle.layout.specs.Layout.{entityOf, selectorOf, featureOf}
+use Rattle.controls.specs.Controls.{unitControl, selectorControl, bitSet, bitCarries, bitControls, bitsFrom, maskControls, channelsFrom, featureControls, entityControls, controlsOf}
 
 -- clusters of one channel
 abbrev mono : Cluster
@@ -33,5 +32,5 @@ pub record Masks : Type 0 where
   pub selector : controlsOf (printed ∷ unitA ∷ []) (mono ∷ mono ∷ []) ≡ selectorControl 7 2 ∷ unitControl 2 0 1 ∷ unitControl 2 1 2 ∷ []
 
 pub masks : Masks
-unfolding controlsOf entityControls featureControls channelsFrom maskControls bitsFrom bitControls bitSet entityOf selectorOf featureOf
+unfolding controlsOf entityControls featureControls channelsFrom maskControls bitsFrom bitControls bitCarries bitSet entityOf selectorOf featureOf
 masks = record { case-a = refl; no-channels = refl; bit-five = refl; bits-above-nine = refl; bits-eight-nine = refl; selector = refl }

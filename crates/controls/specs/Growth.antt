@@ -2,7 +2,9 @@
 --   added t x   ==  the table t with the control x in its next place
 --   grown t l   ==  the table t with the controls l in its next places, one after another
 --   tableOf l   ==  the table of the controls l: all of them counted, the first 128 in its places, spare places all zeros
-use Prim.Native.Nat.{ℕ, suc, _+_, _≤_}
+--   grown-append, grown-count  ==  by two lists one after the other; the count grows by as many
+--   table-empty, table-grown   ==  the table with no control, grown by controls, is the table of those
+use Prim.Native.Nat.{_+_}
 use mathlib.Core.Path.{_≡_, refl, sym, ap, _∙_}
 use mathlib.Core.List.{List, [], _∷_, _++_, append-nil}
 use lib.ListN.{length, set, length-append}

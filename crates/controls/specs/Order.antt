@@ -6,12 +6,11 @@
 --   controls-ordered ==  each control of the list is Before each that stands behind it
 use Prim.Native.Nat.{ℕ, zero, suc, _+_, _<_}
 use mathlib.Core.Path.{_≡_, refl, sym, ap, _∙_}
-use mathlib.Core.Bool.{Bool, true, false, not, _&&_}
+use mathlib.Core.Bool.{Bool, true, false}
 use mathlib.Core.Logic.{_⊎_, inl, inr, ⊎-elim}
-use mathlib.Core.List.{List, [], _∷_, _++_, List·Memᴰ, List·Memᴰ·head, List·Memᴰ·tail, List·Memᴰ·not-nil, List·Memᴰ·cases-cons, List·Memᴰ·append-cases, Memᴰ·append-left}
+use mathlib.Core.List.{List, [], _∷_, _++_, List·Memᴰ, List·Memᴰ·head, List·Memᴰ·tail, List·Memᴰ·not-nil, List·Memᴰ·append-cases}
 use native.Mathlib.Omega.{arith}
 use lib.ListN.{length, getD}
-use lib.Dec.{eqb}
 use Rattle.ground.specs.Pick.{pick}
 use Rattle.ground.specs.Numbers.{byte}
 use Rattle.layout.specs.declared.Cluster.{Cluster}
@@ -20,7 +19,7 @@ use Rattle.layout.specs.declared.Entity.the-variants.{Unknown, Input, Output, M
 use Rattle.layout.specs.Layout.{entityOf}
 use Rattle.layout.specs.LayoutLaws.{told}
 use Rattle.table.specs.declared.Control.{Control}
-use Rattle.controls.specs.Controls.{unitControl, maskOf, bitSet, bitControls, bitsFrom, maskControls, channelsFrom, featureControls, entityControls, controlsOf}
+use Rattle.controls.specs.Controls.{unitControl, maskOf, bitCarries, bitControls, bitsFrom, maskControls, channelsFrom, featureControls, entityControls, controlsOf}
 use Rattle.controls.specs.Standing.{Carries, feature, selector, FromBit, bit-of, bits-of, FromUnit, of-mask, channels-of, carried, Stands, here, there, stands-of}
 
 pub data Pairs {A : Type 0} (R : A → A → Type 0) : List A → Type 0 where
@@ -69,15 +68,15 @@ pub record Earlier (ds : List (List ℕ)) (u v : ℕ) : Type 0 where
 abbrev pub Before : List (List ℕ) → Control → Control → Type 0
 Before ds a b = Earlier ds (a .unit) (b .unit) ⊎ ((a .unit ≡ b .unit) × Lower a b)
 
+one-pairs : (t : Bool) (x : Control) → Pairs Lower (pick t (x ∷ []) [])
+one-pairs true x = more (λ y i. absurd (List·Memᴰ·not-nil i)) none
+one-pairs false x = none
+
 -- within a mask by selector
 module _ (m : List ℕ) (u k : ℕ) where
   bit-pairs : (b : ℕ) → Pairs Lower (bitControls m u k b)
   unfolding bitControls
-  bit-pairs b = go (not (eqb b 5) && bitSet m b)
-    where
-      go : (t : Bool) → Pairs Lower (pick t (unitControl u k (b + 1) ∷ []) [])
-      go true = more (λ x i. absurd (List·Memᴰ·not-nil i)) none
-      go false = none
+  bit-pairs b = one-pairs (bitCarries m b) (unitControl u k (b + 1))
 
   bit-lower : (a b : ℕ) (x y : Control) → a < b → FromBit m u k a x → FromBit m u k b y → Lower x y
   bit-lower a b x y l f g = rw (f .is, g .is) (inr (refl, omega arith))

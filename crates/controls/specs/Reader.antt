@@ -2,19 +2,22 @@
 --   Rule15 ds cs     ==  at most 128 controls
 --   rule15-kept      ==  the reader answers nowhere exactly where the rule is kept
 --   rule15-broken    ==  it answers the header's place exactly where it is broken
+--   InTable t x      ==  the control x stands in the table t
+--   table-stands     ==  a control stands in the table exactly where some entity of the run carries it
 --   controls-run     ==  the controls of a run as the reader has it are those of its descriptors
 --   reader-sound, run-sound ==  refusal 30 has nothing against the table of a run's controls
 use Prim.Native.Nat.{ℕ, zero, suc, _+_, _≤_, _<_}
 use mathlib.Core.Path.{_≡_, refl, sym, ap, _∙_}
-use mathlib.Core.Bool.{Bool, true, false}
-use mathlib.Core.Logic.{_⊎_, inl, inr, _↔_}
+use mathlib.Core.Bool.{true, false}
+use mathlib.Core.Logic.{inl, inr, _↔_}
 use mathlib.Core.List.{List, [], _∷_, _++_, flatten, append-assoc, List·Memᴰ, List·Memᴰ·head, List·Memᴰ·tail}
 use native.Mathlib.Omega.{arith}
-use lib.ListN.{length, getD, drop}
+use lib.ListN.{length, getD, drop, length-append}
+use lib.Seq.{getD-append-seam}
 use Rattle.ground.specs.declared.Place.the-variants.{Nowhere, At}
-use Rattle.ground.specs.Pick.{Reads, shows, true≠false, reads-le}
+use Rattle.ground.specs.Pick.{shows, true≠false, reads-le}
 use Rattle.ground.specs.Numbers.{byte}
-use Rattle.ground.specs.Lists.{part, pad-at}
+use Rattle.ground.specs.Lists.{part, pad-at, split-of}
 use Rattle.ground.specs.Refuse.{kept-nowhere, kept-at}
 use Rattle.scan.specs.Cutting.{Descriptor, endAt}
 use Rattle.scan.specs.CuttingLaws.{starts-end, starts-part, starts-next}
@@ -29,13 +32,13 @@ use Rattle.setting.specs.declared.Sort.the-variants.{Volume, Tone, Delay}
 use Rattle.table.specs.declared.Control.{Control}
 use Rattle.table.specs.declared.Table.{Table}
 use Rattle.table.specs.declared.Sense.{Sense}
-use Rattle.table.specs.declared.Sense.the-variants.{Unknown, YesNo, Ranged, Pin}
-use Rattle.table.specs.Controls.{mostControls, mostPins, blankControl, at, senseOf}
+use Rattle.table.specs.declared.Sense.the-variants.{YesNo, Ranged}
+use Rattle.table.specs.Controls.{mostControls, blankControl, at, senseOf}
 use Rattle.table.specs.Sound.{soundOf}
 use Rattle.table.specs.Meaning.{SoundAs, Same, Sound, sound-reads}
-use Rattle.controls.specs.Controls.{unitControl, selectorControl, entityControls, controlsOf, nodeControls, controlsIn, controlsOfRun, breach15}
+use Rattle.controls.specs.Controls.{unitControl, entityControls, controlsOf, nodeControls, controlsIn, controlsOfRun, breach15}
 use Rattle.controls.specs.Growth.{tableOf}
-use Rattle.controls.specs.Standing.{Carries, feature, selector, Stands, here, there, stands-of}
+use Rattle.controls.specs.Standing.{Carries, feature, selector, Stands, here, there, stands-of, control-stands}
 use Rattle.controls.specs.Order.{member-at, pairs-at, Before, controls-ordered}
 
 abbrev pub Rule15 : List (List ℕ) → List Cluster → Type 0
@@ -65,6 +68,41 @@ nodes-controls s p (d ∷ ds) (c ∷ cs) tail e h =
 pub controls-run : (s : List ℕ) (p : ℕ) (ds : List (List ℕ)) (cs : List Cluster) (tail : List ℕ) → drop p s ≡ flatten ds ++ tail → ((d : List ℕ) → List·Memᴰ d ds → Descriptor d) → length ds ≤ mostEntities → controlsOfRun s (runIn p ds) cs ≡ controlsOf ds cs
 unfolding controlsOfRun
 controls-run s p ds cs tail e h l = ap (λ (ns : List Node). controlsIn s ns cs) (run-nodes p ds l) ∙ nodes-controls s p ds cs tail e h
+
+-- what stands at a place of the table of at most 128 controls
+at-place : (l : List Control) → length l ≤ mostControls → (p : ℕ) → p < length l → at (tableOf l) p ≡ getD l p blankControl
+unfolding tableOf
+at-place l few p h = pad-at blankControl mostControls l p (omega arith)
+
+-- the control x stands at one of the places that the table counts
+pub record InTable (t : Table) (x : Control) : Type 0 where
+  pub place : ℕ
+  pub inside : place < t .count
+  pub stands : at t place ≡ x
+
+-- THE LAW: a control stands in the table exactly where some entity of the run carries it
+pub table-stands : (ds : List (List ℕ)) (cs : List Cluster) → ((d : List ℕ) → List·Memᴰ d ds → LaidOut d) → Rule15 ds cs → (x : Control) → InTable (tableOf (controlsOf ds cs)) x ↔ Stands ds cs x
+unfolding tableOf
+table-stands ds cs laid few x = (of, to)
+  where
+    l : List Control
+    l = controlsOf ds cs
+
+    of : InTable (tableOf l) x → Stands ds cs x
+    of k =
+        let e : getD l (k .place) blankControl ≡ x = sym (at-place l few (k .place) (k .inside)) ∙ k .stands in
+        stands-of ds cs x (rw (← e) (member-at blankControl l (k .place) (k .inside)))
+
+    to : Stands ds cs x → InTable (tableOf l) x
+    to h =
+        let k = split-of (control-stands ds cs laid x .1 h) in
+        let a = k .0 in
+        let n : length l ≡ length a + suc (length (k .1)) = ap length (k .2) ∙ length-append a (x ∷ k .1) in
+        record {
+          place = length a;
+          inside = omega arith;
+          stands = at-place l few (length a) (omega arith) ∙ ap (λ (m : List Control). getD m (length a) blankControl) (k .2) ∙ getD-append-seam a x (k .1) blankControl;
+        }
 
 -- what a Feature Unit's control may hold
 data Held : Sense → Type 0 where
@@ -119,10 +157,6 @@ before-other ds h a b (inr (u, inr (k, l))) s = let c = s .selector in omega ari
 module _ (ds : List (List ℕ)) (cs : List Cluster) (z : Cluster)
     (laid : (d : List ℕ) → List·Memᴰ d ds → LaidOut d) (distinct : DistinctIds (λ d. byte d 3) ds)
     (channels : (i : ℕ) → i < length ds → getD cs i z .channels ≤ 16) (few : Rule15 ds cs) where
-  at-place : (p : ℕ) → p < length (controlsOf ds cs) → at (tableOf (controlsOf ds cs)) p ≡ getD (controlsOf ds cs) p blankControl
-  unfolding tableOf
-  at-place p h = pad-at blankControl mostControls (controlsOf ds cs) p (omega arith)
-
   pub reader-sound : Sound (tableOf (controlsOf ds cs))
   unfolding tableOf
   reader-sound = record { few = few; once = once; each = each }
@@ -131,12 +165,12 @@ module _ (ds : List (List ℕ)) (cs : List Cluster) (z : Cluster)
       once p q l h s =
           before-other ds distinct (getD (controlsOf ds cs) p blankControl) (getD (controlsOf ds cs) q blankControl)
           (pairs-at (Before ds) blankControl (controls-ordered ds cs) p q l h)
-          (rw (at-place p (omega arith), at-place q h) at s)
+          (rw (at-place (controlsOf ds cs) few p (omega arith), at-place (controlsOf ds cs) few q h) at s)
 
       each : (p : ℕ) → p < tableOf (controlsOf ds cs) .count → SoundAs (senseOf (at (tableOf (controlsOf ds cs)) p .selector)) (at (tableOf (controlsOf ds cs)) p)
       each p h =
           let r = stands-at z (stands-of ds cs (getD (controlsOf ds cs) p blankControl) (member-at blankControl (controlsOf ds cs) p h)) in
-          rw (at-place p h) (carried-sound (laid (getD ds (r .0) []) (member-at [] ds (r .0) (r .1))) (channels (r .0) (r .1)) (r .2))
+          rw (at-place (controlsOf ds cs) few p h) (carried-sound (laid (getD ds (r .0) []) (member-at [] ds (r .0) (r .1))) (channels (r .0) (r .1)) (r .2))
 
   pub reader-accepted : soundOf (tableOf (controlsOf ds cs)) ≡ true
   reader-accepted = shows (sound-reads (tableOf (controlsOf ds cs))) reader-sound

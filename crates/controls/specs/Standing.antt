@@ -6,21 +6,20 @@
 --   control-stands   ==  a control stands in the list exactly where some entity carries it
 use Prim.Native.Nat.{ℕ, zero, suc, _+_, _/_, _%_, _^_, _≤_, _<_}
 use mathlib.Core.Path.{_≡_, refl}
-use mathlib.Core.Bool.{Bool, true, false, not, _&&_}
+use mathlib.Core.Bool.{Bool, true, false}
 use mathlib.Core.Logic.{⊎-elim, _↔_}
-use mathlib.Core.List.{List, [], _∷_, _++_, List·Memᴰ, List·Memᴰ·head, List·Memᴰ·tail, List·Memᴰ·not-nil, List·Memᴰ·append-cases, List·Memᴰ·eq-of-singleton, Memᴰ·append-left, Memᴰ·append-right}
+use mathlib.Core.List.{List, [], _∷_, List·Memᴰ, List·Memᴰ·head, List·Memᴰ·tail, List·Memᴰ·not-nil, List·Memᴰ·append-cases, List·Memᴰ·eq-of-singleton, Memᴰ·append-left, Memᴰ·append-right}
 use native.Mathlib.Omega.{arith}
 use lib.Dec.{eqb}
 use Rattle.ground.specs.Pick.{pick, Reads, shows, decided, reads-eq, reads-and, reads-not}
 use Rattle.ground.specs.Numbers.{byte}
 use Rattle.layout.specs.declared.Cluster.{Cluster}
 use Rattle.layout.specs.declared.Entity.{Entity}
-use Rattle.layout.specs.declared.Entity.the-variants.{Unknown, Input, Output, Mixer, Selector, Printed, Feature}
 use Rattle.layout.specs.Layout.{LaidOut, entityOf}
 use Rattle.layout.specs.LayoutLaws.{Told, told}
 use Rattle.layout.specs.LayoutLaws as laid
 use Rattle.table.specs.declared.Control.{Control}
-use Rattle.controls.specs.Controls.{unitControl, selectorControl, maskOf, bitSet, bitControls, bitsFrom, maskControls, channelsFrom, featureControls, entityControls, controlsOf}
+use Rattle.controls.specs.Controls.{unitControl, selectorControl, maskOf, bitSet, bitCarries, bitControls, bitsFrom, maskControls, channelsFrom, featureControls, entityControls, controlsOf}
 
 abbrev pub SetBit : List ℕ → ℕ → Type 0
 SetBit m b = byte m (b / 8) / 2 ^ (b % 8) % 2 ≡ 1
@@ -40,13 +39,13 @@ module _ (m : List ℕ) (u k : ℕ) where
     pub not-five : b ≡ 5 → ⊥
     pub set : SetBit m b
 
-  reads-carries : (b : ℕ) → Reads (not (eqb b 5) && bitSet m b) ((b ≡ 5 → ⊥) × SetBit m b)
-  unfolding bitSet
+  reads-carries : (b : ℕ) → Reads (bitCarries m b) ((b ≡ 5 → ⊥) × SetBit m b)
+  unfolding bitCarries bitSet
   reads-carries b = reads-and _ _ (reads-not _ (reads-eq b 5)) (reads-eq (byte m (b / 8) / 2 ^ (b % 8) % 2) 1)
 
   pub bit-of : (b : ℕ) (x : Control) → List·Memᴰ x (bitControls m u k b) → FromBit b x
   unfolding bitControls
-  bit-of b x h = go (not (eqb b 5) && bitSet m b) (reads-carries b) h
+  bit-of b x h = go (bitCarries m b) (reads-carries b) h
     where
       go : (t : Bool) → Reads t ((b ≡ 5 → ⊥) × SetBit m b) → List·Memᴰ x (pick t (unitControl u k (b + 1) ∷ []) []) → FromBit b x
       go true r i = let p = r .says refl in record { is = List·Memᴰ·eq-of-singleton i; not-five = p .0; set = p .1 }

@@ -7,7 +7,7 @@
 --   laid-distinct ==  and so have the descriptors, where each has a layout: byte 3 is the ID
 use Prim.Native.Nat.{ℕ, suc, min, _+_, _≤_, _<_}
 use mathlib.Core.Path.{_≡_, refl, sym, ap, _∙_}
-use mathlib.Core.List.{List, [], _∷_, _++_, List·Memᴰ, List·Memᴰ·head, List·Memᴰ·tail}
+use mathlib.Core.List.{List, [], _∷_, _++_, List·Memᴰ, List·Memᴰ·tail}
 use lib.ListN.{length, take, getD, length-take, length-append}
 use lib.Seq.{getD-take, getD-append-seam, getD-append-add}
 use native.Mathlib.Omega.{arith}

@@ -1,4 +1,8 @@
--- The tests of rule 14 decide its sentences.
+-- What the reader tests at places of the configuration is what the definitions test along the cutting.
+--   linked-first, linked-past ==  a link among Terminals in two parts: to the first part's where it has one, else to the second's
+--   strays-held  ==  the search for a type 24 descriptor or the group's end tells whether the group holds one
+--   behind-next  ==  what stands behind an element of a list
+--   broken-here  ==  the test of a group at its place, during the search, is the rule's own test
 use Prim.Native.Nat.{ℕ, suc, _+_, _≤_}
 use mathlib.Core.Path.{_≡_, refl, sym, ap, _∙_}
 use mathlib.Core.Bool.{Bool, true, false, not, _&&_, _||_}
@@ -22,7 +26,6 @@ use Rattle.scan.specs.Found.{found, found-none}
 use Rattle.scan.specs.declared.Want.the-variants as want
 use Rattle.groups.specs.Reading.{straysFrom}
 use Rattle.groups.specs.TotalLaws.{type-of}
-use Rattle.streaming.specs.declared.Link.{Link}
 use Rattle.streaming.specs.declared.Link.the-variants as link
 use Rattle.streaming.specs.Terminals.{Terminal, linkedTo}
 use Rattle.streaming.specs.Tests.{describedBy, describedAt, brokenAt, holdsClass, broken, wrongStream}

@@ -9,7 +9,6 @@ use mathlib.Core.Logic.{⊎-elim}
 use mathlib.Core.List.{List, [], _∷_, _++_, List·Memᴰ, List·Memᴰ·head, List·Memᴰ·tail, List·Memᴰ·not-nil, List·Memᴰ·cases-cons}
 use native.Mathlib.Omega.{arith}
 use Rattle.ground.specs.Pick.{pick, yes, no, Reads, shows, refutes, true≠false}
-use Rattle.ground.specs.Numbers.{byte}
 use Rattle.ground.specs.Lists.{Some}
 use Rattle.scan.specs.Want.{Interface, Class, isInterface, isClass, reads-interface, reads-class}
 use Rattle.groups.specs.Rules.{GroupEnds, last, next}

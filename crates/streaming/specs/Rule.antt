@@ -15,7 +15,7 @@
 --   Breaks14 ts ds p   ==  p is the place of the first streaming group's interface descriptor that breaks it
 use Prim.Native.Nat.{ℕ, _+_, _*_, _≤_, _<_}
 use mathlib.Core.Path.{_≡_}
-use mathlib.Core.List.{List, [], _∷_, _++_, List·Memᴰ}
+use mathlib.Core.List.{List, _∷_, _++_, List·Memᴰ}
 use lib.ListN.{length}
 use Rattle.ground.specs.Numbers.{byte, word, triple}
 use Rattle.ground.specs.Lists.{total}

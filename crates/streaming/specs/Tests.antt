@@ -7,7 +7,7 @@
 --   wrongStream ts ds b i ==  the same of i, which stands behind b in the cutting ds
 --   breach14 ts s        ==  nowhere, or the place of the first streaming group's interface descriptor that breaks the rule
 use Prim.Native.Nat.{ℕ, suc, _+_, _*_}
-use mathlib.Core.Bool.{Bool, true, false, not, _&&_, _||_}
+use mathlib.Core.Bool.{Bool, false, not, _&&_, _||_}
 use mathlib.Core.List.{List, [], _∷_}
 use lib.ListN.{length, getD, drop}
 use lib.Dec.{eqb, ltb, leb}

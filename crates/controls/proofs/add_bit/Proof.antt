@@ -1,3 +1,4 @@
+-- One law for each way out: bit 5, a bit that is not set, a bit that is.
 use borrow.Author.Needs.{needs}
 use Prim.Native.Nat.{ℕ, _+_}
 use mathlib.Core.Path.{_≡_, refl, sym, ap, _∙_}
@@ -8,14 +9,14 @@ use borrow.Author.Tests.{eq-eqb, ne-eqb, not-true, not-false}
 use Rattle.ground.specs.Pick.{pick}
 use Rattle.table.specs.declared.Control.{Control}
 use Rattle.table.specs.declared.Table.{Table}
-use Rattle.controls.specs.Controls.{unitControl, bitSet, bitControls}
+use Rattle.controls.specs.Controls.{unitControl, bitSet, bitCarries, bitControls}
 use Rattle.controls.specs.Growth.{added, grown}
 use Rattle.controls.proofs.add_bit.Statement.{statement}
 use Rattle.controls.proofs.add_bit.Tie as tie
 
 module _ (t : Table) (m : List ℕ) (u k b : ℕ) where
   carries : (x : Bool) → bitSet m b ≡ x → (f : Bool) → eqb b 5 ≡ f → bitControls m u k b ≡ pick (not f && x) (unitControl u k (b + 1) ∷ []) []
-  unfolding bitControls
+  unfolding bitControls bitCarries
   carries x e f g = rw (e, g) refl
 
   five : b ≡ 5 → t ≡ grown t (bitControls m u k b)

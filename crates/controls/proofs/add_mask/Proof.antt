@@ -2,10 +2,9 @@
 use borrow.Author.Needs.{needs}
 use Prim.Native.Nat.{ℕ, suc, _+_, _-_, _≤_, _<_}
 use mathlib.Core.Path.{_≡_, refl, sym, ap, _∙_}
-use mathlib.Core.List.{List, [], _∷_, _++_}
+use mathlib.Core.List.{List}
 use native.Mathlib.Omega.{arith}
 use lib.ListN.{length}
-use Rattle.table.specs.declared.Control.{Control}
 use Rattle.table.specs.declared.Table.{Table}
 use Rattle.controls.specs.Controls.{bitControls, bitsFrom, maskControls}
 use Rattle.controls.specs.Growth.{grown, grown-append, grown-count}

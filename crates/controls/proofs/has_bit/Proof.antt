@@ -1,3 +1,4 @@
+-- A shift down by b mod 8 is a division by that power of 2.
 use borrow.Author.Needs.{needs}
 use Prim.Native.Nat.{ℕ, _/_, _%_, _^_}
 use mathlib.Core.Path.{_≡_}

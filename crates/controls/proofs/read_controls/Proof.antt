@@ -1,3 +1,4 @@
+-- The run's entities are its first count places.
 use borrow.Author.Needs.{needs}
 use Prim.Native.Nat.{ℕ}
 use mathlib.Core.Path.{_≡_}

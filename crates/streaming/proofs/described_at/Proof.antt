@@ -1,3 +1,4 @@
+-- The two descriptors are the parts up to the next two ends.
 use borrow.Author.Needs.{needs}
 use Prim.Native.Nat.{ℕ}
 use mathlib.Core.Path.{_≡_, refl}

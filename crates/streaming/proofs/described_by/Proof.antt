@@ -1,9 +1,9 @@
+-- GENERAL, then what its link leads to, then that Terminal's type, then FORMAT_TYPE.
 use borrow.Author.Needs.{needs}
 use Prim.Native.Nat.{ℕ}
 use mathlib.Core.Path.{_≡_, refl, sym, ap, _∙_}
 use mathlib.Core.Bool.{Bool, true, false, not, _&&_}
 use mathlib.Core.List.{List}
-use lib.Dec.{eqb}
 use borrow.Author.Tests.{eq-eqb, ne-eqb, not-true, not-false}
 use Rattle.ground.specs.Numbers.{byte, word}
 use Rattle.streaming.specs.declared.Link.{Link}

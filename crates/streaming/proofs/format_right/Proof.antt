@@ -1,3 +1,4 @@
+-- FORMAT_TYPE first; a tag other than 1 is not read further.
 use borrow.Author.Needs.{needs}
 use Prim.Native.Nat.{ℕ}
 use mathlib.Core.Path.{_≡_, sym, _∙_}

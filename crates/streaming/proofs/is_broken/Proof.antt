@@ -1,3 +1,4 @@
+-- No streaming group is never broken; byte 4 parts a group without endpoints from the others.
 use borrow.Author.Needs.{needs}
 use Prim.Native.Nat.{ℕ}
 use mathlib.Core.Path.{_≡_, sym, _∙_}

@@ -1,3 +1,4 @@
+-- The length, then the opening.
 use borrow.Author.Needs.{needs}
 use Prim.Native.Nat.{ℕ}
 use mathlib.Core.Path.{_≡_}

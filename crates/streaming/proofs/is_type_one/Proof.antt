@@ -1,3 +1,4 @@
+-- One law for each way out, in the order of the paper's sentence.
 use borrow.Author.Needs.{needs}
 use Prim.Native.Nat.{ℕ, _≤_, _<_}
 use mathlib.Core.Path.{_≡_, sym, _∙_}

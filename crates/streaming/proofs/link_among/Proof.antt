@@ -1,21 +1,17 @@
 -- The Terminals before `i` bear other IDs; what the link leads to is what it leads to from there on.
 use borrow.Author.Needs.{needs}
-use Prim.Native.Nat.{ℕ, suc, _+_, _-_, _≤_, _<_}
+use Prim.Native.Nat.{ℕ, _+_, _-_, _≤_, _<_}
 use mathlib.Core.Path.{_≡_, refl, sym, ap, _∙_}
-use mathlib.Core.Bool.{Bool, true, false}
-use mathlib.Core.List.{List, [], _∷_, _++_}
+use mathlib.Core.List.{List, _++_}
 use native.Mathlib.Omega.{arith}
 use native.Mathlib.Numerals.{add-one}
 use lib.ListN.{length, getD, take, drop, length-take, drop-of-length-le}
 use lib.Seq.{drop-cons, getD-take}
-use lib.Dec.{eqb}
-use Rattle.ground.specs.Pick.{pick}
 use Rattle.layout.specs.declared.Cluster.{Cluster}
 use Rattle.entities.specs.declared.Node.{Node}
-use Rattle.entities.specs.declared.Run.{Run}
 use Rattle.streaming.specs.declared.Link.{Link}
 use Rattle.streaming.specs.declared.Link.the-variants as link
-use Rattle.streaming.specs.Terminals.{Terminal, terminalOf, terminalsIn, terminalsOf, linkedTo, linkOf}
+use Rattle.streaming.specs.Terminals.{Terminal, terminalOf, terminalsIn, linkedTo}
 use Rattle.streaming.specs.Laws.{linked-first, linked-past}
 use Rattle.streaming.proofs.link_among.Statement.{statement}
 use Rattle.streaming.proofs.link_among.Tie as tie

@@ -1,14 +1,12 @@
 -- One law for each kind of entity.
 use borrow.Author.Needs.{needs}
 use Prim.Native.Nat.{ℕ}
-use mathlib.Core.Path.{_≡_, refl, sym, ap, _∙_}
-use lib.Dec.{eqb}
+use mathlib.Core.Path.{_≡_, sym, ap, _∙_}
 use borrow.Author.Tests.{eq-eqb, ne-eqb}
 use Rattle.ground.specs.Pick.{yes, no}
 use Rattle.layout.specs.declared.Cluster.{Cluster}
 use Rattle.layout.specs.declared.Entity.{Entity}
 use Rattle.layout.specs.declared.Entity.the-variants.{Unknown, Input, Output, Mixer, Selector, Printed, Feature}
-use Rattle.streaming.specs.declared.Link.{Link}
 use Rattle.streaming.specs.declared.Link.the-variants.{Nothing, Terminal}
 use Rattle.streaming.specs.Terminals.{terminalOf, linkedTo, linkOf}
 use Rattle.streaming.proofs.link_of.Statement.{statement}

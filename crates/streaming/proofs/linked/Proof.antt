@@ -1,3 +1,4 @@
+-- The run's entities are its first count places.
 use borrow.Author.Needs.{needs}
 use mathlib.Core.Path.{_≡_}
 use mathlib.Core.List.{List}

@@ -1,3 +1,4 @@
+-- One law for each way out: the two bounds of byte 5, then those of byte 6.
 use borrow.Author.Needs.{needs}
 use Prim.Native.Nat.{ℕ, _*_, _≤_, _<_}
 use mathlib.Core.Path.{_≡_}
