@@ -4,3 +4,5 @@ pub mod Configuration
 pub mod Arrays
 pub mod Refusals
 pub mod Demand3
+pub mod Demand1
+pub mod Demand2
