@@ -59,7 +59,7 @@ pub record RequestNumber (n : ℕ) : Type 0 where
   pub to : n ≤ 39
 
 -- a refusal has one of these numbers
-pub Numbered : (ℕ → Type 0) → Outcome → Type 0
+unfoldable pub Numbered : (ℕ → Type 0) → Outcome → Type 0
 Numbered P o = (n : ℕ) → o ≡ refused n → P n
 
 module _ (P : ℕ → Type 0) where

@@ -1,0 +1,99 @@
+-- What the reader's array of clusters holds where the entities are connected: the clusters that keep every rule. So the Terminals, the
+-- controls and the room for the records are those of the rules.
+--   clusters-shown  ==  the array's places of the run hold those clusters, in the entities' order
+--   terminals-same, controls-same  ==  the Terminals and the controls that the reader has are those with these clusters
+--   reads-room      ==  the test of room decides rule 16
+use Prim.Native.Nat.{ℕ, zero, suc, _*_, _≤_, _<_}
+use mathlib.Core.Path.{_≡_, refl, sym, ap, _∙_}
+use mathlib.Core.List.{List, [], _∷_, _++_, map, map-map, map-id}
+use lib.ListN.{length, take, getD}
+use lib.Dec.{leb}
+use native.Mathlib.Omega.{arith}
+use Rattle.ground.specs.Pick.{Reads, reads-le, reads-same}
+use Rattle.ground.specs.Lists.{pad-length}
+use Rattle.layout.specs.declared.Cluster.{Cluster}
+use Rattle.entities.specs.declared.Node.{Node}
+use Rattle.entities.specs.declared.Run.{Run}
+use Rattle.entities.specs.Run.{mostEntities, nodesFrom, blankNode, runIn}
+use Rattle.entities.specs.RunLaws.{nodes-length}
+use Rattle.cutting.specs.Rules.{Kept}
+use Rattle.graph.specs.Members.{map-same}
+use Rattle.graph.specs.Tables.{below, below-lt}
+use Rattle.graph.specs.Places.{named, named-list}
+use Rattle.graph.specs.Rounds.{length-roundsOf}
+use Rattle.sources.specs.Held.{held, idAt, linkedTo}
+use Rattle.sources.specs.Lookup.{linksOf, idsOf}
+use Rattle.ranks.specs.Rules.{mostSteps}
+use Rattle.clusters.specs.Edition.{noCluster, ruleAt, clustersOf}
+use Rattle.clusters.specs.Audio.{audio}
+use Rattle.clusters.specs.Topology.{settled-topology}
+use Rattle.streaming.specs.Terminals.{Terminal, OneEach, terminalOf, terminalsIn, terminalsOf}
+use Rattle.streaming.specs.Distinct.{one-each-run, terminals-run}
+use Rattle.table.specs.declared.Control.{Control}
+use Rattle.controls.specs.Controls.{entityControls, controlsOf, controlsOfRun}
+use Rattle.controls.specs.Reader.{controls-run}
+use Rattle.layout.specs.Layout.{entityOf}
+use Rattle.records.specs.Records.{recordSize, roomFor}
+use Rattle.demands.specs.Surveyed.{placeOfRun, entitiesOf, run-stands, run-cut}
+use Rattle.demands.specs.Configuration.{Connected, clustersBy, Rule16}
+
+pub clusters-long : (run : Run) → length (clustersOf audio run) ≡ mostEntities
+unfolding clustersOf
+clusters-long run = length-roundsOf mostEntities _ noCluster noCluster mostSteps
+
+pub clusters-shown : (run : Run) (c : Connected run) → take (held run) (clustersOf audio run) ≡ clustersBy run c
+clusters-shown run c =
+    let l = clusters-long run in
+    sym (map-id (take (held run) (clustersOf audio run)))
+    ∙ sym (named-list (λ (x : Cluster). x) noCluster (clustersOf audio run) (held run) (omega arith))
+    ∙ map-same (λ i. getD (clustersOf audio run) i noCluster) (λ i. c .topology .cluster (idAt run i)) (below (held run)) (λ i m. sym (settled-topology audio run (c .rule10) (c .rule11) .held-by-array (c .topology) i (below-lt m)))
+    ∙ sym (map-map (c .topology .cluster) (idAt run) (below (held run)))
+
+-- clusters past the last entity are not looked at
+terminals-cut : (ns : List Node) (cs : List Cluster) → terminalsIn ns cs ≡ terminalsIn ns (take (length ns) cs)
+unfolding terminalsIn
+terminals-cut [] cs = refl
+terminals-cut (n ∷ ns) [] = refl
+terminals-cut (n ∷ ns) (c ∷ cs) = ap (λ (l : List Terminal). terminalOf (n .entity) (c .channels) ++ l) (terminals-cut ns cs)
+
+controls-cut : (ds : List (List ℕ)) (cs : List Cluster) → controlsOf ds cs ≡ controlsOf ds (take (length ds) cs)
+unfolding controlsOf
+controls-cut [] cs = refl
+controls-cut (d ∷ ds) [] = refl
+controls-cut (d ∷ ds) (c ∷ cs) = ap (λ (l : List Control). entityControls (entityOf d) d (c .channels) ++ l) (controls-cut ds cs)
+
+module _ (s : List ℕ) (k : Kept s) where
+  few : length (k .rule6 .run) ≤ mostEntities
+  few = k .rule8 .1
+
+  pub held-all : held (entitiesOf k) ≡ length (k .rule6 .run)
+  unfolding runIn
+  held-all = let l = k .rule8 .1 in omega arith
+
+  pub reads-room : (room : ℕ) → Reads (roomFor (entitiesOf k) room) (Rule16 (k .rule6 .run) room)
+  unfolding roomFor
+  reads-room room = rw (← held-all) (reads-le (held (entitiesOf k) * recordSize) room)
+
+  module _ (c : Connected (entitiesOf k)) where
+    pub clusters-run : take (length (k .rule6 .run)) (clustersOf audio (entitiesOf k)) ≡ clustersBy (entitiesOf k) c
+    clusters-run = ap (λ (n : ℕ). take n (clustersOf audio (entitiesOf k))) (sym held-all) ∙ clusters-shown (entitiesOf k) c
+
+    pub terminals-same : terminalsOf (entitiesOf k) (clustersOf audio (entitiesOf k)) ≡ terminalsOf (entitiesOf k) (clustersBy (entitiesOf k) c)
+    terminals-same =
+        let ns : List Node = nodesFrom (placeOfRun k) (k .rule6 .run) in
+        let cs : List Cluster = clustersOf audio (entitiesOf k) in
+        terminals-run (placeOfRun k) (k .rule6 .run) cs few
+        ∙ terminals-cut ns cs
+        ∙ ap (λ (n : ℕ). terminalsIn ns (take n cs)) (nodes-length (placeOfRun k) (k .rule6 .run))
+        ∙ ap (terminalsIn ns) clusters-run
+        ∙ sym (terminals-run (placeOfRun k) (k .rule6 .run) (clustersBy (entitiesOf k) c) few)
+
+    pub controls-same : controlsOfRun s (entitiesOf k) (clustersOf audio (entitiesOf k)) ≡ controlsOf (k .rule6 .run) (clustersBy (entitiesOf k) c)
+    controls-same =
+        controls-run s (placeOfRun k) (k .rule6 .run) (clustersOf audio (entitiesOf k)) _ (run-stands s k) (run-cut s k) few
+        ∙ controls-cut (k .rule6 .run) (clustersOf audio (entitiesOf k))
+        ∙ ap (controlsOf (k .rule6 .run)) clusters-run
+
+    pub one-terminal : (cs : List Cluster) → OneEach (terminalsOf (entitiesOf k) cs)
+    unfolding runIn
+    one-terminal cs = one-each-run (entitiesOf k) cs (pad-length blankNode mostEntities (nodesFrom (placeOfRun k) (k .rule6 .run))) (c .rule10 .own)

@@ -1,0 +1,138 @@
+-- Document 01, "Cases to prove together": "Over the definitions, as a table under a single statement: case A accepted; its bytes 2..3
+-- made 108: 2; its first 8 bytes alone: 1; Feature Unit sourcing itself: 12; its ID made 1: 10; its source made 3: 11; cluster 5,
+-- 0x0051, index 254: kept, 255: broken; 4, 0x0107, index 0: kept, 1: broken. Volume −5120..0 by 256: −300 gives −256, −384 gives −512,
+-- 500 gives 0, −32768 stays. Bass −10..9 by 4: 9 gives 6."
+--   caseA            ==  the document's 109 bytes
+--   Configurations   ==  the six configurations, each with the number that the document gives, 0 for accepted
+--   Together         ==  the single statement; together: its proof, computed from the definitions
+--   PrintedA         ==  the whole answer for case A, and the sheet as the document prints it
+--   caseB, AnswerB   ==  case A with a second Output Terminal and volume on the master channel too, and what is answered to it
+use Prim.Native.Nat.{ℕ}
+use mathlib.Core.Path.{_≡_, refl}
+use mathlib.Core.Bool.{true, false}
+use mathlib.Core.List.{List, [], _∷_, _++_, map}
+use lib.ListN.{take, set, replicate}
+use lib.Count.{ones, onesIn}
+use Rattle.ground.specs.Numbers.{byte}
+use Rattle.ground.specs.Refuse.{refuse, placeOr}
+use Rattle.ground.specs.First.{firstFrom, isBefore}
+use Rattle.ground.specs.Lists.{total, any, pad}
+use Rattle.scan.specs.Cutting.{endAt, restFrom, rest, reach, breach3}
+use Rattle.scan.specs.Search.{searched}
+use Rattle.scan.specs.Want.{isInterface, isClass, isAudio, isSetting, isMember, wants, foundFrom}
+use Rattle.layout.specs.Layout.{inputOf, outputOf, mixerOf, selectorOf, featureOf, entityOf, kindOf, idOf, isUnknown}
+use Rattle.layout.specs.Sources.{sourceList, pinsOf, padded, sourcesIn, sourcesOf}
+use Rattle.entities.specs.Run.{nodeOf, nodesFrom, blankNode, runIn}
+use Rattle.groups.specs.Reading.{breach1, breach2, wrongInterface, breach4, runEnd, frameFrom, frameOf, opens, isHeader, breach5, straysFrom, breach6, isDistinct, allKnown, unlisted, collects, breach7, groupJudged}
+use Rattle.groups.specs.Reading as groups
+use Rattle.cutting.specs.Survey.{runOf, breach8, breach9, verdictThen, verdict, refusedSurvey, surveyed, surveyOf}
+use Rattle.cutting.specs.Survey as cutting
+use Rattle.graph.specs.Members.{all}
+use Rattle.graph.specs.Rounds.{nextRound, roundsOf}
+use Rattle.graph.specs.Tables.{tabulateFrom}
+use Rattle.sources.specs.Held.{isOutput}
+use Rattle.sources.specs.Firsts.{firstIn}
+use Rattle.sources.specs.Lookup.{lookupBelow, indexOf, placeOf, linkOf, linksOf}
+use Rattle.sources.specs.Rules.{wrongId, breach10, noOutput, wrongSource, wrongSources, breach11}
+use Rattle.ranks.specs.Rules.{settledIn, breach12}
+use Rattle.clusters.specs.Edition.{clustersAt, clustersOf, keepsAt, breach13}
+use Rattle.clusters.specs.Audio.{firstOf, channelsIn, giveOut, mixerLength, featureLength, alike, alikeIn, mixerKept, featureKept, keeps}
+use Rattle.channels.specs.Declared.{clusterKept, namesKept}
+use Rattle.channels.specs.Cases.{cluster}
+use Rattle.connections.specs.Judgement.{judged}
+use Rattle.streaming.specs.Terminals.{terminalOf, terminalsIn, terminalsOf, linkedTo}
+use Rattle.streaming.specs.Tests.{opensAs, isGeneral, isFormat, samplesRight, ratesRight, isTypeOne, formatRight, linkRight, describedBy, holdsClass, broken, wrongStream, breach14}
+use Rattle.controls.specs.Controls.{bitSet, bitControls, bitsFrom, maskControls, channelsFrom, featureControls, entityControls, nodeControls, controlsIn, controlsOfRun, breach15}
+use Rattle.controls.specs.Growth.{tableOf}
+use Rattle.records.specs.Records.{headOf, recordOf, recordsTo, roomFor, shownIn}
+use Rattle.setting.specs.Cases.{Case, found, cases, cases-hold}
+use Rattle.topology.specs.Reading.{restJudged, runJudged, surveyJudged, verdictOf, refusedReading, takenReading, readingOf, sheetOf}
+use Rattle.runs.proofs.Case.{caseTable}
+
+unfoldable pub caseA : List ℕ
+caseA =
+    0x09 ∷ 0x02 ∷ 0x6D ∷ 0x00 ∷ 0x02 ∷ 0x01 ∷ 0x00 ∷ 0x80 ∷ 0x32
+    ∷ 0x09 ∷ 0x04 ∷ 0x00 ∷ 0x00 ∷ 0x00 ∷ 0x01 ∷ 0x01 ∷ 0x00 ∷ 0x00
+    ∷ 0x09 ∷ 0x24 ∷ 0x01 ∷ 0x00 ∷ 0x01 ∷ 0x27 ∷ 0x00 ∷ 0x01 ∷ 0x01
+    ∷ 0x0C ∷ 0x24 ∷ 0x02 ∷ 0x01 ∷ 0x01 ∷ 0x02 ∷ 0x00 ∷ 0x01 ∷ 0x00 ∷ 0x00 ∷ 0x00 ∷ 0x00
+    ∷ 0x09 ∷ 0x24 ∷ 0x06 ∷ 0x02 ∷ 0x01 ∷ 0x01 ∷ 0x01 ∷ 0x02 ∷ 0x00
+    ∷ 0x09 ∷ 0x24 ∷ 0x03 ∷ 0x03 ∷ 0x01 ∷ 0x01 ∷ 0x00 ∷ 0x02 ∷ 0x00
+    ∷ 0x09 ∷ 0x04 ∷ 0x01 ∷ 0x00 ∷ 0x00 ∷ 0x01 ∷ 0x02 ∷ 0x00 ∷ 0x00
+    ∷ 0x09 ∷ 0x04 ∷ 0x01 ∷ 0x01 ∷ 0x01 ∷ 0x01 ∷ 0x02 ∷ 0x00 ∷ 0x00
+    ∷ 0x07 ∷ 0x24 ∷ 0x01 ∷ 0x03 ∷ 0x01 ∷ 0x01 ∷ 0x00
+    ∷ 0x0B ∷ 0x24 ∷ 0x02 ∷ 0x01 ∷ 0x01 ∷ 0x02 ∷ 0x10 ∷ 0x01 ∷ 0x80 ∷ 0xBB ∷ 0x00
+    ∷ 0x09 ∷ 0x05 ∷ 0x81 ∷ 0x05 ∷ 0x60 ∷ 0x00 ∷ 0x01 ∷ 0x00 ∷ 0x00
+    ∷ 0x07 ∷ 0x25 ∷ 0x01 ∷ 0x00 ∷ 0x00 ∷ 0x00 ∷ 0x00
+    ∷ []
+
+-- the Feature Unit stands at place 39: its ID at 42, its source at 43
+pub record Configurations : Type 0 where
+  pub accepted : readingOf caseA 512 .number ≡ 0
+  pub length-wrong : readingOf (set caseA 2 108) 512 .number ≡ 2
+  pub eight-bytes : readingOf (take 8 caseA) 512 .number ≡ 1
+  pub sources-itself : readingOf (set caseA 43 2) 512 .number ≡ 12
+  pub same-id : readingOf (set caseA 42 1) 512 .number ≡ 10
+  pub sources-output : readingOf (set caseA 43 3) 512 .number ≡ 11
+
+pub record Together : Type 0 where
+  pub configurations : Configurations
+  pub clusters : map clusterKept (cluster 5 0x0051 254 ∷ cluster 5 0x0051 255 ∷ cluster 4 0x0107 0 ∷ cluster 4 0x0107 1 ∷ []) ≡ true ∷ false ∷ true ∷ false ∷ []
+  pub settings : map found cases ≡ map (λ (t : Case). t .stored) cases
+
+-- the sheet of 512 bytes that the program lends, all zeros
+abbrev pub lent : List ℕ
+lent = replicate 512 0
+
+pub record PrintedA : Type 0 where
+  pub answer : readingOf caseA 512 ≡ record { number = 0; place = 0; control = 0; entities = 3; controls = 2; table = caseTable }
+  pub sheet : sheetOf caseA lent
+      ≡ 0x01 ∷ 0x02 ∷ 0x01 ∷ 0x00 ∷ 0x00 ∷ 0x00 ∷ 0x00 ∷ 0x00 ∷ 0x00 ∷ 0x00 ∷ 0x00 ∷ 0x00 ∷ 0x00 ∷ 0x00 ∷ 0x00 ∷ 0x00
+      ∷ 0x02 ∷ 0x06 ∷ 0x01 ∷ 0x00 ∷ 0x00 ∷ 0x00 ∷ 0x01 ∷ 0x00 ∷ 0x01 ∷ 0x00 ∷ 0x00 ∷ 0x00 ∷ 0x00 ∷ 0x00 ∷ 0x00 ∷ 0x00
+      ∷ 0x03 ∷ 0x03 ∷ 0x01 ∷ 0x00 ∷ 0x00 ∷ 0x00 ∷ 0x01 ∷ 0x00 ∷ 0x02 ∷ 0x00 ∷ 0x00 ∷ 0x00 ∷ 0x00 ∷ 0x00 ∷ 0x00 ∷ 0x00
+      ∷ replicate 464 0
+
+unfoldable pub caseB : List ℕ
+caseB =
+    0x09 ∷ 0x02 ∷ 0x76 ∷ 0x00 ∷ 0x02 ∷ 0x01 ∷ 0x00 ∷ 0x80 ∷ 0x32
+    ∷ 0x09 ∷ 0x04 ∷ 0x00 ∷ 0x00 ∷ 0x00 ∷ 0x01 ∷ 0x01 ∷ 0x00 ∷ 0x00
+    ∷ 0x09 ∷ 0x24 ∷ 0x01 ∷ 0x00 ∷ 0x01 ∷ 0x30 ∷ 0x00 ∷ 0x01 ∷ 0x01
+    ∷ 0x0C ∷ 0x24 ∷ 0x02 ∷ 0x01 ∷ 0x01 ∷ 0x02 ∷ 0x00 ∷ 0x01 ∷ 0x00 ∷ 0x00 ∷ 0x00 ∷ 0x00
+    ∷ 0x09 ∷ 0x24 ∷ 0x06 ∷ 0x02 ∷ 0x01 ∷ 0x01 ∷ 0x03 ∷ 0x02 ∷ 0x00
+    ∷ 0x09 ∷ 0x24 ∷ 0x03 ∷ 0x03 ∷ 0x01 ∷ 0x01 ∷ 0x00 ∷ 0x02 ∷ 0x00
+    ∷ 0x09 ∷ 0x24 ∷ 0x03 ∷ 0x04 ∷ 0x01 ∷ 0x03 ∷ 0x00 ∷ 0x02 ∷ 0x00
+    ∷ 0x09 ∷ 0x04 ∷ 0x01 ∷ 0x00 ∷ 0x00 ∷ 0x01 ∷ 0x02 ∷ 0x00 ∷ 0x00
+    ∷ 0x09 ∷ 0x04 ∷ 0x01 ∷ 0x01 ∷ 0x01 ∷ 0x01 ∷ 0x02 ∷ 0x00 ∷ 0x00
+    ∷ 0x07 ∷ 0x24 ∷ 0x01 ∷ 0x03 ∷ 0x01 ∷ 0x01 ∷ 0x00
+    ∷ 0x0B ∷ 0x24 ∷ 0x02 ∷ 0x01 ∷ 0x01 ∷ 0x02 ∷ 0x10 ∷ 0x01 ∷ 0x80 ∷ 0xBB ∷ 0x00
+    ∷ 0x09 ∷ 0x05 ∷ 0x81 ∷ 0x05 ∷ 0x60 ∷ 0x00 ∷ 0x01 ∷ 0x00 ∷ 0x00
+    ∷ 0x07 ∷ 0x25 ∷ 0x01 ∷ 0x00 ∷ 0x00 ∷ 0x00 ∷ 0x00
+    ∷ []
+
+pub record AnswerB : Type 0 where
+  pub accepted : readingOf caseB 512 .number ≡ 0
+  pub entities : readingOf caseB 512 .entities ≡ 4
+  pub controls : readingOf caseB 512 .controls ≡ 3
+  pub fourth : byte (sheetOf caseB lent) 48 ≡ 4
+
+record Computed : Type 0 where
+  configurations : Configurations
+  printed : PrintedA
+  other : AnswerB
+
+computed : Computed
+unfolding caseA caseB refuse placeOr firstFrom isBefore total any pad endAt restFrom rest reach breach3 searched isInterface isClass isAudio isSetting isMember wants foundFrom inputOf outputOf mixerOf selectorOf featureOf entityOf kindOf idOf isUnknown sourceList pinsOf padded sourcesIn sourcesOf nodeOf nodesFrom blankNode runIn breach1 breach2 wrongInterface breach4 runEnd frameFrom frameOf opens isHeader breach5 straysFrom breach6 isDistinct allKnown unlisted collects breach7 groupJudged groups.judged runOf breach8 breach9 verdictThen verdict cutting.runJudged refusedSurvey surveyed surveyOf all nextRound roundsOf tabulateFrom isOutput firstIn lookupBelow indexOf placeOf linkOf linksOf wrongId breach10 noOutput wrongSource wrongSources breach11 settledIn breach12 clustersAt clustersOf keepsAt breach13 firstOf channelsIn giveOut mixerLength featureLength alike alikeIn mixerKept featureKept keeps clusterKept namesKept ones onesIn judged terminalOf terminalsIn terminalsOf linkedTo opensAs isGeneral isFormat samplesRight ratesRight isTypeOne formatRight linkRight describedBy holdsClass broken wrongStream breach14 bitSet bitControls bitsFrom maskControls channelsFrom featureControls entityControls nodeControls controlsIn controlsOfRun breach15 tableOf headOf recordOf recordsTo roomFor shownIn restJudged runJudged surveyJudged verdictOf refusedReading takenReading readingOf sheetOf
+computed = record {
+  configurations = record { accepted = refl; length-wrong = refl; eight-bytes = refl; sources-itself = refl; same-id = refl; sources-output = refl };
+  printed = record { answer = refl; sheet = refl };
+  other = record { accepted = refl; entities = refl; controls = refl; fourth = refl };
+}
+
+pub together : Together
+unfolding clusterKept namesKept ones onesIn
+together = record { configurations = computed .configurations; clusters = refl; settings = cases-hold }
+
+pub printed-a : PrintedA
+printed-a = computed .printed
+
+pub answer-b : AnswerB
+answer-b = computed .other

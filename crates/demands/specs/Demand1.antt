@@ -1,0 +1,85 @@
+-- Demand 1: "Each entry point takes every input there is, ends, and refuses bad input itself. A refusal comes only in a case that the
+-- papers name, gives a number and, for descriptors, a place, and leaves the lent sheet, the lent reply and the table of controls as
+-- they stood. Nothing handed back depends on the descriptor bytes after the call." That each entry point takes every input and ends is
+-- its contract, which has no `requires`; here is what a refusal says and leaves. What is handed back is numbers: it equals a
+-- definition over the inputs at the call, and holds no part of the lent bytes.
+--   RefusedReading s d  ==  what the reader answers and leaves where it refuses: the number and the place are those that document 01
+--                           gives, "interface number 0, zero counts and an empty table; the sheet keeps its bytes"
+--   reader-refuses      ==  so it is wherever the number is not 0
+--   reader-answers      ==  the number is 0, and the bytes are a configuration with room for its records; or it refuses so
+--   load-refuses, request-refuses  ==  a refused load or request has one of the papers' numbers, and leaves table and reply
+--   load-number, request-number    ==  .. which is that of the first row of the papers' table that applies; 0 where none does
+use Prim.Native.Nat.{ℕ}
+use mathlib.Core.Path.{_≡_, refl, sym, ap, _∙_}
+use mathlib.Core.List.{List}
+use mathlib.Core.Logic.{_⊎_, inl, inr}
+use lib.ListN.{length}
+use lib.Dec.{eqb}
+use borrow.Author.Tests.{ne-eqb}
+use Rattle.ground.specs.declared.Refusal.{Refusal}
+use Rattle.ground.specs.Pick.{no, decided, reads-eq}
+use Rattle.setting.specs.declared.Range.{Range}
+use Rattle.table.specs.declared.Table.{Table}
+use Rattle.table.specs.Controls.{emptyTable}
+use Rattle.request.specs.Outcome.{Outcome, numberOf}
+use Rattle.request.specs.Outcome.Outcome.{refused}
+use Rattle.request.specs.Load.{loadOf}
+use Rattle.request.specs.Request.{requestOf}
+use Rattle.runs.specs.Rows.{firstRow, requestRows, loadRows}
+use Rattle.runs.proofs.Rows.{request-rows, load-rows}
+use Rattle.runs.proofs.Refusals.{Keeps, LoadNumber, RequestNumber, Numbered, load-numbers, request-numbers}
+use Rattle.topology.specs.declared.Reading.{Reading}
+use Rattle.topology.specs.Reading.{verdictOf, refusedReading, readingOf, sheetOf}
+use Rattle.demands.specs.Refusals.{Refused, Shown, accepted-exactly, refused-exactly}
+use Rattle.demands.specs.Demand3.{number-told}
+
+pub record RefusedReading (s d : List ℕ) : Type 0 where
+  pub named : Refused s (length d) (readingOf s (length d) .number) (readingOf s (length d) .place)
+  pub interface : readingOf s (length d) .control ≡ 0
+  pub no-entities : readingOf s (length d) .entities ≡ 0
+  pub no-controls : readingOf s (length d) .controls ≡ 0
+  pub no-table : readingOf s (length d) .table ≡ emptyTable
+  pub sheet : sheetOf s d ≡ d
+
+module _ (s d : List ℕ) where
+  pub reader-refuses : (readingOf s (length d) .number ≡ 0 → ⊥) → RefusedReading s d
+  unfolding refusedReading readingOf sheetOf
+  reader-refuses n = record {
+    named = rw answer (refused-exactly s (length d) (verdictOf s (length d) .number) (verdictOf s (length d) .place) given .0 refl);
+    interface = ap (λ (r : Reading). r .control) answer;
+    no-entities = ap (λ (r : Reading). r .entities) answer;
+    no-controls = ap (λ (r : Reading). r .controls) answer;
+    no-table = ap (λ (r : Reading). r .table) answer;
+    sheet = no _ _ (ne-eqb _ _ given);
+  }
+    where
+      given : verdictOf s (length d) .number ≡ 0 → ⊥
+      given e = n (number-told s (length d) ∙ e)
+
+      answer : readingOf s (length d) ≡ refusedReading (verdictOf s (length d))
+      answer = no _ _ (ne-eqb _ _ given)
+
+  pub reader-answers : ((readingOf s (length d) .number ≡ 0) × Shown s (length d)) ⊎ RefusedReading s d
+  reader-answers = go (decided (eqb (readingOf s (length d) .number) 0) (reads-eq (readingOf s (length d) .number) 0))
+    where
+      go : (readingOf s (length d) .number ≡ 0) ⊎ (readingOf s (length d) .number ≡ 0 → ⊥) → ((readingOf s (length d) .number ≡ 0) × Shown s (length d)) ⊎ RefusedReading s d
+      go (inl e) = inl (e, accepted-exactly s (length d) .0 (sym (number-told s (length d)) ∙ e))
+      go (inr n) = inr (reader-refuses n)
+
+pub record RefusedStep (P : ℕ → Type 0) (t : Table) (b : List ℕ) (n : ℕ) (o : Outcome) : Type 0 where
+  pub named : P n
+  pub keeps : Keeps t b o
+
+pub load-refuses : (t : Table) (b : List ℕ) (u c v : ℕ) (range : Range) (w n : ℕ) → loadOf t u c v range w ≡ refused n → RefusedStep LoadNumber t b n (loadOf t u c v range w)
+unfolding Numbered
+load-refuses t b u c v range w n e = record { named = load-numbers t u c v range w n e; keeps = rw e (record { table = refl; reply = refl }) }
+
+pub request-refuses : (t : Table) (b : List ℕ) (i : ℕ) (setup «data» : List ℕ) (n : ℕ) → requestOf t i setup «data» (length b) ≡ refused n → RefusedStep RequestNumber t b n (requestOf t i setup «data» (length b))
+unfolding Numbered
+request-refuses t b i setup «data» n e = record { named = request-numbers t i setup «data» (length b) n e; keeps = rw e (record { table = refl; reply = refl }) }
+
+pub load-number : (t : Table) (u c v : ℕ) (range : Range) (w : ℕ) → numberOf (loadOf t u c v range w) ≡ firstRow (loadRows t u c v range w)
+load-number = load-rows
+
+pub request-number : (t : Table) (i : ℕ) (setup «data» : List ℕ) (room : ℕ) → numberOf (requestOf t i setup «data» room) ≡ firstRow (requestRows t i setup «data» room)
+request-number = request-rows

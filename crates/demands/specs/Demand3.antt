@@ -1,0 +1,215 @@
+-- Demand 3: "With a sheet of 512 bytes or more lent, a configuration is accepted exactly when there exist a cutting into descriptors, a
+-- rank on each entity, lower at a source than at its user, and a channel cluster on each entity's output, that keep every rule of
+-- document 01, written without the reader's search. For accepted bytes only one cutting and one set of clusters keep them, and the
+-- sheet shows those." What there must be is Configuration, in the file of that name.
+--   accepted        ==  the reader's number is 0 exactly where the bytes are a configuration
+--   one-cutting, one-run, one-clusters  ==  what keeps the rules is one: the cutting, the entities, the cluster on each ID
+--   answer-shows    ==  the whole answer: the AudioControl number, the count of entities, the controls
+--   sheet-shows     ==  the sheet: the entities' records with those clusters, then the lent bytes as they stood
+--   record-shows    ==  .. of which the 16 bytes at 16·i are the record of the i-th entity with its cluster
+--   entity-shows, id-shows, cluster-shows  ==  .. which is what the i-th descriptor of the run says, with the ID at its byte 3
+--   controls-stand, controls-order  ==  a control is in the table exactly where an entity carries it; and the table's order
+use Prim.Native.Nat.{ℕ, zero, suc, _+_, _*_, _≤_, _<_}
+use mathlib.Core.Path.{_≡_, refl, sym, ap, _∙_, subst}
+use mathlib.Core.List.{List, [], _∷_, _++_, append-assoc, List·Memᴰ}
+use mathlib.Core.Logic.{_⊎_, inl, inr, ⊎-elim, _↔_}
+use lib.ListN.{length, getD, take, drop, length-append}
+use lib.Seq.{getD-take, take-at, drop-at}
+use lib.Dec.{eqb, ltb}
+use native.Mathlib.Omega.{arith}
+use native.Mathlib.Nat.{add-zero, add-assoc, le-of-suc-le-suc}
+use borrow.Author.Tests.{eq-eqb, ne-eqb}
+use Rattle.ground.specs.declared.Refusal.{Refusal}
+use Rattle.ground.specs.Pick.{yes, no, decided, reads-eq, reads-lt, shows}
+use Rattle.ground.specs.Numbers.{byte}
+use Rattle.ground.specs.Lists.{total, pad-at}
+use Rattle.layout.specs.declared.Cluster.{Cluster}
+use Rattle.layout.specs.Layout.{entityOf, idOf}
+use Rattle.layout.specs.LayoutLaws.{id-told}
+use Rattle.layout.specs.Sources.{sourceList, sourcesIn, sourcesOf}
+use Rattle.layout.specs.SourcesLaws.{padded-length, sources-few}
+use Rattle.entities.specs.declared.Node.{Node}
+use Rattle.entities.specs.declared.Run.{Run}
+use Rattle.entities.specs.Run.{mostEntities, nodeOf, nodesFrom, blankNode, runIn}
+use Rattle.cutting.specs.declared.Survey.{Survey}
+use Rattle.cutting.specs.Survey.{surveyOf}
+use Rattle.cutting.specs.Exact.{kept-cutting}
+use Rattle.graph.specs.Members.{_∈_}
+use Rattle.sources.specs.Held.{nodeAt, idAt}
+use Rattle.sources.specs.Lookup.{idsOf}
+use Rattle.clusters.specs.Edition.{clustersOf}
+use Rattle.clusters.specs.Audio.{audio}
+use Rattle.clusters.specs.Topology.{settled-topology}
+use Rattle.table.specs.declared.Control.{Control}
+use Rattle.controls.specs.Controls.{controlsOf}
+use Rattle.controls.specs.Growth.{tableOf}
+use Rattle.controls.specs.Standing.{Stands, control-stands}
+use Rattle.controls.specs.Order.{Pairs, member-at, Before, controls-ordered}
+use Rattle.records.specs.Records.{recordSize, blankCluster, headOf, recordOf, recordsTo, shownIn}
+use Rattle.topology.specs.declared.Reading.{Reading}
+use Rattle.topology.specs.Reading.{clustersAt, verdictOf, refusedReading, takenReading, readingOf, sheetOf}
+use Rattle.demands.specs.Surveyed.{placeOfRun, entitiesOf, keptSurvey, survey-kept}
+use Rattle.demands.specs.Configuration.{Connected, clustersBy, Configuration, Rule16}
+use Rattle.demands.specs.Arrays.{held-all, reads-room, clusters-run, controls-same}
+use Rattle.demands.specs.Refusals.{accepted-exactly}
+
+-- a sheet that holds 32 records
+abbrev pub wholeSheet : ℕ
+wholeSheet = 512
+
+pub number-told : (s : List ℕ) (room : ℕ) → readingOf s room .number ≡ verdictOf s room .number
+unfolding readingOf takenReading refusedReading
+number-told s room = go (decided (eqb (verdictOf s room .number) 0) (reads-eq (verdictOf s room .number) 0))
+  where
+    go : (verdictOf s room .number ≡ 0) ⊎ (verdictOf s room .number ≡ 0 → ⊥) → readingOf s room .number ≡ verdictOf s room .number
+    go (inl e) = ap (λ (r : Reading). r .number) (yes (takenReading s (surveyOf s)) (refusedReading (verdictOf s room)) (eq-eqb _ _ e)) ∙ sym e
+    go (inr n) = ap (λ (r : Reading). r .number) (no (takenReading s (surveyOf s)) (refusedReading (verdictOf s room)) (ne-eqb _ _ n))
+
+pub room-enough : (s : List ℕ) (room : ℕ) → wholeSheet ≤ room → (t : Configuration s) → Rule16 (t .kept .rule6 .run) room
+room-enough s room h t = let l = t .kept .rule8 .1 in omega arith
+
+-- THE THEOREM
+pub accepted : (s d : List ℕ) → wholeSheet ≤ length d → (readingOf s (length d) .number ≡ 0) ↔ Configuration s
+accepted s d h = (
+  λ e. accepted-exactly s (length d) .0 (sym (number-told s (length d)) ∙ e) .0,
+  λ t. number-told s (length d) ∙ accepted-exactly s (length d) .1 (t, room-enough s (length d) h t),
+)
+
+module _ (s : List ℕ) where
+  -- what keeps the rules is one
+  pub one-cutting : (t u : Configuration s) → t .kept .opened .descriptors ≡ u .kept .opened .descriptors
+  one-cutting t u = kept-cutting s (t .kept) ∙ sym (kept-cutting s (u .kept))
+
+  pub one-run : (t u : Configuration s) → entitiesOf (t .kept) ≡ entitiesOf (u .kept)
+  one-run t u = ap (λ (v : Survey). v .run) (sym (survey-kept s (t .kept)) ∙ survey-kept s (u .kept))
+
+  pub one-clusters : (t u : Configuration s) (a : ℕ) → a ∈ idsOf (entitiesOf (t .kept)) → t .connected .topology .cluster a ≡ u .connected .topology .cluster a
+  one-clusters t u =
+      subst (λ (r : Run). (c : Connected r) (a : ℕ) → a ∈ idsOf (entitiesOf (t .kept)) → t .connected .topology .cluster a ≡ c .topology .cluster a) (one-run t u)
+      (λ c a m. settled-topology audio (entitiesOf (t .kept)) (t .connected .rule10) (t .connected .rule11) .unique (t .connected .topology) (c .topology) a m)
+      (u .connected)
+
+-- what stands at a place of the run
+nodes-at : (p : ℕ) (ds : List (List ℕ)) (i : ℕ) → i < length ds → getD (nodesFrom p ds) i blankNode ≡ nodeOf (p + total (take i ds)) (getD ds i [])
+unfolding nodesFrom total
+nodes-at p [] i h = absurd (omega arith)
+nodes-at p (d ∷ ds) zero h = ap (λ (q : ℕ). nodeOf q d) (sym (add-zero p))
+nodes-at p (d ∷ ds) (suc i) h =
+    nodes-at (p + length d) ds i (le-of-suc-le-suc h) ∙ ap (λ (q : ℕ). nodeOf q (getD ds i [])) (add-assoc p (length d) (total (take i ds)))
+
+record-long : (p : ℕ) (d : List ℕ) (c : Cluster) → length (recordOf (nodeOf p d) c) ≡ recordSize
+unfolding recordOf headOf nodeOf sourcesOf sourcesIn
+record-long p d c = let e = padded-length (sourceList (entityOf d) d) (sources-few d) in omega arith
+
+below-last : (i m : ℕ) → i < suc m → (i ≡ m → ⊥) → i < m
+below-last i m l n = ⊎-elim (λ (h : i < m). h) (λ (h : i < m → ⊥). absurd (n (let e : i ≡ m = omega arith in e))) (decided (ltb i m) (reads-lt i m))
+
+-- what the answer and the sheet show of a configuration
+module _ (s : List ℕ) (t : Configuration s) where
+  abbrev pub entities : Run
+  entities = entitiesOf (t .kept)
+
+  abbrev pub run : List (List ℕ)
+  run = t .kept .rule6 .run
+
+  abbrev pub clusters : List Cluster
+  clusters = clustersBy entities (t .connected)
+
+  abbrev pub controls : List Control
+  controls = controlsOf run clusters
+
+  accepted-for : (room : ℕ) → Rule16 run room → verdictOf s room .number ≡ 0
+  accepted-for room h = accepted-exactly s room .1 (t, h)
+
+  taken-shows : takenReading s (keptSurvey (t .kept)) ≡ record { number = 0; place = 0; control = byte (t .kept .opened .control) 2; entities = length run; controls = length controls; table = tableOf controls }
+  unfolding takenReading tableOf runIn
+  taken-shows =
+      ap (λ (l : List Control). record { number = 0; place = 0; control = byte (t .kept .opened .control) 2; entities = length run; controls = tableOf l .count; table = tableOf l }) (controls-same s (t .kept) (t .connected))
+
+  pub answer-shows : (room : ℕ) → Rule16 run room
+      → readingOf s room ≡ record { number = 0; place = 0; control = byte (t .kept .opened .control) 2; entities = length run; controls = length controls; table = tableOf controls }
+  unfolding readingOf
+  answer-shows room h = yes _ _ (eq-eqb _ _ (accepted-for room h)) ∙ ap (takenReading s) (survey-kept s (t .kept)) ∙ taken-shows
+
+  -- the records look at the clusters of the entities only
+  records-cut : (r : Run) (cs : List Cluster) (n m : ℕ) → m ≤ n → recordsTo m r cs ≡ recordsTo m r (take n cs)
+  unfolding recordsTo
+  records-cut r cs n zero h = refl
+  records-cut r cs n (suc m) h =
+      ap (λ (l : List ℕ). l ++ recordOf (nodeAt r m) (getD cs m blankCluster)) (records-cut r cs n m (omega arith))
+      ∙ ap (λ (c : Cluster). recordsTo m r (take n cs) ++ recordOf (nodeAt r m) c) (sym (getD-take n cs m blankCluster h))
+
+  shown-is : (d : List ℕ) → Rule16 run (length d) → shownIn entities (clustersOf audio entities) d ≡ recordsTo (length run) entities clusters ++ drop (length run * recordSize) d
+  unfolding shownIn
+  shown-is d h =
+      yes _ _ (shows (reads-room s (t .kept) (length d)) h)
+      ∙ ap (λ (n : ℕ). recordsTo n entities (clustersOf audio entities) ++ drop (n * recordSize) d) (held-all s (t .kept))
+      ∙ ap (λ (l : List ℕ). l ++ drop (length run * recordSize) d) (records-cut entities (clustersOf audio entities) (length run) (length run) (omega arith) ∙ ap (recordsTo (length run) entities) (clusters-run s (t .kept) (t .connected)))
+
+  pub sheet-shows : (d : List ℕ) → Rule16 run (length d) → sheetOf s d ≡ recordsTo (length run) entities clusters ++ drop (length run * recordSize) d
+  unfolding sheetOf
+  sheet-shows d h =
+      yes _ _ (eq-eqb _ _ (accepted-for (length d) h))
+      ∙ ap (λ (v : Survey). shownIn (v .run) (clustersAt v) d) (survey-kept s (t .kept))
+      ∙ shown-is d h
+
+  -- a control is in the table exactly where some entity carries it, and the table goes by entity place, channel, selector
+  pub controls-stand : (x : Control) → List·Memᴰ x controls ↔ Stands run clusters x
+  controls-stand = control-stands run clusters (t .kept .rule9)
+
+  pub controls-order : Pairs (Before run) controls
+  controls-order = controls-ordered run clusters
+
+  -- the i-th entity is what the i-th descriptor of the run says, and bears the ID at its byte 3
+  pub entity-shows : (i : ℕ) → i < length run → nodeAt entities i ≡ nodeOf (placeOfRun (t .kept) + total (take i run)) (getD run i [])
+  unfolding runIn
+  entity-shows i h =
+      let l = t .kept .rule8 .1 in
+      pad-at blankNode mostEntities (nodesFrom (placeOfRun (t .kept)) run) i (omega arith) ∙ nodes-at (placeOfRun (t .kept)) run i h
+
+  pub id-shows : (i : ℕ) → i < length run → idAt entities i ≡ byte (getD run i []) 3
+  unfolding nodeOf
+  id-shows i h = ap (λ (n : Node). idOf (n .entity)) (entity-shows i h) ∙ id-told (getD run i []) (t .kept .rule9 (getD run i []) (member-at [] run i h))
+
+  pub cluster-shows : (i : ℕ) → i < length run → getD clusters i blankCluster ≡ t .connected .topology .cluster (idAt entities i)
+  cluster-shows i h =
+      let e = held-all s (t .kept) in
+      ap (λ (l : List Cluster). getD l i blankCluster) (sym (clusters-run s (t .kept) (t .connected)))
+      ∙ getD-take (length run) (clustersOf audio entities) i blankCluster h
+      ∙ sym (settled-topology audio entities (t .connected .rule10) (t .connected .rule11) .held-by-array (t .connected .topology) i (omega arith))
+
+  record-sixteen : (i : ℕ) → i < length run → (c : Cluster) → length (recordOf (nodeAt entities i) c) ≡ recordSize
+  record-sixteen i h c = ap (λ (n : Node). length (recordOf n c)) (entity-shows i h) ∙ record-long (placeOfRun (t .kept) + total (take i run)) (getD run i []) c
+
+  records-long : (m : ℕ) → m ≤ length run → length (recordsTo m entities clusters) ≡ m * recordSize
+  unfolding recordsTo
+  records-long zero h = refl
+  records-long (suc m) h =
+      let a = records-long m (omega arith) in
+      let b = record-sixteen m h (getD clusters m blankCluster) in
+      length-append (recordsTo m entities clusters) (recordOf (nodeAt entities m) (getD clusters m blankCluster)) ∙ omega arith
+
+  record-in : (n : ℕ) → n ≤ length run → (i : ℕ) → i < n → (y : List ℕ) → take recordSize (drop (i * recordSize) (recordsTo n entities clusters ++ y)) ≡ recordOf (nodeAt entities i) (getD clusters i blankCluster)
+  unfolding recordsTo
+  record-in zero h i l y = absurd (omega arith)
+  record-in (suc m) h i l y = go (decided (eqb i m) (reads-eq i m)) (λ j. record-in m (omega arith) i j)
+    where
+      joined : recordsTo (suc m) entities clusters ++ y ≡ recordsTo m entities clusters ++ (recordOf (nodeAt entities m) (getD clusters m blankCluster) ++ y)
+      joined = append-assoc (recordsTo m entities clusters) (recordOf (nodeAt entities m) (getD clusters m blankCluster)) y
+
+      go : (i ≡ m) ⊎ (i ≡ m → ⊥) → (i < m → (z : List ℕ) → take recordSize (drop (i * recordSize) (recordsTo m entities clusters ++ z)) ≡ recordOf (nodeAt entities i) (getD clusters i blankCluster)) → take recordSize (drop (i * recordSize) (recordsTo (suc m) entities clusters ++ y)) ≡ recordOf (nodeAt entities i) (getD clusters i blankCluster)
+      go (inl e) ih =
+          ap (λ (j : ℕ). take recordSize (drop (j * recordSize) (recordsTo (suc m) entities clusters ++ y))) e
+          ∙ ap (λ (l : List ℕ). take recordSize (drop (m * recordSize) l)) joined
+          ∙ ap (take recordSize) (drop-at (recordsTo m entities clusters) (recordOf (nodeAt entities m) (getD clusters m blankCluster) ++ y) (m * recordSize) (records-long m (omega arith)))
+          ∙ take-at (recordOf (nodeAt entities m) (getD clusters m blankCluster)) y recordSize (record-sixteen m h (getD clusters m blankCluster))
+          ∙ ap (λ (j : ℕ). recordOf (nodeAt entities j) (getD clusters j blankCluster)) (sym e)
+      go (inr n) ih = ap (λ (l : List ℕ). take recordSize (drop (i * recordSize) l)) joined ∙ ih (below-last i m l n) (recordOf (nodeAt entities m) (getD clusters m blankCluster) ++ y)
+
+  pub record-shows : (d : List ℕ) → Rule16 run (length d) → (i : ℕ) → i < length run
+      → take recordSize (drop (i * recordSize) (sheetOf s d)) ≡ recordOf (nodeOf (placeOfRun (t .kept) + total (take i run)) (getD run i [])) (t .connected .topology .cluster (byte (getD run i []) 3))
+  record-shows d h i l =
+      ap (λ (x : List ℕ). take recordSize (drop (i * recordSize) x)) (sheet-shows d h)
+      ∙ record-in (length run) (omega arith) i l (drop (length run * recordSize) d)
+      ∙ ap (λ (n : Node). recordOf n (getD clusters i blankCluster)) (entity-shows i l)
+      ∙ ap (recordOf (nodeOf (placeOfRun (t .kept) + total (take i run)) (getD run i []))) (cluster-shows i l ∙ ap (t .connected .topology .cluster) (id-shows i l))

@@ -1,0 +1,122 @@
+-- Document 01, "What the contracts owe": "Turned away must be: a reader that refuses everything (demand 3), one that gives a single sheet
+-- for all, or writes none (demands 2 and 3), a responder that stalls always or answers zero (2), one that stores the first Set and only
+-- acknowledges later ones (2, over runs), and counts of entities or controls not taken from the bytes (2)." Each is shown of whatever
+-- keeps the contract: functions that answer what the entry points' contracts say.
+--   Reads answers leaves  ==  these answer as the reader's contract says, and leave the sheet so
+--   Responds answers      ==  this answers as the request's contract says
+--   ReadersTurnedAway, RespondersTurnedAway  ==  none of the wrong ones is such; with their proofs
+use Prim.Native.Nat.{ℕ}
+use mathlib.Core.Path.{_≡_, refl, sym, ap, _∙_}
+use mathlib.Core.List.{List, [], _∷_}
+use lib.ListN.{length}
+use native.Mathlib.Omega.{arith}
+use Rattle.ground.specs.Numbers.{byte}
+use Rattle.setting.specs.Setting.{fitsOf, legalOf, wholeSteps, onGrid, availableOf, nearer, closestHeight, closestSetting, closestTo}
+use Rattle.table.specs.declared.Table.{Table}
+use Rattle.table.specs.Controls.{senseOf, answersTo}
+use Rattle.table.specs.First.{firstFrom, foundIn, unitIn}
+use Rattle.table.specs.Sound.{narrowOf, soundYesNo, soundPin, soundRanged, soundBy, soundControl, firstThere, soundPlace, soundOf}
+use Rattle.request.specs.Outcome.{Outcome, numberOf, bytesOf, tableAfter, lowFirst}
+use Rattle.request.specs.Request.{getAsked, askedBy, askedOf, placeOf, addressedIn, lacking, unready, valueIn, settledBetween, settledOf, setTo, setBy, getBy, setFrom, getFrom, answerAsked, requestOf}
+use Rattle.runs.proofs.Case.{caseTable}
+use Rattle.topology.specs.declared.Reading.{Reading}
+use Rattle.topology.specs.Reading.{readingOf, sheetOf}
+use Rattle.demands.specs.Cases.{caseA, caseB, lent, printed-a, answer-b}
+use Rattle.demands.specs.Configuration.{Configuration}
+use Rattle.demands.specs.Demand3.{accepted}
+
+-- case A is a configuration: there is one
+pub case-a : Configuration caseA
+case-a = accepted caseA lent (omega arith) .0 (ap (λ (r : Reading). r .number) (printed-a .answer))
+
+module _ (answers : List ℕ → List ℕ → Reading) (leaves : List ℕ → List ℕ → List ℕ) where
+  pub record Reads : Type 0 where
+    pub answer : (s d : List ℕ) → answers s d ≡ readingOf s (length d)
+    pub sheet : (s d : List ℕ) → leaves s d ≡ sheetOf s d
+
+  pub record ReadersTurnedAway : Type 0 where
+    pub refuses-everything : ((s d : List ℕ) → answers s d .number ≡ 0 → ⊥) → ⊥
+    pub single-sheet : (one : List ℕ) → ((s : List ℕ) → answers s lent .number ≡ 0 → leaves s lent ≡ one) → ⊥
+    pub writes-none : ((s d : List ℕ) → answers s d .number ≡ 0 → leaves s d ≡ d) → ⊥
+    pub fixed-entities : (n : ℕ) → ((s : List ℕ) → answers s lent .number ≡ 0 → answers s lent .entities ≡ n) → ⊥
+    pub fixed-controls : (n : ℕ) → ((s : List ℕ) → answers s lent .number ≡ 0 → answers s lent .controls ≡ n) → ⊥
+
+  pub readers-turned-away : Reads → ReadersTurnedAway
+  readers-turned-away r = record {
+    refuses-everything = λ h. h caseA lent (ap (λ (x : Reading). x .number) a);
+    single-sheet = λ one h.
+        let x : 0 ≡ byte one 48 = sym (ap (λ (l : List ℕ). byte l 48) (printed-a .sheet)) ∙ ap (λ (l : List ℕ). byte l 48) (sym (r .sheet caseA lent) ∙ h caseA (ap (λ (x : Reading). x .number) a)) in
+        let y : 4 ≡ byte one 48 = sym (answer-b .fourth) ∙ ap (λ (l : List ℕ). byte l 48) (sym (r .sheet caseB lent) ∙ h caseB b) in
+        omega arith;
+    writes-none = λ h.
+        let x : 1 ≡ byte lent 0 = sym (ap (λ (l : List ℕ). byte l 0) (printed-a .sheet)) ∙ ap (λ (l : List ℕ). byte l 0) (sym (r .sheet caseA lent) ∙ h caseA lent (ap (λ (x : Reading). x .number) a)) in
+        omega arith;
+    fixed-entities = λ n h.
+        let x : 3 ≡ n = sym (ap (λ (x : Reading). x .entities) a) ∙ h caseA (ap (λ (x : Reading). x .number) a) in
+        let y : 4 ≡ n = sym (ap (λ (x : Reading). x .entities) (r .answer caseB lent) ∙ answer-b .entities) ∙ h caseB b in
+        omega arith;
+    fixed-controls = λ n h.
+        let x : 2 ≡ n = sym (ap (λ (x : Reading). x .controls) a) ∙ h caseA (ap (λ (x : Reading). x .number) a) in
+        let y : 3 ≡ n = sym (ap (λ (x : Reading). x .controls) (r .answer caseB lent) ∙ answer-b .controls) ∙ h caseB b in
+        omega arith;
+  }
+    where
+      a : answers caseA lent ≡ record { number = 0; place = 0; control = 0; entities = 3; controls = 2; table = caseTable }
+      a = r .answer caseA lent ∙ printed-a .answer
+
+      b : answers caseB lent .number ≡ 0
+      b = ap (λ (x : Reading). x .number) (r .answer caseB lent) ∙ answer-b .accepted
+
+-- mute of case A's Feature Unit, on the master channel: a Get of CUR, a Set to the byte
+abbrev getMute : List ℕ
+getMute = 0xA1 ∷ 0x81 ∷ 0 ∷ 1 ∷ 0 ∷ 2 ∷ 1 ∷ 0 ∷ []
+
+abbrev setMute : List ℕ
+setMute = 0x21 ∷ 0x01 ∷ 0 ∷ 1 ∷ 0 ∷ 2 ∷ 1 ∷ 0 ∷ []
+
+abbrev muted : Table → ℕ → Table
+muted t x = tableAfter t (requestOf t 0 setMute (x ∷ []) 0)
+
+record Mutes : Type 0 where
+  answered : numberOf (requestOf caseTable 0 getMute [] 1) ≡ 0
+  one-set : bytesOf (requestOf (muted caseTable 1) 0 getMute [] 1) ≡ 1 ∷ []
+  acknowledged : numberOf (requestOf (muted caseTable 1) 0 setMute (0 ∷ []) 0) ≡ 0
+  two-sets : bytesOf (requestOf (muted (muted caseTable 1) 0) 0 getMute [] 1) ≡ 0 ∷ []
+
+mutes : Mutes
+unfolding requestOf answerAsked askedOf askedBy getAsked addressedIn placeOf setFrom getFrom setBy getBy setTo settledOf settledBetween valueIn unready lacking lowFirst soundOf soundPlace firstThere soundControl soundBy soundYesNo soundPin soundRanged narrowOf foundIn unitIn firstFrom senseOf answersTo fitsOf legalOf availableOf onGrid wholeSteps nearer closestHeight closestSetting closestTo
+mutes = record { answered = refl; one-set = refl; acknowledged = refl; two-sets = refl }
+
+module _ (answers : Table → ℕ → List ℕ → List ℕ → ℕ → Outcome) where
+  abbrev pub Responds : Type 0
+  Responds = (t : Table) (n : ℕ) (setup «data» : List ℕ) (room : ℕ) → answers t n setup «data» room ≡ requestOf t n setup «data» room
+
+  abbrev next : Table → ℕ → Table
+  next t x = tableAfter t (answers t 0 setMute (x ∷ []) 0)
+
+  pub record RespondersTurnedAway : Type 0 where
+    pub stalls-always : ((t : Table) (n : ℕ) (setup «data» : List ℕ) (room : ℕ) → numberOf (answers t n setup «data» room) ≡ 0 → ⊥) → ⊥
+    pub answers-zero : ((t : Table) (n : ℕ) (setup «data» : List ℕ) (room i : ℕ) → byte (bytesOf (answers t n setup «data» room)) i ≡ 0) → ⊥
+    pub stores-first : ((t : Table) (x y : ℕ) → bytesOf (answers (next (next t x) y) 0 getMute [] 1) ≡ bytesOf (answers (next t x) 0 getMute [] 1)) → ⊥
+
+  pub responders-turned-away : Responds → RespondersTurnedAway
+  responders-turned-away r = record {
+    stalls-always = λ h. h caseTable 0 getMute [] 1 (ap numberOf (r caseTable 0 getMute [] 1) ∙ mutes .answered);
+    answers-zero = λ h.
+        let x : _≡_ {A = ℕ} 1 0 = sym (ap (λ (l : List ℕ). byte l 0) (ap bytesOf (r (muted caseTable 1) 0 getMute [] 1) ∙ mutes .one-set)) ∙ h (muted caseTable 1) 0 getMute [] 1 0 in
+        omega arith;
+    stores-first = λ h.
+        let x : _≡_ {A = ℕ} 0 1 = ap (λ (l : List ℕ). byte l 0) (sym (second ∙ mutes .two-sets) ∙ h caseTable 1 0 ∙ (first ∙ mutes .one-set)) in
+        omega arith;
+  }
+    where
+      same : (t : Table) (x : ℕ) → next t x ≡ muted t x
+      same t x = ap (tableAfter t) (r t 0 setMute (x ∷ []) 0)
+
+      first : bytesOf (answers (next caseTable 1) 0 getMute [] 1) ≡ bytesOf (requestOf (muted caseTable 1) 0 getMute [] 1)
+      first = ap bytesOf (r (next caseTable 1) 0 getMute [] 1) ∙ ap (λ (t : Table). bytesOf (requestOf t 0 getMute [] 1)) (same caseTable 1)
+
+      second : bytesOf (answers (next (next caseTable 1) 0) 0 getMute [] 1) ≡ bytesOf (requestOf (muted (muted caseTable 1) 0) 0 getMute [] 1)
+      second =
+          ap bytesOf (r (next (next caseTable 1) 0) 0 getMute [] 1)
+          ∙ ap (λ (t : Table). bytesOf (requestOf t 0 getMute [] 1)) (same (next caseTable 1) 0 ∙ ap (λ (t : Table). muted t 0) (same caseTable 1))
