@@ -3,7 +3,8 @@
 // the layer above: each function answers, for every run whatever, as the definitions of specs/ say.
 ghost use mathlib.Core.Path.{_≡_};
 ghost use mathlib.Core.Bool.{false};
-ghost use lib.ListN.{getD, take};
+ghost use Prim.Native.Nat.{_<_};
+ghost use lib.ListN.{getD, set, take};
 ghost use Rattle.graph.specs.Rounds.{settlingRound, settlingRounds};
 ghost use Rattle.entities.specs.Run.{mostEntities};
 ghost use Rattle.sources.specs.Held.{linked, linkedTo};
@@ -51,6 +52,17 @@ fn link_settled(now: [bool; 32], link: Link) -> bool
     all_settled(now, places, link.pins as usize)
 }
 
+// The next round with one place more: an entity is settled where its sources were all settled before the round.
+fn settle(links: [Link; 32], now: [bool; 32], next: [bool; 32], i: usize) -> [bool; 32]
+    requires { ⌜ i < mostEntities ⌝ }
+    ensures { λ r. ⌜ r ≡ set next i (allSettled now (linkedTo links i)) ⌝ }
+{
+    let link = links[i];
+    let mut more = next;
+    more[i] = link_settled(now, link);
+    more
+}
+
 // One round.
 fn round(links: [Link; 32], now: [bool; 32]) -> [bool; 32]
     ensures { λ r. ⌜ r ≡ settlingRound mostEntities (linkedTo links) now ⌝ }
@@ -58,8 +70,8 @@ fn round(links: [Link; 32], now: [bool; 32]) -> [bool; 32]
     let mut next = [false; 32];
     let mut i: usize = 0;
     while i < MOST_ENTITIES {
-        let link = links[i];
-        next[i] = link_settled(now, link);
+        let more = settle(links, now, next, i);
+        next = more;
         i += 1;
     }
     next
