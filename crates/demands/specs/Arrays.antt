@@ -36,6 +36,7 @@ use Rattle.layout.specs.Layout.{entityOf}
 use Rattle.records.specs.Records.{recordSize, roomFor}
 use Rattle.demands.specs.Surveyed.{placeOfRun, entitiesOf, run-stands, run-cut}
 use Rattle.demands.specs.Configuration.{Connected, clustersBy, Rule16}
+use Rattle.demands.specs.Sensible.{sensible}
 
 pub clusters-long : (run : Run) → length (clustersOf audio run) ≡ mostEntities
 unfolding clustersOf
@@ -46,8 +47,8 @@ clusters-shown run c =
     let l = clusters-long run in
     sym (map-id (take (held run) (clustersOf audio run)))
     ∙ sym (named-list (λ (x : Cluster). x) noCluster (clustersOf audio run) (held run) (omega arith))
-    ∙ map-same (λ i. getD (clustersOf audio run) i noCluster) (λ i. c .topology .cluster (idAt run i)) (below (held run)) (λ i m. sym (settled-topology audio run (c .rule10) (c .rule11) .held-by-array (c .topology) i (below-lt m)))
-    ∙ sym (map-map (c .topology .cluster) (idAt run) (below (held run)))
+    ∙ map-same (λ i. getD (clustersOf audio run) i noCluster) (λ i. c .cluster (idAt run i)) (below (held run)) (λ i m. sym (settled-topology audio run (c .rule10) (c .rule11) .held-by-array (sensible run c) i (below-lt m)))
+    ∙ sym (map-map (c .cluster) (idAt run) (below (held run)))
 
 -- clusters past the last entity are not looked at
 terminals-cut : (ns : List Node) (cs : List Cluster) → terminalsIn ns cs ≡ terminalsIn ns (take (length ns) cs)

@@ -43,6 +43,7 @@ use Rattle.topology.specs.declared.Reading.{Reading}
 use Rattle.topology.specs.Reading.{readingOf}
 use Rattle.demands.specs.Surveyed.{placeOfRun, entitiesOf}
 use Rattle.demands.specs.Configuration.{Connected, Configuration, Rule16}
+use Rattle.demands.specs.Sensible.{sensible}
 use Rattle.demands.specs.Arrays.{held-all}
 use Rattle.demands.specs.Refusals.{Shown}
 use Rattle.demands.specs.Demand3.{run, clusters, controls, cluster-shows, answer-shows}
@@ -65,16 +66,17 @@ few-first (b ∷ l) cluster h = h b (List·Memᴰ·head refl)
 
 module _ (r : Run) (c : Connected r) where
   -- along the ranks: a source's is lower than its user's
-  few-below : (n a : ℕ) → a ∈ idsOf r → c .topology .rank a < n → c .topology .cluster a .channels ≤ mostChannels
+  few-below : (n a : ℕ) → a ∈ idsOf r → c .rank a < n → c .cluster a .channels ≤ mostChannels
   few-below zero a m l = absurd (omega arith)
   few-below (suc n) a m l =
-      subst (λ (k : Cluster). k .channels ≤ mostChannels) (sym (c .topology .made a m))
-      (few-out (entityById r a) (entering (sourcesById r) (c .topology .cluster) a) (c .topology .kept a m)
-      (few-first (sourcesById r a) (c .topology .cluster)
-      (λ b i. few-below n b (closed-ids r (c .rule10) (c .rule11) a m b i) (let q = c .topology .ranked a m b i in omega arith))))
+      let v = sensible r c in
+      subst (λ (k : Cluster). k .channels ≤ mostChannels) (sym (v .made a m))
+      (few-out (entityById r a) (entering (sourcesById r) (c .cluster) a) (v .kept a m)
+      (few-first (sourcesById r a) (c .cluster)
+      (λ b i. few-below n b (closed-ids r (c .rule10) (c .rule11) a m b i) (let q = v .ranked a m b i in omega arith))))
 
-  pub few-channels : (a : ℕ) → a ∈ idsOf r → c .topology .cluster a .channels ≤ mostChannels
-  few-channels a m = few-below (suc (c .topology .rank a)) a m (omega arith)
+  pub few-channels : (a : ℕ) → a ∈ idsOf r → c .cluster a .channels ≤ mostChannels
+  few-channels a m = few-below (suc (c .rank a)) a m (omega arith)
 
 configuration-table : (s : List ℕ) (t : Configuration s) → Sound (tableOf (controls s t))
 configuration-table s t =

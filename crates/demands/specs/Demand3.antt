@@ -7,14 +7,15 @@
 --   answer-shows    ==  the whole answer: the AudioControl number, the count of entities, the controls
 --   sheet-shows     ==  the sheet: the entities' records with those clusters, then the lent bytes as they stood
 --   record-shows    ==  .. of which the 16 bytes at 16·i are the record of the i-th entity with its cluster
---   entity-shows, id-shows, cluster-shows  ==  .. which is what the i-th descriptor of the run says, with the ID at its byte 3
+--   entity-shows, id-shows, sources-show, cluster-shows  ==  .. which is what the i-th descriptor of the run says: its kind and
+--                       place, the ID at its byte 3, its sources, and the cluster on that ID
 --   controls-stand, controls-order  ==  a control is in the table exactly where an entity carries it; and the table's order
 use Prim.Native.Nat.{ℕ, zero, suc, _+_, _*_, _≤_, _<_}
 use mathlib.Core.Path.{_≡_, refl, sym, ap, _∙_, subst}
 use mathlib.Core.List.{List, [], _∷_, _++_, append-assoc, List·Memᴰ}
 use mathlib.Core.Logic.{_⊎_, inl, inr, ⊎-elim, _↔_}
 use lib.ListN.{length, getD, take, drop, length-append}
-use lib.Seq.{getD-take, take-at, drop-at}
+use lib.Seq.{getD-take, take-at, drop-at, take-append-seam}
 use lib.Dec.{eqb, ltb}
 use native.Mathlib.Omega.{arith}
 use native.Mathlib.Nat.{add-zero, add-assoc, le-of-suc-le-suc}
@@ -26,7 +27,7 @@ use Rattle.ground.specs.Lists.{total, pad-at}
 use Rattle.layout.specs.declared.Cluster.{Cluster}
 use Rattle.layout.specs.Layout.{entityOf, idOf}
 use Rattle.layout.specs.LayoutLaws.{id-told}
-use Rattle.layout.specs.Sources.{sourceList, sourcesIn, sourcesOf}
+use Rattle.layout.specs.Sources.{sourceList, padded, sourcesIn, sourcesOf}
 use Rattle.layout.specs.SourcesLaws.{padded-length, sources-few}
 use Rattle.entities.specs.declared.Node.{Node}
 use Rattle.entities.specs.declared.Run.{Run}
@@ -35,7 +36,7 @@ use Rattle.cutting.specs.declared.Survey.{Survey}
 use Rattle.cutting.specs.Survey.{surveyOf}
 use Rattle.cutting.specs.Exact.{kept-cutting}
 use Rattle.graph.specs.Members.{_∈_}
-use Rattle.sources.specs.Held.{nodeAt, idAt}
+use Rattle.sources.specs.Held.{nodeAt, idAt, sourceIds, sourcesAt}
 use Rattle.sources.specs.Lookup.{idsOf}
 use Rattle.clusters.specs.Edition.{clustersOf}
 use Rattle.clusters.specs.Audio.{audio}
@@ -50,6 +51,7 @@ use Rattle.topology.specs.declared.Reading.{Reading}
 use Rattle.topology.specs.Reading.{clustersAt, verdictOf, refusedReading, takenReading, readingOf, sheetOf}
 use Rattle.demands.specs.Surveyed.{placeOfRun, entitiesOf, keptSurvey, survey-kept}
 use Rattle.demands.specs.Configuration.{Connected, clustersBy, Configuration, Rule16}
+use Rattle.demands.specs.Sensible.{sensible}
 use Rattle.demands.specs.Arrays.{held-all, reads-room, clusters-run, controls-same}
 use Rattle.demands.specs.Refusals.{accepted-exactly}
 
@@ -83,10 +85,10 @@ module _ (s : List ℕ) where
   pub one-run : (t u : Configuration s) → entitiesOf (t .kept) ≡ entitiesOf (u .kept)
   one-run t u = ap (λ (v : Survey). v .run) (sym (survey-kept s (t .kept)) ∙ survey-kept s (u .kept))
 
-  pub one-clusters : (t u : Configuration s) (a : ℕ) → a ∈ idsOf (entitiesOf (t .kept)) → t .connected .topology .cluster a ≡ u .connected .topology .cluster a
+  pub one-clusters : (t u : Configuration s) (a : ℕ) → a ∈ idsOf (entitiesOf (t .kept)) → t .connected .cluster a ≡ u .connected .cluster a
   one-clusters t u =
-      subst (λ (r : Run). (c : Connected r) (a : ℕ) → a ∈ idsOf (entitiesOf (t .kept)) → t .connected .topology .cluster a ≡ c .topology .cluster a) (one-run t u)
-      (λ c a m. settled-topology audio (entitiesOf (t .kept)) (t .connected .rule10) (t .connected .rule11) .unique (t .connected .topology) (c .topology) a m)
+      subst (λ (r : Run). (c : Connected r) (a : ℕ) → a ∈ idsOf (entitiesOf (t .kept)) → t .connected .cluster a ≡ c .cluster a) (one-run t u)
+      (λ c a m. settled-topology audio (entitiesOf (t .kept)) (t .connected .rule10) (t .connected .rule11) .unique (sensible (entitiesOf (t .kept)) (t .connected)) (sensible (entitiesOf (t .kept)) c) a m)
       (u .connected)
 
 -- what stands at a place of the run
@@ -171,12 +173,17 @@ module _ (s : List ℕ) (t : Configuration s) where
   unfolding nodeOf
   id-shows i h = ap (λ (n : Node). idOf (n .entity)) (entity-shows i h) ∙ id-told (getD run i []) (t .kept .rule9 (getD run i []) (member-at [] run i h))
 
-  pub cluster-shows : (i : ℕ) → i < length run → getD clusters i blankCluster ≡ t .connected .topology .cluster (idAt entities i)
+  pub sources-show : (i : ℕ) → i < length run → sourcesAt entities i ≡ sourceList (entityOf (getD run i [])) (getD run i [])
+  unfolding nodeOf sourcesOf sourcesIn padded
+  sources-show i h =
+      ap (λ (n : Node). sourceIds (n .sources)) (entity-shows i h) ∙ take-append-seam (sourceList (entityOf (getD run i [])) (getD run i [])) _
+
+  pub cluster-shows : (i : ℕ) → i < length run → getD clusters i blankCluster ≡ t .connected .cluster (idAt entities i)
   cluster-shows i h =
       let e = held-all s (t .kept) in
       ap (λ (l : List Cluster). getD l i blankCluster) (sym (clusters-run s (t .kept) (t .connected)))
       ∙ getD-take (length run) (clustersOf audio entities) i blankCluster h
-      ∙ sym (settled-topology audio entities (t .connected .rule10) (t .connected .rule11) .held-by-array (t .connected .topology) i (omega arith))
+      ∙ sym (settled-topology audio entities (t .connected .rule10) (t .connected .rule11) .held-by-array (sensible entities (t .connected)) i (omega arith))
 
   record-sixteen : (i : ℕ) → i < length run → (c : Cluster) → length (recordOf (nodeAt entities i) c) ≡ recordSize
   record-sixteen i h c = ap (λ (n : Node). length (recordOf n c)) (entity-shows i h) ∙ record-long (placeOfRun (t .kept) + total (take i run)) (getD run i []) c
@@ -207,9 +214,9 @@ module _ (s : List ℕ) (t : Configuration s) where
       go (inr n) ih = ap (λ (l : List ℕ). take recordSize (drop (i * recordSize) l)) joined ∙ ih (below-last i m l n) (recordOf (nodeAt entities m) (getD clusters m blankCluster) ++ y)
 
   pub record-shows : (d : List ℕ) → Rule16 run (length d) → (i : ℕ) → i < length run
-      → take recordSize (drop (i * recordSize) (sheetOf s d)) ≡ recordOf (nodeOf (placeOfRun (t .kept) + total (take i run)) (getD run i [])) (t .connected .topology .cluster (byte (getD run i []) 3))
+      → take recordSize (drop (i * recordSize) (sheetOf s d)) ≡ recordOf (nodeOf (placeOfRun (t .kept) + total (take i run)) (getD run i [])) (t .connected .cluster (byte (getD run i []) 3))
   record-shows d h i l =
       ap (λ (x : List ℕ). take recordSize (drop (i * recordSize) x)) (sheet-shows d h)
       ∙ record-in (length run) (omega arith) i l (drop (length run * recordSize) d)
       ∙ ap (λ (n : Node). recordOf n (getD clusters i blankCluster)) (entity-shows i l)
-      ∙ ap (recordOf (nodeOf (placeOfRun (t .kept) + total (take i run)) (getD run i []))) (cluster-shows i l ∙ ap (t .connected .topology .cluster) (id-shows i l))
+      ∙ ap (recordOf (nodeOf (placeOfRun (t .kept) + total (take i run)) (getD run i []))) (cluster-shows i l ∙ ap (t .connected .cluster) (id-shows i l))

@@ -1,6 +1,7 @@
 pub mod Cases
 pub mod Surveyed
 pub mod Configuration
+pub mod Sensible
 pub mod Arrays
 pub mod Refusals
 pub mod Demand3

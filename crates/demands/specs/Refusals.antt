@@ -39,6 +39,7 @@ use Rattle.records.specs.Records.{roomFor}
 use Rattle.topology.specs.Reading.{restJudged, runJudged, surveyJudged, verdictOf}
 use Rattle.demands.specs.Surveyed.{entitiesOf, survey-kept}
 use Rattle.demands.specs.Configuration.{Connected, clustersBy, Streams, FewControls, Configuration, Rule16}
+use Rattle.demands.specs.Sensible.{sensible, connected}
 use Rattle.demands.specs.Arrays.{reads-room, terminals-same, controls-same, one-terminal}
 
 pub data Refused (s : List ℕ) (room : ℕ) : ℕ → ℕ → Type 0 where
@@ -86,7 +87,7 @@ module _ (s : List ℕ) (room : ℕ) where
 
   connected-kept : (k : Kept s) (c : Connected (entitiesOf k)) → Judgement (entitiesOf k) (rest k) (rest k)
   connected-kept k c =
-      let p = sensible-parts audio (entitiesOf k) (c .rule10) (c .rule11) .0 (c .topology) in
+      let p = sensible-parts audio (entitiesOf k) (c .rule10) (c .rule11) .0 (sensible (entitiesOf k) c) in
       kept (c .rule10) (c .rule11) (p .0) (p .1)
 
   module _ (k : Kept s) (c : Connected (entitiesOf k)) where
@@ -174,7 +175,7 @@ module _ (s : List ℕ) (room : ℕ) where
       of (wrong-source {q} a f) = inr (11, q, by11 k a f)
       of (no-rank {q} a b f) = inr (12, q, by12 k a b f)
       of (wrong-cluster {q} a b c f) = inr (13, q, by13 k a b c f)
-      of (kept a b c d) = outcome-rest k (record { rule10 = a; rule11 = b; topology = sensible-parts audio (entitiesOf k) a b .1 (c, d) })
+      of (kept a b c d) = outcome-rest k (connected (entitiesOf k) a b (sensible-parts audio (entitiesOf k) a b .1 (c, d)))
 
   outcome : Outcome
   unfolding verdict
