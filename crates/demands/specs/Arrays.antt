@@ -3,13 +3,12 @@
 --   clusters-shown  ==  the array's places of the run hold those clusters, in the entities' order
 --   terminals-same, controls-same  ==  the Terminals and the controls that the reader has are those with these clusters
 --   reads-room      ==  the test of room decides rule 16
-use Prim.Native.Nat.{ℕ, zero, suc, _*_, _≤_, _<_}
+use Prim.Native.Nat.{ℕ, _*_, _≤_}
 use mathlib.Core.Path.{_≡_, refl, sym, ap, _∙_}
-use mathlib.Core.List.{List, [], _∷_, _++_, map, map-map, map-id}
+use mathlib.Core.List.{List, [], _∷_, _++_, map-map, map-id}
 use lib.ListN.{length, take, getD}
-use lib.Dec.{leb}
 use native.Mathlib.Omega.{arith}
-use Rattle.ground.specs.Pick.{Reads, reads-le, reads-same}
+use Rattle.ground.specs.Pick.{Reads, reads-le}
 use Rattle.ground.specs.Lists.{pad-length}
 use Rattle.layout.specs.declared.Cluster.{Cluster}
 use Rattle.entities.specs.declared.Node.{Node}
@@ -19,12 +18,11 @@ use Rattle.entities.specs.RunLaws.{nodes-length}
 use Rattle.cutting.specs.Rules.{Kept}
 use Rattle.graph.specs.Members.{map-same}
 use Rattle.graph.specs.Tables.{below, below-lt}
-use Rattle.graph.specs.Places.{named, named-list}
+use Rattle.graph.specs.Places.{named-list}
 use Rattle.graph.specs.Rounds.{length-roundsOf}
-use Rattle.sources.specs.Held.{held, idAt, linkedTo}
-use Rattle.sources.specs.Lookup.{linksOf, idsOf}
+use Rattle.sources.specs.Held.{held, idAt}
 use Rattle.ranks.specs.Rules.{mostSteps}
-use Rattle.clusters.specs.Edition.{noCluster, ruleAt, clustersOf}
+use Rattle.clusters.specs.Edition.{noCluster, clustersOf}
 use Rattle.clusters.specs.Audio.{audio}
 use Rattle.clusters.specs.Topology.{settled-topology}
 use Rattle.streaming.specs.Terminals.{Terminal, OneEach, terminalOf, terminalsIn, terminalsOf}

@@ -10,7 +10,7 @@
 use Prim.Native.Nat.{ℕ}
 use mathlib.Core.Path.{_≡_, refl}
 use mathlib.Core.Bool.{true, false}
-use mathlib.Core.List.{List, [], _∷_, _++_, map}
+use mathlib.Core.List.{List, [], _∷_, map}
 use lib.ListN.{take, set, replicate}
 use lib.Count.{ones, onesIn}
 use Rattle.ground.specs.Numbers.{byte}

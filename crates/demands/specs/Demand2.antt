@@ -8,7 +8,7 @@
 --                      last accepted load and Set made it; the next step changes the addressed control alone
 --   reader-runs    ==  so it is from every table that the reader answers
 use Prim.Native.Nat.{ℕ, zero, suc, _≤_, _<_, zero-le}
-use mathlib.Core.Path.{_≡_, refl, sym, ap, _∙_, subst}
+use mathlib.Core.Path.{_≡_, refl, sym, ap, subst}
 use mathlib.Core.List.{List, [], _∷_, map, List·Memᴰ·head}
 use mathlib.Core.Logic.{_⊎_, inl, inr}
 use lib.ListN.{length}
@@ -42,7 +42,7 @@ use Rattle.runs.proofs.Moved.{Moved, whole-run}
 use Rattle.topology.specs.declared.Reading.{Reading}
 use Rattle.topology.specs.Reading.{readingOf}
 use Rattle.demands.specs.Surveyed.{placeOfRun, entitiesOf}
-use Rattle.demands.specs.Configuration.{Connected, Configuration, Rule16}
+use Rattle.demands.specs.Configuration.{Connected, Configuration}
 use Rattle.demands.specs.Sensible.{sensible}
 use Rattle.demands.specs.Arrays.{held-all}
 use Rattle.demands.specs.Refusals.{Shown}

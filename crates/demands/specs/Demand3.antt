@@ -20,7 +20,6 @@ use lib.Dec.{eqb, ltb}
 use native.Mathlib.Omega.{arith}
 use native.Mathlib.Nat.{add-zero, add-assoc, le-of-suc-le-suc}
 use borrow.Author.Tests.{eq-eqb, ne-eqb}
-use Rattle.ground.specs.declared.Refusal.{Refusal}
 use Rattle.ground.specs.Pick.{yes, no, decided, reads-eq, reads-lt, shows}
 use Rattle.ground.specs.Numbers.{byte}
 use Rattle.ground.specs.Lists.{total, pad-at}

@@ -23,16 +23,15 @@ use Rattle.cutting.specs.Verdict.{verdict-chain}
 use Rattle.cutting.specs.Exact.{verdict-kept, verdict-refused}
 use Rattle.sources.specs.Rules.{WrongId, Rule10, WrongSources, Rule11}
 use Rattle.ranks.specs.Rules.{Endless, Rule12}
-use Rattle.clusters.specs.Edition.{Broken, Rule13, clustersOf}
+use Rattle.clusters.specs.Edition.{Broken, clustersOf}
 use Rattle.clusters.specs.Audio.{audio}
 use Rattle.clusters.specs.Topology.{sensible-parts}
 use Rattle.connections.specs.Judgement.{judged, First, Judgement, wrong-id, wrong-source, no-rank, wrong-cluster, kept, judged-told, told-judged}
-use Rattle.streaming.specs.Terminals.{Terminal, terminalsOf}
+use Rattle.streaming.specs.Terminals.{terminalsOf}
 use Rattle.streaming.specs.Tests.{breach14}
 use Rattle.streaming.specs.Rule.{Breaks14}
 use Rattle.streaming.specs.Breaches.{rule14-kept, rule14-broken}
-use Rattle.table.specs.declared.Control.{Control}
-use Rattle.controls.specs.Controls.{controlsOf, controlsOfRun, breach15}
+use Rattle.controls.specs.Controls.{controlsOfRun, breach15}
 use Rattle.controls.specs.Growth.{tableOf}
 use Rattle.controls.specs.Reader.{rule15-kept, rule15-broken}
 use Rattle.records.specs.Records.{roomFor}
@@ -91,9 +90,6 @@ module _ (s : List ℕ) (room : ℕ) where
       kept (c .rule10) (c .rule11) (p .0) (p .1)
 
   module _ (k : Kept s) (c : Connected (entitiesOf k)) where
-    ts : List Terminal
-    ts = terminalsOf (entitiesOf k) (clustersBy (entitiesOf k) c)
-
     abbrev found14 : Place
     found14 = breach14 (terminalsOf (entitiesOf k) (clustersOf audio (entitiesOf k))) s
 

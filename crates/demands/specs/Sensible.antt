@@ -6,7 +6,7 @@ use mathlib.Core.List.{map}
 use Rattle.entities.specs.declared.Run.{Run}
 use Rattle.graph.specs.Members.{_∈_}
 use Rattle.graph.specs.Clusters.{entering}
-use Rattle.sources.specs.Held.{held, entityAt, idAt, sourcesAt}
+use Rattle.sources.specs.Held.{entityAt, idAt, sourcesAt}
 use Rattle.sources.specs.Lookup.{sourcesById}
 use Rattle.sources.specs.Rules.{Rule10, Rule11}
 use Rattle.sources.specs.GraphLaws.{lookup-own, id-in, in-ids}

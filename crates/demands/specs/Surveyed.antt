@@ -2,13 +2,14 @@
 -- cutting, the header and the run that keep them.
 --   entitiesOf k   ==  the entities of the run, as the reader hands them on
 --   placeOfRun k   ==  where the run begins: behind the header
+--   surveyWith, keptSurvey k  ==  a survey that refuses nothing; the one of that control, header and run
 --   survey-kept    ==  the survey is that control's number, that header's place and those entities
 --   run-stands     ==  from that place on the configuration's bytes are those of the run, then those of the descriptors behind it
 --   run-cut        ==  each of the run is one of the cutting's descriptors
-use Prim.Native.Nat.{ℕ, _+_, _≤_}
+use Prim.Native.Nat.{ℕ, _+_}
 use mathlib.Core.Path.{_≡_, refl, sym, ap, _∙_}
 use mathlib.Core.List.{List, [], _∷_, _++_, flatten, List·Memᴰ, List·Memᴰ·tail, Memᴰ·append-left, Memᴰ·append-right}
-use lib.ListN.{length, drop, getD, List·getD-append}
+use lib.ListN.{length, drop, List·getD-append}
 use lib.Seq.{getD-append-add, drop-append-seam}
 use native.Mathlib.Omega.{arith}
 use borrow.Author.Tests.{eq-eqb}
