@@ -1,9 +1,16 @@
 -- What the reader computes for the rules 8 and 9, the verdict of all nine, and the survey that the layer above stands on.
---   runOf s f     ==  the run's descriptors, the entities; f is where the AudioControl group's parts stand
---   breach8, 9    ==  where rule 8, 9 is broken first
---   verdict s     ==  the lowest number of 1 to 9 that applies, with its place; 0 and 0 where none does
---   verdictThen s r ==  the same, with r where none applies
---   surveyOf s    ==  the verdict; where nothing is refused, the AudioControl number, the header's place and the entities
+--   runOf s f               ==  the run's descriptors, the entities; f is where the AudioControl group's parts stand
+--   breach8, breach9        ==  where rule 8, 9 is broken first
+--   runJudged s f r         ==  the lower number of 8 and 9 that applies, with its place; r where none does
+--   verdict s               ==  the lowest number of 1 to 9 that applies, with its place; 0 and 0 where none does
+--   verdictThen s r         ==  the same, with r where none applies
+--   refusedSurvey r         ==  the survey of what r refuses: interface number 0 and no entity
+--   surveyed s f            ==  the survey where nothing is refused: the AudioControl number, the header's place and the entities
+--   surveyOf s              ==  the survey of s: surveyed, or refused by the verdict
+-- In the order of the reader's steps:
+--   runRefused s from n h   ==  the refusal by rules 8 and 9 of a run of n descriptors from place from on, the header at h; s is the
+--                               configuration up to the run's end
+--   runSurvey s f           ==  the survey of a configuration s that keeps the rules 1 to 7
 use Prim.Native.Nat.{ℕ, _+_}
 use mathlib.Core.List.{List, []}
 use lib.ListN.{length, take}
@@ -39,14 +46,13 @@ verdictThen s r = judged s (runJudged s (frameOf s) r)
 unfoldable pub verdict : List ℕ → Refusal
 verdict s = verdictThen s none
 
--- a refusal answers interface number 0 and no entity
 unfoldable pub refusedSurvey : Refusal → Survey
 refusedSurvey r = record { refusal = r; control = 0; header = 0; run = runIn 0 [] }
 
 unfoldable pub surveyed : List ℕ → Frame → Survey
 surveyed s f = record { refusal = none; control = byte s (f .control + 2); header = f .header; run = runIn (f .run) (runOf s f) }
 
--- the same in the order of the reader's steps: rules 8 and 9 of a run in s that is count long, then the survey
+-- s is the configuration up to the run's end, so that a search in it stops with the run
 unfoldable pub runRefused : List ℕ → ℕ → ℕ → ℕ → Refusal
 runRefused s from count header = refuse 8 (keptAt (within 1 count mostEntities) header) (refuse 9 (searched (λ b d. isUnknown (entityOf d)) s from) none)
 

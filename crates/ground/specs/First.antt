@@ -1,6 +1,6 @@
 -- "First" is by place, an offset from the first byte (document 01). A rule on descriptors says what is wrong with one, given
 -- those that stand before it; what the reader computes is the place of the first that is wrong. The two are tied here, for any rule.
---   firstFrom t p b ds ==  the place of the first of ds that fails by the test t, where ds begin at place p behind the descriptors b
+--   firstFrom t p b ds ==  the place of the first of ds that the test t holds of, where ds begin at place p behind the descriptors b
 --   Breaks w p ds q    ==  q is the place of the first of ds that is wrong by w, where ds begin at place p
 --   Sound w ds         ==  none of ds is wrong by w
 --   isBefore r at      ==  a search answered a place before at

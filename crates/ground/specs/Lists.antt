@@ -1,8 +1,11 @@
 -- Words and laws on lists that the kit's libraries do not have.
 --   any t l    ==  some element of l passes the test t
+--   Some P l   ==  some element of l has the property P
 --   total ds   ==  the lengths of the parts ds together
 --   part s a e ==  the bytes of s from place a up to place e
 --   pad b n l  ==  n places: the elements of l, then b
+--   Stops P l  ==  l begins with no P: it is empty, or its first element is not P
+--   front-one  ==  a list has one longest front of P: the law by which two such splits are the same
 use Prim.Native.Nat.{ℕ, zero, suc, _+_, _-_, _≤_, _<_}
 use mathlib.Core.Path.{_≡_, refl, sym, ap, _∙_}
 use mathlib.Core.Bool.{Bool, true, false, _||_}
@@ -63,7 +66,6 @@ unfoldable pub any : {A : Type 0} → (A → Bool) → List A → Bool
 any t [] = false
 any t (x ∷ l) = t x || any t l
 
--- some element of l has the property P
 pub record Some {A : Type 0} (P : A → Type 0) (l : List A) : Type 0 where
   pub one : A
   pub among : List·Memᴰ one l
@@ -133,12 +135,10 @@ pad-front b zero (x ∷ l) h = absurd (omega arith)
 pad-front b (suc n) [] h = refl
 pad-front b (suc n) (x ∷ l) h = ap (λ r. x ∷ r) (pad-front b n l (le-of-suc-le-suc h))
 
--- a list that begins with no P: it is empty, or its first element is not P
 pub data Stops {A : Type 0} (P : A → Type 0) : List A → Type 0 where
   stop-end : Stops P []
   stop-at : {a : A} {l : List A} → (P a → ⊥) → Stops P (a ∷ l)
 
--- a list has one longest front of P
 pub front-one : {A : Type 0} (P : A → Type 0) (x y x′ y′ : List A) → x ++ y ≡ x′ ++ y′ → ((a : A) → List·Memᴰ a x → P a) → ((a : A) → List·Memᴰ a x′ → P a) → Stops P y → Stops P y′ → (x ≡ x′) × (y ≡ y′)
 front-one P [] y [] y′ e h h′ k k′ = (refl, e)
 front-one P [] y (a ∷ x′) y′ e h h′ k k′ = absurd (go k e)

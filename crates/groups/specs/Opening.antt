@@ -8,11 +8,8 @@ use native.Mathlib.Omega.{arith}
 use Rattle.ground.specs.Pick.{Reads, reads-same, reads-eq, reads-and}
 use Rattle.ground.specs.Numbers.{byte}
 use Rattle.scan.specs.CuttingLaws.{byte-inside}
-use Rattle.groups.specs.Rules.{Header}
+use Rattle.groups.specs.Rules.{Opening, Header}
 use Rattle.groups.specs.Reading.{opens, isHeader}
-
-abbrev pub Opening : List ℕ → Type 0
-Opening h = take 4 (drop 1 h) ≡ 0x24 ∷ 1 ∷ 0 ∷ 1 ∷ []
 
 abbrev FourBytes : List ℕ → Type 0
 FourBytes h = (byte h 1 ≡ 0x24) × ((byte h 2 ≡ 1) × ((byte h 3 ≡ 0) × (byte h 4 ≡ 1)))

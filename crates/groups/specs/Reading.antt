@@ -1,9 +1,21 @@
 -- What the reader computes for the rules 1 to 7: for each, nowhere or the place of the refusal (document 01's table).
 --   breach1 s .. breach7 s f  ==  where rule 1 .. 7 is broken first; f is the frame: where the AudioControl group's parts stand
+--   wrongInterface b i        ==  the test that i, behind the descriptors b, is an interface descriptor that refusal 4 names
+--   wrongAt s p i             ==  the same of i at place p of s, where two searches from the first byte on tell what stands before
 --   frameOf s                 ==  control: the AudioControl interface; header: 9 bytes behind it, where the header should stand;
 --                                 run: where the header ends; end: where the run of type 24 descriptors behind it ends
+--   frameFrom s c             ==  the frame, where the AudioControl interface stands at place c
+--   runEnd s p                ==  where the run of type 24 descriptors that begins at place p ends
 --   headerOf s f              ==  the descriptor that stands where the header should
+--   opens h                   ==  the test that bytes 1 to 4 of h are 24 01 00 01
+--   isHeader h                ==  the test that h opens so and is 8+n long, where byte 7 is n
+--   straysFrom s p            ==  the test that a type 24 descriptor stands in the group from place p on
 --   listedOf h                ==  the numbers that the header h lists
+--   isDistinct l              ==  the test that the numbers l are distinct
+--   allKnown ds l             ==  the test that each of l is the number of a streaming or MIDI group of ds
+--   unlisted l d              ==  the test that d is the interface descriptor of such a group, and its number is not among l
+--   collects s l              ==  the test that the listed numbers l keep rule 7
+--   groupJudged s f r         ==  the lowest number of 5 to 7 that applies, with its place; r where none does
 --   judged s r                ==  the lowest number of 1 to 7 that applies, with its place; r where none does
 use Prim.Native.Nat.{ℕ, _+_}
 use mathlib.Core.Bool.{Bool, true, false, not, _&&_, _||_}
@@ -38,7 +50,6 @@ wrongInterface earlier i =
     || (any (isSetting (byte i 2) (byte i 3)) earlier
     || (isAudio 1 i && (any (isAudio 1) earlier || not (eqb (byte i 3) 0)))))
 
--- the same, where what stands before is told by two searches from the first byte on
 unfoldable pub wrongAt : List ℕ → ℕ → List ℕ → Bool
 wrongAt s at i =
     isInterface i
@@ -75,7 +86,6 @@ isHeader h = opens h && eqb (length h) (8 + byte h 7)
 unfoldable pub breach5 : List ℕ → Frame → Place
 breach5 s f = keptAt (isHeader (headerOf s f)) (f .header)
 
--- whether a type 24 descriptor stands behind place e in the group
 unfoldable pub straysFrom : List ℕ → ℕ → Bool
 straysFrom s e = elim (foundFrom s e want.ClassOrInterface) [ Nowhere ↦ false | At q ↦ eqb (byte s (q + 1)) 0x24 ]
 
@@ -93,7 +103,6 @@ unfoldable pub allKnown : List (List ℕ) → List ℕ → Bool
 allKnown ds [] = true
 allKnown ds (k ∷ l) = any (isMember k) ds && allKnown ds l
 
--- the interface descriptor of a streaming or MIDI group whose number is not listed
 unfoldable pub unlisted : List ℕ → List ℕ → Bool
 unlisted listed d = (isAudio 2 d || isAudio 3 d) && not (any (eqb (byte d 2)) listed)
 

@@ -1,15 +1,18 @@
 -- The rules 1 to 7 of a configuration, as document 01 writes them: statements over the bytes s, over a cutting ds of them into
 -- descriptors, or over the stretch of the cutting that a rule speaks of. Nothing here searches.
+--   mostBytes          ==  the most bytes that a configuration may have: 4,096
 --   Rule1 s            ==  L is 9 to 4,096
 --   Rule2 s            ==  the bytes open with 09 02, and bytes 2..3 are L
 --   Rule3 s            ==  there is a cutting of s into descriptors
 --   WrongInterface b i ==  i, behind the descriptors b, is an interface descriptor that refusal 4 names
 --   Rule4 ds           ==  no interface descriptor is wrong, and there is an AudioControl one
---   Header h           ==  bytes 1 to 4 are 24 01 00 01, byte 7 is n, length 8+n
+--   Opening h          ==  bytes 1 to 4 are 24 01 00 01
+--   Header h           ==  h opens so, byte 7 is n, length 8+n
 --   Rule5 tail         ==  the descriptors tail behind the AudioControl interface begin with the header
+--   GroupEnds ds       ==  ds is empty, or begins with the interface descriptor that opens the next group
 --   Rule6 h others     ==  behind the header h: the run, then the group's other descriptors, none of type 24, then the next group;
 --                          bytes 5..6 are the length of header and run together
---   Rule7 ds h         ==  the listed numbers are distinct, each is that of a streaming or MIDI group, and each such group's is listed
+--   Rule7 ds l         ==  the listed numbers l are distinct, each is that of a streaming or MIDI group, and each such group's is listed
 use Prim.Native.Nat.{ℕ, _+_, _≤_}
 use mathlib.Core.Path.{_≡_}
 use mathlib.Core.List.{List, [], _∷_, _++_, List·Memᴰ}
@@ -21,7 +24,6 @@ use Rattle.ground.specs.First.{Sound}
 use Rattle.scan.specs.Cutting.{Cutting}
 use Rattle.scan.specs.Want.{Interface, Class, Audio, Setting, Member}
 
--- the most bytes that a configuration may have
 abbrev pub mostBytes : ℕ
 mostBytes = 4096
 
@@ -44,8 +46,11 @@ pub record Rule4 (ds : List (List ℕ)) : Type 0 where
   pub right : Sound WrongInterface ds
   pub control : Some (Audio 1) ds
 
+abbrev pub Opening : List ℕ → Type 0
+Opening h = take 4 (drop 1 h) ≡ 0x24 ∷ 1 ∷ 0 ∷ 1 ∷ []
+
 pub record Header (h : List ℕ) : Type 0 where
-  pub opening : take 4 (drop 1 h) ≡ 0x24 ∷ 1 ∷ 0 ∷ 1 ∷ []
+  pub opening : Opening h
   pub long : length h ≡ 8 + byte h 7
 
 pub record Rule5 (tail : List (List ℕ)) : Type 0 where
@@ -54,7 +59,6 @@ pub record Rule5 (tail : List (List ℕ)) : Type 0 where
   pub stands : tail ≡ header ∷ others
   pub right : Header header
 
--- a group ends where the next one opens, or with the configuration
 pub data GroupEnds : List (List ℕ) → Type 0 where
   last : GroupEnds []
   next : {i : List ℕ} {ds : List (List ℕ)} → Interface i → GroupEnds (i ∷ ds)

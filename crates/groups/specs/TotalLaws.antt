@@ -88,7 +88,7 @@ module _ (s : List ℕ) (from : ℕ) (inside : from ≤ length s) (full : from +
             here = ap (rest s) (end-of (At q) e) ∙ f .here;
           }
 
--- the first byte of type 24 or 04 behind the run is the descriptor's own
+-- byte q+1 is the type of the descriptor at q
 pub type-of : (s : List ℕ) (q : ℕ) (d : List ℕ) (ds : List (List ℕ)) → rest s q ≡ d ∷ ds → byte s (q + 1) ≡ byte d 1
 type-of s q d ds e = go (decided (eqb (endAt s q) q) (reads-eq (endAt s q) q))
   where

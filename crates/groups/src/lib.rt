@@ -1,19 +1,18 @@
 // Groups and the header (document 01): what the rules 1 to 7 ask of a configuration, and where the AudioControl group's parts stand.
 ghost use mathlib.Core.Path.{_≡_};
 ghost use mathlib.Core.Bool.{_&&_, not};
-ghost use Prim.Native.Nat.{_+_, _≤_, _<_};
+ghost use Prim.Native.Nat.{_+_};
 ghost use lib.Dec.{eqb};
 ghost use lib.ListN.{length};
-ghost use Rattle.ground.specs.Numbers.{byte, word};
+ghost use Rattle.ground.specs.Numbers.{word};
 ghost use Rattle.ground.specs.Lists.{part, any};
 ghost use Rattle.ground.specs.First.{isBefore};
 ghost use Rattle.ground.specs.Refuse.{none, placeOr};
 ghost use Rattle.scan.specs.Cutting.{rest, breach3};
 ghost use Rattle.scan.specs.Search.{searched};
 ghost use Rattle.scan.specs.Want.{foundFrom};
-ghost use Rattle.groups.specs.Rules.{mostBytes};
-ghost use Rattle.groups.specs.Reading.{breach1, breach2, breach4, breach5, breach6, breach7};
-ghost use Rattle.groups.specs.Reading.{wrongInterface, wrongAt, frameOf, runEnd, isHeader, opens, straysFrom};
+ghost use Rattle.groups.specs.Reading.{breach1, breach2, breach4};
+ghost use Rattle.groups.specs.Reading.{wrongInterface, wrongAt, frameOf, isHeader, opens, straysFrom};
 ghost use Rattle.groups.specs.Reading.{isDistinct, allKnown, unlisted, collects, groupJudged, judged};
 use ground::Place;
 use ground::Refusal;

@@ -1,10 +1,14 @@
 -- The layouts of the five kinds (document 01, "Entities"). Byte 2 is the kind, byte 3 the ID; pins p are 1 to 8.
---   LaidOut d     ==  d has one of the six layouts (the printed Selector is a Selector's second)
---   entityOf d    ==  what the reader makes of d: its kind's own numbers, or Unknown
---   kindOf e      ==  the number of its kind: byte 2, but 15 hex for the printed Selector (document 01, "The sheet"); 0 for Unknown
---   idOf e        ==  the ID that an entity bears
---   clusterAt d k ==  the cluster declared at offsets k..k+3: channels, locations (2), name index
---   isUnknown e   ==  the layout was wrong
+--   mostPins                 ==  the most pins that a Mixer or a Selector may have: 8
+--   Pins p                   ==  p is 1 to 8
+--   LaidOut d                ==  d has one of the six layouts (the printed Selector is a Selector's second)
+--   entityOf d               ==  what the reader makes of d: its kind's own numbers, or Unknown
+--   inputOf d .. featureOf d ==  the same of a d that is of the kind in the name
+--   printedKind              ==  15 hex, the printed Selector's number on the sheet (document 01, "The sheet")
+--   kindOf e                 ==  the number of its kind: byte 2, but printedKind for the printed Selector; 0 for Unknown
+--   idOf e                   ==  the ID that an entity bears
+--   clusterAt d k            ==  the cluster declared at offsets k..k+3: channels, locations (2), name index
+--   isUnknown e              ==  the layout was wrong
 -- Offsets, 02 Input Terminal: length 12; terminal type at 4, cluster at 7..10. 03 Output Terminal: length 9; type at 4, source at 7.
 -- 04 Mixer: p at 4, sources from 5, cluster at 5+p..8+p; length at least 10+p. 05 Selector: p at 4, sources from 5, length 6+p; printed:
 -- length 7+p, byte 5 is 0, sources from 6. 06 Feature Unit: source at 4, control size n at 5 (1 to 4); length at least 7.
@@ -20,11 +24,9 @@ use Rattle.layout.specs.declared.Cluster.{Cluster}
 use Rattle.layout.specs.declared.Entity.{Entity}
 use Rattle.layout.specs.declared.Entity.the-variants.{Unknown, Input, Output, Mixer, Selector, Printed, Feature}
 
--- the most pins a Mixer or a Selector may have
 abbrev pub mostPins : ℕ
 mostPins = 8
 
--- pins p are 1 to 8
 abbrev pub Pins : ℕ → Type 0
 Pins p = (1 ≤ p) × (p ≤ mostPins)
 
@@ -72,7 +74,6 @@ entityOf d =
     (pick (eqb (byte d 2) 5) (selectorOf d)
     (pick (eqb (byte d 2) 6) (featureOf d) Unknown))))
 
--- 15 hex
 abbrev pub printedKind : ℕ
 printedKind = 21
 

@@ -3,6 +3,7 @@
 --                      for a Mixer and a Selector, from 6 for the printed Selector
 --   pinsOf e       ==  how many there are: the pins
 --   padded l       ==  eight places: the IDs l, then 00
+--   sourcesIn l    ==  how many IDs l are, and the eight places
 --   sourcesOf d    ==  what the reader hands on: how many there are, and the eight places
 use Prim.Native.Nat.{ℕ}
 use mathlib.Core.List.{List, [], _∷_, _++_}

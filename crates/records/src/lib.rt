@@ -1,4 +1,6 @@
-// The sheet (document 01): records of 16 bytes, no header, in entity order; bytes past the last record stay.
+// The sheet (document 01). What it promises to the layer above: for every run, every cluster of its entities and every lent sheet,
+// whether the run's records have room; where they have, records of 16 bytes, no header, in entity order, and the bytes past the last
+// record stay; where they have not, every byte stays.
 ghost use mathlib.Core.Path.{_≡_};
 ghost use Prim.Native.Nat.{_+_, _≤_};
 ghost use lib.ListN.{length};

@@ -1,12 +1,13 @@
 -- A cutting into descriptors (document 01, refusal 3): the bytes are one descriptor after another, each as long as its first
 -- byte says, which is 2 at least.
---   Descriptor d   ==  d is as long as its first byte says, and at least 2 long
---   Cutting s ds   ==  ds are descriptors which, one after another, are the bytes s
---   endAt s at     ==  where the descriptor at place at ends; at itself where none stands there
---   rest s at      ==  the descriptors that stand one after another from place at on
---   reach s at     ==  the place up to which they stand
---   breach3 s      ==  nowhere, or the place where a descriptor's length is below 2 or runs past L
---   Misfit s p     ==  descriptors stand up to place p, p is not the end, and none stands there
+--   Descriptor d    ==  d is as long as its first byte says, and at least 2 long
+--   Cutting s ds    ==  ds are descriptors which, one after another, are the bytes s
+--   endAt s at      ==  where the descriptor at place at ends; at itself where none stands there
+--   rest s at       ==  the descriptors that stand one after another from place at on
+--   restFrom k s at ==  the same, the first k of them
+--   reach s at      ==  the place up to which they stand
+--   breach3 s       ==  nowhere, or the place where a descriptor's length is below 2 or runs past L
+--   Misfit s p      ==  descriptors stand up to place p, p is not the end, and none stands there
 use Prim.Native.Nat.{ℕ, zero, suc, _+_, _≤_, _<_}
 use mathlib.Core.Path.{_≡_}
 use mathlib.Core.List.{List, [], _∷_, flatten, List·Memᴰ}

@@ -1,5 +1,7 @@
 -- Laws of the cutting: what stands at a place, that there is one cutting at most, and that rule 3 holds exactly where the scan
 -- reaches the end.
+--   Ends s at e      ==  no descriptor stands at place at and e is at, or one does and e is where it ends: what endAt answers
+--   Standing s at ds ==  ds are descriptors, and they are the bytes of s from place at up to where they reach
 use Prim.Native.Nat.{ℕ, zero, suc, _+_, _-_, _≤_, _<_}
 use mathlib.Core.Path.{_≡_, refl, sym, ap, _∙_}
 use mathlib.Core.Bool.{Bool, true, false}
@@ -17,7 +19,6 @@ use Rattle.ground.specs.Numbers.{byte}
 use Rattle.ground.specs.Lists.{part, total, part-length, part-join, part-none, length-flatten}
 use Rattle.scan.specs.Cutting.{Descriptor, Cutting, endAt, restFrom, rest, reach, breach3, Misfit}
 
--- what endAt answers: no descriptor stands, or one does
 pub data Ends (s : List ℕ) (at : ℕ) : ℕ → Type 0 where
   none : (2 ≤ byte s at → at + byte s at ≤ length s → ⊥) → Ends s at at
   stands : {e : ℕ} → 2 ≤ byte s at → e ≡ at + byte s at → e ≤ length s → Ends s at e
@@ -111,7 +112,6 @@ rest-of s at (d ∷ b) tail e h =
     ∙ rw (off, starts-part s at d (flatten b ++ tail) g k) (ap (λ (r : List (List ℕ)). d ∷ r)
     (rest-of s (at + length d) b tail (starts-next s at d (flatten b ++ tail) g k) (λ x m. h x (List·Memᴰ·tail m)) ∙ ap (λ (n : ℕ). b ++ rest s n) (add-assoc at (length d) (total b))))
 
--- what stands from a place on: descriptors, which are the bytes up to where they reach
 pub record Standing (s : List ℕ) (at : ℕ) (ds : List (List ℕ)) : Type 0 where
   pub flat : flatten ds ≡ part s at (at + total ds)
   pub room : at + total ds ≤ length s

@@ -7,6 +7,7 @@
 --   Member n d         ==  the interface descriptor of a streaming or MIDI group of number n
 --   isInterface ..     ==  the tests
 --   wants w d          ==  the search for w stops at d
+--   foundFrom s from w ==  the place of the first descriptor from place from on that the search for w stops at
 use Prim.Native.Nat.{ℕ}
 use mathlib.Core.Path.{_≡_}
 use mathlib.Core.Bool.{Bool, not, _&&_, _||_}
@@ -78,6 +79,5 @@ wants want.Interface d = isInterface d
 wants want.NotClass d = not (isClass d)
 wants want.ClassOrInterface d = isClass d || isInterface d
 
--- the first wanted descriptor of those that stand from place from on
 unfoldable pub foundFrom : List ℕ → ℕ → Want → Place
 foundFrom s from w = searched (λ b d. wants w d) s from

@@ -1,6 +1,6 @@
-// Bytes to descriptors. Each function takes every slice and every place.
+// Bytes to descriptors. What it promises to the layer above: for every slice and every place, the byte and the number that stand there,
+// where the descriptor there ends, how far descriptors stand one after another from there on, and the first of them that is wanted.
 ghost use mathlib.Core.Path.{_≡_};
-ghost use lib.ListN.{length};
 ghost use Rattle.ground.specs.Numbers.{byte, word};
 ghost use Rattle.scan.specs.Cutting.{endAt, reach};
 ghost use mathlib.Core.Bool.{_||_};
@@ -68,6 +68,7 @@ pub enum Want {
     ClassOrInterface,
 }
 
+// An interface descriptor: type 04. It opens a group.
 pub fn is_interface(d: &[u8]) -> bool
     ensures { λ r. ⌜ r ≡ isInterface (now (d .entry)) ⌝ }
 {
@@ -113,6 +114,7 @@ fn is_member(d: &[u8], number: u8) -> bool
     false
 }
 
+// A descriptor of type 24 hex, as the header and the entities are.
 pub fn is_class(d: &[u8]) -> bool
     ensures { λ r. ⌜ r ≡ isClass (now (d .entry)) ⌝ }
 {

@@ -4,7 +4,7 @@
 ghost use mathlib.Core.Path.{_≡_};
 ghost use Rattle.table.specs.Controls.{blankControl, emptyTable, at, placed, senseOf, sizeOf, answersTo};
 ghost use Rattle.table.specs.First.{foundIn, sawUnit, missingBy, lookedUp};
-ghost use Rattle.table.specs.Sound.{narrowOf, soundYesNo, soundPin, soundRanged, soundControl, firstThere, soundPlace, soundOf};
+ghost use Rattle.table.specs.Sound.{narrowOf, soundYesNo, soundPin, soundRanged, soundControl, firstThere, soundOf};
 use setting::Range;
 use setting::Sort;
 

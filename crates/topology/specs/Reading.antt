@@ -1,11 +1,16 @@
 -- The reader's answer (document 01, "What the box does", "Refusals of a configuration"): the lowest number that applies, or what stands
 -- in the configuration.
---   clustersAt v       ==  the cluster of each entity of the survey v, by place
---   tableAt s v        ==  its controls, in the table
---   restJudged, runJudged ==  the refusals 14 to 16, and 10 to 16, in their order
---   verdictOf s room   ==  the refusal of a configuration s with a sheet of room bytes lent; 0 and 0 for none
---   readingOf s room   ==  the reader's answer
---   sheetOf s d        ==  what the lent bytes d hold afterwards
+--   clustersAt v            ==  the cluster of each entity of the survey v, by place
+--   tableAt s v             ==  its controls, in the table
+--   restJudged, runJudged   ==  the refusals 14 to 16, and 10 to 16, in their order
+--   surveyJudged s v room r ==  the lowest number of 10 to 16 that applies to what v surveys, with its place; r where none does
+--   verdictOf s room        ==  the refusal of a configuration s with a sheet of room bytes lent; 0 and 0 for none
+--   refusedReading r        ==  the answer where r is refused: interface number 0, zero counts and an empty table
+--   takenReading s v        ==  the answer where nothing is refused: the AudioControl number, the counts and the table
+--   readingFrom s v room    ==  the answer to what the cutting layer has surveyed as v
+--   sheetFrom s v d         ==  what the lent bytes d hold after that
+--   readingOf s room        ==  the reader's answer
+--   sheetOf s d             ==  what the lent bytes d hold afterwards
 use Prim.Native.Nat.{ℕ}
 use mathlib.Core.List.{List}
 use lib.ListN.{length}
@@ -54,7 +59,6 @@ refusedReading r = record { number = r .number; place = r .place; control = 0; e
 unfoldable pub takenReading : List ℕ → Survey → Reading
 takenReading s v = record { number = 0; place = 0; control = v .control; entities = v .run .count; controls = tableAt s v .count; table = tableAt s v }
 
--- the reading and the sheet of what the cutting layer has surveyed
 unfoldable pub readingFrom : List ℕ → Survey → ℕ → Reading
 readingFrom s v room =
     pick (eqb (surveyJudged s v room none .number) 0) (takenReading s v) (refusedReading (surveyJudged s v room none))

@@ -1,3 +1,4 @@
+-- By its two ways out: refused by the rules 1 to 7, or kept by them and surveyed by 8 and 9.
 use borrow.Author.Needs.{needs}
 use Prim.Native.Nat.{ℕ}
 use mathlib.Core.Path.{_≡_, sym, ap, _∙_}

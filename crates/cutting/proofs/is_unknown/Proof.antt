@@ -1,3 +1,4 @@
+-- Two laws: one for Unknown, and one for the six kinds of layout.
 use borrow.Author.Needs.{needs}
 use Prim.Native.Nat.{ℕ}
 use mathlib.Core.Path.{_≡_, refl, sym, ap, _∙_}

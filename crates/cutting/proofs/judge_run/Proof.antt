@@ -1,3 +1,4 @@
+-- By its four ways out: no entity, too many, a wrong layout, none of these.
 use borrow.Author.Needs.{needs}
 use Prim.Native.Nat.{ℕ, _≤_, _<_}
 use mathlib.Core.Path.{_≡_, sym, _∙_}

@@ -1,3 +1,4 @@
+-- By its two ways out: past the end 0, else the byte itself, whose offset fits.
 use borrow.Author.Needs.{needs}
 use Prim.Native.Nat.{ℕ, _+_, _≤_}
 use mathlib.Core.Path.{_≡_, sym}

@@ -1,3 +1,4 @@
+-- The spare places are the blank node's, as in a run with no descriptor.
 use borrow.Author.Needs.{needs}
 use mathlib.Core.Path.{_≡_, refl}
 use lib.ListN.{replicate}

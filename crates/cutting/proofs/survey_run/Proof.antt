@@ -1,3 +1,4 @@
+-- By its two ways out: refused by the rules 8 and 9, or surveyed; the run is read in the configuration up to the run's end.
 use borrow.Author.Needs.{needs}
 use Prim.Native.Nat.{ℕ, _+_, _-_}
 use mathlib.Core.Path.{_≡_, refl, sym, ap, _∙_}

@@ -1,3 +1,4 @@
+-- By its two ways out: within the array the place is set, past it nothing changes.
 use borrow.Author.Needs.{needs}
 use Prim.Native.Nat.{ℕ, _≤_}
 use mathlib.Core.Path.{_≡_, sym}

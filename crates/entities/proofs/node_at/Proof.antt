@@ -1,3 +1,4 @@
+-- The node is its three fields, each as its reader answers.
 use borrow.Author.Needs.{needs}
 use Prim.Native.Nat.{ℕ}
 use mathlib.Core.Path.{_≡_, refl}

@@ -1,3 +1,4 @@
+-- The loop stands behind the descriptors that it has counted; they stand in the first places, and the spare places are blank.
 use borrow.Author.Needs.{needs}
 use Prim.Native.Nat.{ℕ, suc, _+_, _-_, _≤_, _<_, _^_}
 use mathlib.Core.Path.{_≡_, refl, sym, ap, _∙_}
@@ -17,7 +18,6 @@ use Rattle.entities.specs.Run.{mostEntities, nodeOf, nodesFrom, blankNod
 use Rattle.entities.proofs.read_run.Statement.{statement}
 use Rattle.entities.proofs.read_run.Tie as tie
 
--- The entities before `at` stand in the first places.
 nodes-more : (p : ℕ) (ds : List (List ℕ)) (d : List ℕ) → nodesFrom p (ds ++ d ∷ []) ≡ nodesFrom p ds ++ nodeOf (p + total ds) d ∷ []
 unfolding nodesFrom total
 nodes-more p [] d = ap (λ (i : ℕ). nodeOf i d ∷ []) (sym (add-zero p))

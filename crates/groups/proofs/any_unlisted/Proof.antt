@@ -1,3 +1,4 @@
+-- The loop stands behind descriptors that are listed or open no such group; what is unlisted is what is unlisted from there on.
 use borrow.Author.Needs.{needs}
 use Prim.Native.Nat.{ℕ, _-_}
 use mathlib.Core.Path.{_≡_, refl, sym, ap, _∙_}
@@ -12,7 +13,6 @@ use Rattle.scan.specs.CuttingLaws.{rest-none, rest-more}
 use Rattle.groups.proofs.any_unlisted.Statement.{statement}
 use Rattle.groups.proofs.any_unlisted.Tie as tie
 
--- Every descriptor passed is listed or opens no such group.
 module _ (l s : List ℕ) (at e : ℕ) (same : any (unlisted l) (rest s 0) ≡ any (unlisted l) (rest s at)) (f : e ≡ endAt s at) where
   none-left : e ≡ at → false ≡ any (unlisted l) (rest s 0)
   unfolding any

@@ -1,3 +1,4 @@
+-- The loop stands behind numbers that do not come again; the whole is distinct exactly where the rest is.
 use borrow.Author.Needs.{needs}
 use Prim.Native.Nat.{ℕ, suc, _+_, _-_, _≤_, _<_}
 use mathlib.Core.Path.{_≡_, refl, sym, ap, _∙_}

@@ -1,3 +1,4 @@
+-- The loop stands behind numbers that are known; all are known exactly where all of the rest are.
 use borrow.Author.Needs.{needs}
 use Prim.Native.Nat.{ℕ, _+_, _-_, _≤_, _<_}
 use mathlib.Core.Path.{_≡_, refl, sym, ap, _∙_}

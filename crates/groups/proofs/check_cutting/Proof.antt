@@ -1,3 +1,4 @@
+-- By its two ways out: the descriptors reach the end, or the place that they reach is the rule's.
 use borrow.Author.Needs.{needs}
 use Prim.Native.Nat.{ℕ}
 use mathlib.Core.Path.{_≡_, sym, ap, _∙_}

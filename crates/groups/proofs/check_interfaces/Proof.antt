@@ -1,3 +1,4 @@
+-- By its three ways out: a wrong interface descriptor, none and an AudioControl one, none and no AudioControl one.
 use borrow.Author.Needs.{needs}
 use Prim.Native.Nat.{ℕ}
 use mathlib.Core.Path.{_≡_, refl, sym, _∙_}

@@ -1,3 +1,4 @@
+-- By its four ways out: one for each of the three tests that fails, and the one where all hold.
 use borrow.Author.Needs.{needs}
 use Prim.Native.Nat.{ℕ}
 use mathlib.Core.Path.{_≡_, sym, _∙_}

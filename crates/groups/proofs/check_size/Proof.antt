@@ -1,3 +1,4 @@
+-- By its three ways out: too short, too long, or neither.
 use borrow.Author.Needs.{needs}
 use Prim.Native.Nat.{ℕ, _≤_, _<_}
 use mathlib.Core.Path.{_≡_}

@@ -1,3 +1,4 @@
+-- By its three ways out: not distinct, not all known, or what is unlisted decides.
 use borrow.Author.Needs.{needs}
 use Prim.Native.Nat.{ℕ}
 use mathlib.Core.Path.{_≡_, sym, _∙_}

@@ -1,3 +1,4 @@
+-- The four places are the callees' answers; the header's fits, since the AudioControl interface is not past the end.
 use borrow.Author.Needs.{needs}
 use Prim.Native.Nat.{ℕ, _+_, _*_, _≤_, _<_}
 use mathlib.Core.Path.{_≡_, refl}

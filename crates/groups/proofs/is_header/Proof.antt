@@ -1,3 +1,4 @@
+-- By its two ways out: it does not open as the header does, or the length decides.
 use borrow.Author.Needs.{needs}
 use Prim.Native.Nat.{ℕ, _+_}
 use mathlib.Core.Path.{_≡_, sym, _∙_}

@@ -1,3 +1,4 @@
+-- The loop stands behind numbers that are others; what is listed is what is listed from there on.
 use borrow.Author.Needs.{needs}
 use Prim.Native.Nat.{ℕ, _+_, _-_, _≤_, _<_}
 use mathlib.Core.Path.{_≡_, refl, sym, ap, _∙_}
@@ -12,7 +13,6 @@ use Rattle.ground.specs.Lists.{any}
 use Rattle.groups.proofs.is_listed.Statement.{statement}
 use Rattle.groups.proofs.is_listed.Tie as tie
 
--- The numbers before `i` are others; what is listed is what is listed from there on.
 module _ (l : List ℕ) (n i : ℕ) (same : any (eqb n) l ≡ any (eqb n) (drop i l)) where
   listed-here : i < length l → n ≡ getD l i 0 → true ≡ any (eqb n) l
   unfolding any

@@ -1,3 +1,4 @@
+-- By its three ways out: of a streaming or a MIDI group the list decides, anything else is not unlisted.
 use borrow.Author.Needs.{needs}
 use Prim.Native.Nat.{ℕ}
 use mathlib.Core.Path.{_≡_, sym, _∙_}

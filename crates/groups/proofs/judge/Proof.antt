@@ -1,3 +1,4 @@
+-- By its five ways out: one for each of the rules 1 to 4 that is broken with the ones before it kept, then the rules 5 to 7.
 use borrow.Author.Needs.{needs}
 use Prim.Native.Nat.{ℕ}
 use mathlib.Core.Path.{_≡_, sym, ap, _∙_}

@@ -1,3 +1,4 @@
+-- By its four ways out: one for each of the rules 5 to 7 that is broken with the ones before it kept, and the one where all are kept.
 use borrow.Author.Needs.{needs}
 use Prim.Native.Nat.{ℕ, _+_, _-_}
 use mathlib.Core.Path.{_≡_, sym, ap, _∙_}

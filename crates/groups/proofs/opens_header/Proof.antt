@@ -1,3 +1,4 @@
+-- The four bytes are the same as a string exactly where each of them is.
 use borrow.Author.Needs.{needs}
 use Prim.Native.Nat.{ℕ}
 use mathlib.Core.Path.{_≡_, refl, sym, _∙_}

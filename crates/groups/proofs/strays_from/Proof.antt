@@ -1,3 +1,4 @@
+-- One law for each answer of the search; what it finds is a whole descriptor, so its type stands inside.
 use borrow.Author.Needs.{needs}
 use Prim.Native.Nat.{ℕ, _+_, _<_}
 use mathlib.Core.Path.{_≡_, refl, sym, _∙_}

@@ -1,3 +1,4 @@
+-- By its four ways out: no stretch at all, one that begins past the end, one that ends past it, one inside.
 use borrow.Author.Needs.{needs}
 use Prim.Native.Nat.{ℕ, _-_, _≤_, _<_}
 use mathlib.Core.Path.{_≡_, sym, ap, _∙_}

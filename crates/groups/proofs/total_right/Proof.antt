@@ -1,3 +1,4 @@
+-- By its three ways out: the run ends before the header, the length is another, or the strays decide.
 use borrow.Author.Needs.{needs}
 use Prim.Native.Nat.{ℕ, _+_, _-_, _≤_, _<_}
 use mathlib.Core.Path.{_≡_}

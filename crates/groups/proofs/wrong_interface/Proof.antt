@@ -1,3 +1,4 @@
+-- By its six ways out: one for each test of refusal 4 that decides, with those before it passed.
 use borrow.Author.Needs.{needs}
 use Prim.Native.Nat.{ℕ}
 use mathlib.Core.Path.{_≡_, sym, _∙_}

@@ -1,3 +1,4 @@
+-- The loop has put the first i bytes into the sheet, which is as long as it was.
 use borrow.Author.Needs.{needs}
 use Prim.Native.Nat.{ℕ, _+_, _-_, _≤_, _<_}
 use mathlib.Core.Path.{_≡_, refl, ap, _∙_}

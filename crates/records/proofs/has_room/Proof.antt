@@ -1,3 +1,4 @@
+-- The one comparison; the product fits, since a run holds at most 32.
 use borrow.Author.Needs.{needs}
 use Prim.Native.Nat.{ℕ, _*_}
 use mathlib.Core.Path.{_≡_, refl}

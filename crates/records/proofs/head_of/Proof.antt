@@ -1,3 +1,4 @@
+-- The eight bytes one by one; those of the bitmap fit, being remainder and quotient by 256.
 use borrow.Author.Needs.{needs}
 use Prim.Native.Nat.{ℕ, _/_, _%_}
 use mathlib.Core.Path.{_≡_, refl}

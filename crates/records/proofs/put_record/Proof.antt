@@ -1,3 +1,4 @@
+-- Two stretches of eight bytes, one behind the other, are the record's sixteen.
 use borrow.Author.Needs.{needs}
 use Prim.Native.Nat.{ℕ, _+_, _≤_}
 use mathlib.Core.Path.{_≡_, sym, ap, _∙_}
@@ -11,7 +12,6 @@ use Rattle.records.specs.Records.{headOf, recordOf}
 use Rattle.records.proofs.put_record.Statement.{statement}
 use Rattle.records.proofs.put_record.Tie as tie
 
--- two stretches of eight, one behind the other, are one of sixteen
 both : (d : List ℕ) (at : ℕ) (b c : List ℕ) → at + 16 ≤ length d → length b ≡ 8 → length c ≡ 8 → paste (paste d at b 8) (at + 8) c 8 ≡ paste d at (b ++ c) 16
 both d at b c room l m =
     let front : length (take at d ++ take 8 b) ≡ at + 8 = length-paste-head d at b 8 (omega arith) (omega arith) in

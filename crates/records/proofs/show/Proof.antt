@@ -1,3 +1,4 @@
+-- The loop has put the first i records in front, and behind them the sheet is as it stood.
 use borrow.Author.Needs.{needs}
 use Prim.Native.Nat.{ℕ, suc, _+_, _-_, _*_, _≤_, _<_}
 use mathlib.Core.Path.{_≡_, refl, sym, ap, _∙_}

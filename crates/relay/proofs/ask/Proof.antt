@@ -1,3 +1,4 @@
+-- The reply's lent front is at most the whole, and comes back as long as it was.
 use borrow.Author.Needs.{needs}
 use Prim.Native.Nat.{ℕ, _+_, _-_, _≤_}
 use mathlib.Core.Path.{_≡_, sym}

@@ -1,3 +1,4 @@
+-- The loop counts down from its number of turns, so it ends; nothing else is asked of it.
 use borrow.Author.Needs.{needs}
 use Rattle.relay.proofs.main.Statement.{statement}
 use Rattle.relay.proofs.main.Tie as tie

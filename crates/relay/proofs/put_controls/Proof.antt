@@ -1,3 +1,4 @@
+-- The loop's count does not pass n, so it ends; places are below the body's length, so the next one fits.
 use borrow.Author.Needs.{needs}
 use Prim.Native.Nat.{_-_, _≤_}
 use Rattle.relay.proofs.put_controls.Statement.{statement}

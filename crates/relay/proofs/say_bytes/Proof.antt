@@ -1,3 +1,4 @@
+-- The loop's count does not pass the bytes' length, so that each is read inside them.
 use borrow.Author.Needs.{needs}
 use Prim.Native.Nat.{_-_, _≤_}
 use lib.ListN.{length}

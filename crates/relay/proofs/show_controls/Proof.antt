@@ -1,3 +1,4 @@
+-- The loop's count does not pass the number of controls to show, so it ends.
 use borrow.Author.Needs.{needs}
 use Prim.Native.Nat.{_-_, _≤_}
 use Rattle.relay.proofs.show_controls.Statement.{statement}

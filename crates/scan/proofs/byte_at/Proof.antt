@@ -1,3 +1,4 @@
+-- By its two ways out: inside the slice the byte itself, past the end 0.
 use borrow.Author.Needs.{needs}
 use Prim.Native.Nat.{ℕ, _≤_}
 use mathlib.Core.Path.{_≡_, sym}

@@ -1,3 +1,4 @@
+-- By its two ways out: the first test holds, or the second decides.
 use borrow.Author.Needs.{needs}
 use mathlib.Core.Path.{_≡_, sym, _∙_}
 use mathlib.Core.Bool.{Bool, true, false, _||_}

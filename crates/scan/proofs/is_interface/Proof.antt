@@ -1,3 +1,4 @@
+-- The one test of byte 1.
 use borrow.Author.Needs.{needs}
 use Rattle.scan.specs.Want.{isInterface, isClass}
 use Rattle.scan.proofs.Tests.{one-test}

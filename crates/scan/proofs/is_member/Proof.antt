@@ -1,3 +1,4 @@
+-- By its three ways out: of a streaming or a MIDI group the number decides, anything else is no member.
 use borrow.Author.Needs.{needs}
 use Prim.Native.Nat.{ℕ}
 use mathlib.Core.Path.{_≡_, sym, _∙_}

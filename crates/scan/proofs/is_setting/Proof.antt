@@ -1,3 +1,4 @@
+-- By its three ways out: another type, another number, or the alternate setting decides.
 use borrow.Author.Needs.{needs}
 use Rattle.scan.specs.Want.{isAudio, isSetting, isInterface}
 use Rattle.scan.proofs.Tests.{first-fails, second-fails, third-decides}

@@ -1,3 +1,4 @@
+-- One law for each thing that a search may want.
 use borrow.Author.Needs.{needs}
 use Prim.Native.Nat.{ℕ}
 use mathlib.Core.Path.{_≡_, ap}

@@ -1,3 +1,4 @@
+-- By its two ways out: past the end both bytes are 0, else the low byte and 256 times the high one, which fit.
 use borrow.Author.Needs.{needs}
 use Prim.Native.Nat.{ℕ, _+_, _*_, _≤_}
 use mathlib.Core.Path.{_≡_}

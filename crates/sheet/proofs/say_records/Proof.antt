@@ -1,3 +1,4 @@
+-- The loop's count does not pass the sheet's 512 bytes, so that each byte is read inside it.
 use borrow.Author.Needs.{needs}
 use Prim.Native.Nat.{_-_, _≤_}
 use Rattle.sheet.proofs.say_records.Statement.{statement}

@@ -1,3 +1,4 @@
+-- By its two ways out: a decimal digit or a letter; the code fits, since the digit is below 16.
 use borrow.Author.Needs.{needs}
 use Prim.Native.Nat.{ℕ, _+_, _≤_, _<_}
 use mathlib.Core.Path.{_≡_, sym}

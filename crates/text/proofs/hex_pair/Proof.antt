@@ -1,3 +1,4 @@
+-- Quotient and remainder by 16 are below 16, so each is a digit.
 use borrow.Author.Needs.{needs}
 use Prim.Native.Nat.{ℕ, _/_, _%_}
 use mathlib.Core.Path.{_≡_, refl}

@@ -1,3 +1,4 @@
+-- By its four ways out: one for each of the rules 14 to 16 that is broken with the ones before it kept, and the one where all are kept.
 use borrow.Author.Needs.{needs}
 use Prim.Native.Nat.{ℕ}
 use mathlib.Core.Path.{_≡_, sym, _∙_}

@@ -1,3 +1,4 @@
+-- By its two ways out: refused by the rules 10 to 13, or what the rules 14 to 16 say.
 use borrow.Author.Needs.{needs}
 use Prim.Native.Nat.{ℕ}
 use mathlib.Core.Path.{_≡_, sym, ap, _∙_}

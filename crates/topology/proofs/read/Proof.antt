@@ -1,3 +1,4 @@
+-- By its two ways out: the cutting layer refuses, or what it has surveyed is read.
 use borrow.Author.Needs.{needs}
 use Prim.Native.Nat.{ℕ}
 use mathlib.Core.Path.{_≡_, refl, sym, ap, _∙_}

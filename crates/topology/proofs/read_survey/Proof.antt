@@ -1,3 +1,4 @@
+-- By its two ways out: refused by the rules 10 to 16 with the sheet as it stood, or taken and the records shown.
 use borrow.Author.Needs.{needs}
 use Prim.Native.Nat.{ℕ}
 use mathlib.Core.Path.{_≡_, refl, sym, ap, _∙_}

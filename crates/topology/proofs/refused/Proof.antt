@@ -1,3 +1,4 @@
+-- The reading is its six fields, the table being the empty one.
 use borrow.Author.Needs.{needs}
 use Prim.Native.Nat.{ℕ}
 use mathlib.Core.Path.{_≡_, refl}
