@@ -7,7 +7,6 @@ use mathlib.Core.List.{List}
 use borrow.Author.Tests.{not-true, not-false}
 use Rattle.ground.specs.declared.Place.{Place}
 use Rattle.ground.specs.declared.Place.the-variants.{Nowhere, At}
-use Rattle.ground.specs.declared.Refusal.{Refusal}
 use Rattle.ground.specs.Pick.{yes, no}
 use Rattle.ground.specs.Refuse.{none, refuse-at, refuse-on}
 use Rattle.layout.specs.declared.Cluster.{Cluster}
@@ -20,9 +19,6 @@ use Rattle.table.specs.declared.Table.{Table}
 use Rattle.topology.specs.Reading.{restJudged}
 use Rattle.topology.proofs.judge_rest.Statement.{statement}
 use Rattle.topology.proofs.judge_rest.Tie as tie
-
-abbrev numberOf : Refusal → ℕ
-numberOf r = r .number
 
 module _ (s : List ℕ) (run : Run) (cs : List Cluster) (t : Table) (header room : ℕ) (a : Place) (e : a ≡ breach14 (terminalsOf run cs) s) where
   streams : (p : ℕ) → a ≡ At p → record { number = 14; place = p } ≡ restJudged s run cs t header room none

@@ -1,6 +1,5 @@
 -- The reading is its six fields, the table being the empty one.
 use borrow.Author.Needs.{needs}
-use Prim.Native.Nat.{ℕ}
 use mathlib.Core.Path.{_≡_, refl}
 use Rattle.ground.specs.declared.Refusal.{Refusal}
 use Rattle.table.specs.declared.Table.{Table}
@@ -8,9 +7,6 @@ use Rattle.table.specs.Controls.{emptyTable}
 use Rattle.topology.specs.Reading.{refusedReading}
 use Rattle.topology.proofs.refused.Statement.{statement}
 use Rattle.topology.proofs.refused.Tie as tie
-
-abbrev numberOf : Refusal → ℕ
-numberOf r = r .number
 
 made : (r : Refusal) (t : Table) → t ≡ emptyTable → record { number = r .number; place = r .place; control = 0; entities = 0; controls = 0; table = t } ≡ refusedReading r
 unfolding refusedReading
