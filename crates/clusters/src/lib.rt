@@ -1,5 +1,5 @@
 // Clusters, rule 13 (document 01, "Clusters"): what each entity gives out, by rounds, and whether each keeps its kind's rule. What this
-// crate promises to the layer above: each function answers, for every run whatever, as the definitions of specs/ say.
+// crate promises to the layer above: each public function answers, for every run whatever, as the definitions of specs/ say.
 ghost use mathlib.Core.Path.{_≡_};
 ghost use Prim.Native.Nat.{_≤_};
 ghost use lib.Dec.{eqb};

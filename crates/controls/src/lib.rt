@@ -1,6 +1,6 @@
 // Controls (document 01, "Controls and settings", first paragraph): the table of controls that the masks of the Feature Units and
-// the Selectors of a run give, and rule 15, which counts them. Each function takes every input; of the run, the first count of its 32
-// places are looked at. A Feature Unit's channels are its cluster's, never told by its own length.
+// the Selectors of a run give, and rule 15, which counts them. Each public function takes every input; of the run, the first count of
+// its 32 places are looked at. A Feature Unit's channels are its cluster's, never told by its own length.
 ghost use mathlib.Core.Path.{_≡_};
 ghost use Prim.Native.Nat.{_<_};
 ghost use lib.ListN.{take};

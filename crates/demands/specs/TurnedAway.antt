@@ -97,7 +97,7 @@ module _ (answers : Table → ℕ → List ℕ → List ℕ → ℕ → Outcome)
   pub record RespondersTurnedAway : Type 0 where
     pub stalls-always : ((t : Table) (n : ℕ) (setup «data» : List ℕ) (room : ℕ) → numberOf (answers t n setup «data» room) ≡ 0 → ⊥) → ⊥
     pub answers-zero : ((t : Table) (n : ℕ) (setup «data» : List ℕ) (room i : ℕ) → byte (bytesOf (answers t n setup «data» room)) i ≡ 0) → ⊥
-    pub stores-first : ((t : Table) (x y : ℕ) → bytesOf (answers (next (next t x) y) 0 getMute [] 1) ≡ bytesOf (answers (next t x) 0 getMute [] 1)) → ⊥
+    pub stores-first : bytesOf (answers (next (next caseTable 1) 0) 0 getMute [] 1) ≡ bytesOf (answers (next caseTable 1) 0 getMute [] 1) → ⊥
 
   pub responders-turned-away : Responds → RespondersTurnedAway
   responders-turned-away r = record {
@@ -106,7 +106,7 @@ module _ (answers : Table → ℕ → List ℕ → List ℕ → ℕ → Outcome)
         let x : _≡_ {A = ℕ} 1 0 = sym (ap (λ (l : List ℕ). byte l 0) (ap bytesOf (r (muted caseTable 1) 0 getMute [] 1) ∙ mutes .one-set)) ∙ h (muted caseTable 1) 0 getMute [] 1 0 in
         omega arith;
     stores-first = λ h.
-        let x : _≡_ {A = ℕ} 0 1 = ap (λ (l : List ℕ). byte l 0) (sym (second ∙ mutes .two-sets) ∙ h caseTable 1 0 ∙ (first ∙ mutes .one-set)) in
+        let x : _≡_ {A = ℕ} 0 1 = ap (λ (l : List ℕ). byte l 0) (sym (second ∙ mutes .two-sets) ∙ h ∙ (first ∙ mutes .one-set)) in
         omega arith;
   }
     where

@@ -203,7 +203,7 @@ fn is_header(h: &[u8]) -> bool
     h.len() == 8 + byte_at(h, 7) as usize
 }
 
-// Whether a type 24 descriptor stands behind the run in its group.
+// Whether a type 24 descriptor stands from a place on, before the next interface descriptor.
 pub fn strays_from(config: &[u8], end: usize) -> bool
     ensures { λ r. ⌜ r ≡ straysFrom (now (config .entry)) end ⌝ }
 {

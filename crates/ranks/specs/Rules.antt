@@ -1,5 +1,6 @@
--- Document 01, refusal 12: "some upstream chain of sources is longer than 32 steps (no ranks exist)". The first such is the first entity
--- that has such a chain above it: each entity on a loop, and each below one.
+-- Document 01, refusal 12: "some upstream chain of sources is longer than 32 steps (no ranks exist)". Such is each
+-- entity that has such a chain above it, on a loop or below one; the first by place is named. Sources are followed by ID, through
+-- lookup, which rule 10 makes the entity's own (`lookup-own`).
 --   mostSteps        ==  32
 --   Rule12 run       ==  above no entity of the run, named by its ID, stands a chain of more than 32 steps
 --   Endless run i    ==  above the entity at place i stands one

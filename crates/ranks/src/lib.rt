@@ -1,6 +1,6 @@
 // Ranks, rule 12 (document 01): no upstream chain of sources is longer than 32 steps. Rounds find out: none is settled at first, and
 // each round settles the entities whose sources were all settled before it. Order carries no meaning. What this crate promises to
-// the layer above: each function answers, for every run whatever, as the definitions of specs/ say.
+// the layer above: each public function answers, for every run whatever, as the definitions of specs/ say.
 ghost use mathlib.Core.Path.{_≡_};
 ghost use mathlib.Core.Bool.{false};
 ghost use Prim.Native.Nat.{_<_};

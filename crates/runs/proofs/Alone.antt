@@ -1,4 +1,4 @@
--- "each accepted step changes the addressed control alone": every other control, and every spare place, is what it was, and the
+-- An accepted Set "changes that control alone" (demand 2): every other control, and every spare place, is what it was, and the
 -- addressed one is still the same control, with as many pins. And no step leaves a table that 30 turns away.
 --   Alone t k v   ==  v differs from t in the numbers of the control k alone
 --   alone         ==  so does every step's table

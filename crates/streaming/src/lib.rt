@@ -1,5 +1,5 @@
 // Streaming (document 01): rule 14 over a whole configuration, given the run of entities and the cluster at each entity's place.
-// Each function takes every input; of the run, the first count of its 32 places are looked at.
+// Each public function takes every input; of the run, the first count of its 32 places are looked at.
 ghost use mathlib.Core.Path.{_≡_};
 ghost use Prim.Native.Nat.{_<_};
 ghost use lib.ListN.{take};

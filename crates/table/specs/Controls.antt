@@ -1,5 +1,5 @@
 -- Controls and the table (document 01, "Controls and settings").
---   mostControls        ==  "up to 128 controls"
+--   mostControls        ==  128; a table has no more ("over 128 controls", row 30)
 --   mostPins            ==  "Pins p are 1 to 8"
 --   blankControl        ==  a spare place: all zeros
 --   emptyTable          ==  the table with no control
