@@ -1,5 +1,6 @@
 -- The rules 10 to 13 in their order: "the lowest number that applies is given, at no other time".
 --   judged run r      ==  the first of the four that run breaks, with its place; what r says where it breaks none
+--   FirstWrong run Wrong q  ==  q is the place of the first entity of the run that is wrong
 --   Judgement run r x ==  what x says of the rules: number N at the place of the first offender of rule N, and the rules before N are
 --                         kept; or all four are kept, and x is r
 --   judged-told, told-judged  ==  what is judged says so, and nothing else does
@@ -23,16 +24,15 @@ use Rattle.clusters.specs.Topology.{rule13-nowhere, rule13-at}
 unfoldable pub judged : Run → Refusal → Refusal
 judged run r = refuse 10 (breach10 run) (refuse 11 (breach11 run) (refuse 12 (breach12 run) (refuse 13 (breach13 audio run) r)))
 
-module _ (run : Run) (r : Refusal) where
-  -- q is the place of the first entity of the run that is wrong
-  abbrev pub First : (ℕ → Type 0) → ℕ → Type 0
-  First Wrong q = Breaks (held run) (placeAt run) Wrong q
+abbrev pub FirstWrong : Run → (ℕ → Type 0) → ℕ → Type 0
+FirstWrong run Wrong q = Breaks (held run) (placeAt run) Wrong q
 
+module _ (run : Run) (r : Refusal) where
   pub data Judgement : Refusal → Type 0 where
-    wrong-id : {q : ℕ} → First (WrongId run) q → Judgement (record { number = 10; place = q })
-    wrong-source : {q : ℕ} → Rule10 run → First (WrongSources run) q → Judgement (record { number = 11; place = q })
-    no-rank : {q : ℕ} → Rule10 run → Rule11 run → First (Endless run) q → Judgement (record { number = 12; place = q })
-    wrong-cluster : {q : ℕ} → Rule10 run → Rule11 run → Rule12 run → First (Broken audio run) q → Judgement (record { number = 13; place = q })
+    wrong-id : {q : ℕ} → FirstWrong run (WrongId run) q → Judgement (record { number = 10; place = q })
+    wrong-source : {q : ℕ} → Rule10 run → FirstWrong run (WrongSources run) q → Judgement (record { number = 11; place = q })
+    no-rank : {q : ℕ} → Rule10 run → Rule11 run → FirstWrong run (Endless run) q → Judgement (record { number = 12; place = q })
+    wrong-cluster : {q : ℕ} → Rule10 run → Rule11 run → Rule12 run → FirstWrong run (Broken audio run) q → Judgement (record { number = 13; place = q })
     kept : Rule10 run → Rule11 run → Rule12 run → Rule13 audio run → Judgement r
 
   pub judged-told : Judgement (judged run r)

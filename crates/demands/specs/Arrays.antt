@@ -22,7 +22,7 @@ use Rattle.graph.specs.Places.{named-list}
 use Rattle.graph.specs.Rounds.{length-roundsOf}
 use Rattle.sources.specs.Held.{held, idAt}
 use Rattle.ranks.specs.Rules.{mostSteps}
-use Rattle.clusters.specs.Edition.{noCluster, clustersOf}
+use Rattle.clusters.specs.Edition.{noCluster, Connected, clustersOf}
 use Rattle.clusters.specs.Audio.{audio}
 use Rattle.clusters.specs.Topology.{settled-topology}
 use Rattle.streaming.specs.Terminals.{Terminal, OneEach, terminalOf, terminalsIn, terminalsOf}
@@ -33,19 +33,18 @@ use Rattle.controls.specs.Reader.{controls-run}
 use Rattle.layout.specs.Layout.{entityOf}
 use Rattle.records.specs.Records.{recordSize, roomFor}
 use Rattle.demands.specs.Surveyed.{placeOfRun, entitiesOf, run-stands, run-cut}
-use Rattle.demands.specs.Configuration.{Connected, clustersBy, Rule16}
-use Rattle.demands.specs.Sensible.{sensible}
+use Rattle.demands.specs.Configuration.{clustersBy, Rule16}
 
 pub clusters-long : (run : Run) → length (clustersOf audio run) ≡ mostEntities
 unfolding clustersOf
 clusters-long run = length-roundsOf mostEntities _ noCluster noCluster mostSteps
 
-pub clusters-shown : (run : Run) (c : Connected run) → take (held run) (clustersOf audio run) ≡ clustersBy run c
+pub clusters-shown : (run : Run) (c : Connected audio run) → take (held run) (clustersOf audio run) ≡ clustersBy run c
 clusters-shown run c =
     let l = clusters-long run in
     sym (map-id (take (held run) (clustersOf audio run)))
     ∙ sym (named-list (λ (x : Cluster). x) noCluster (clustersOf audio run) (held run) (omega arith))
-    ∙ map-same (λ i. getD (clustersOf audio run) i noCluster) (λ i. c .cluster (idAt run i)) (below (held run)) (λ i m. sym (settled-topology audio run (c .rule10) (c .rule11) .held-by-array (sensible run c) i (below-lt m)))
+    ∙ map-same (λ i. getD (clustersOf audio run) i noCluster) (λ i. c .cluster (idAt run i)) (below (held run)) (λ i m. sym (settled-topology audio run (c .rule10) (c .rule11) .held-by-array c i (below-lt m)))
     ∙ sym (map-map (c .cluster) (idAt run) (below (held run)))
 
 -- clusters past the last entity are not looked at
@@ -73,7 +72,7 @@ module _ (s : List ℕ) (k : Kept s) where
   unfolding roomFor
   reads-room room = rw (← held-all) (reads-le (held (entitiesOf k) * recordSize) room)
 
-  module _ (c : Connected (entitiesOf k)) where
+  module _ (c : Connected audio (entitiesOf k)) where
     pub clusters-run : take (length (k .rule6 .run)) (clustersOf audio (entitiesOf k)) ≡ clustersBy (entitiesOf k) c
     clusters-run = ap (λ (n : ℕ). take n (clustersOf audio (entitiesOf k))) (sym held-all) ∙ clusters-shown (entitiesOf k) c
 

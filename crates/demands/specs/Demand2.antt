@@ -19,13 +19,12 @@ use Rattle.layout.specs.declared.Entity.the-variants.{Unknown, Input, Output, M
 use Rattle.entities.specs.declared.Run.{Run}
 use Rattle.entities.specs.RunLaws.{laid-distinct}
 use Rattle.graph.specs.Members.{_∈_}
-use Rattle.graph.specs.Clusters.{entering}
 use Rattle.channels.specs.Declared.{mostChannels}
-use Rattle.sources.specs.Held.{idAt}
-use Rattle.sources.specs.Lookup.{entityById, sourcesById, idsOf}
-use Rattle.sources.specs.GraphLaws.{id-in}
-use Rattle.ranks.specs.RuleLaws.{closed-ids}
-use Rattle.clusters.specs.Audio.{firstOf, giveOut, Keeps}
+use Rattle.sources.specs.Held.{held, entityAt, idAt, sourcesAt}
+use Rattle.sources.specs.Lookup.{placeOf}
+use Rattle.sources.specs.GraphLaws.{source-borne}
+use Rattle.clusters.specs.Edition.{Connected, enteringAt}
+use Rattle.clusters.specs.Audio.{firstOf, giveOut, Keeps, audio}
 use Rattle.table.specs.declared.Table.{Table}
 use Rattle.table.specs.declared.Found.the-variants as found
 use Rattle.table.specs.Controls.{emptyTable}
@@ -42,8 +41,7 @@ use Rattle.runs.proofs.Moved.{Moved, whole-run}
 use Rattle.topology.specs.declared.Reading.{Reading}
 use Rattle.topology.specs.Reading.{readingOf}
 use Rattle.demands.specs.Surveyed.{placeOfRun, entitiesOf}
-use Rattle.demands.specs.Configuration.{Connected, Configuration}
-use Rattle.demands.specs.Sensible.{sensible}
+use Rattle.demands.specs.Configuration.{Configuration}
 use Rattle.demands.specs.Arrays.{held-all}
 use Rattle.demands.specs.Refusals.{Shown}
 use Rattle.demands.specs.Demand3.{run, clusters, controls, cluster-shows, answer-shows}
@@ -64,19 +62,20 @@ unfolding firstOf
 few-first [] cluster h = zero-le
 few-first (b ∷ l) cluster h = h b (List·Memᴰ·head refl)
 
-module _ (r : Run) (c : Connected r) where
+module _ (r : Run) (c : Connected audio r) where
   -- along the ranks: a source's is lower than its user's
-  few-below : (n a : ℕ) → a ∈ idsOf r → c .rank a < n → c .cluster a .channels ≤ mostChannels
-  few-below zero a m l = absurd (omega arith)
-  few-below (suc n) a m l =
-      let v = sensible r c in
-      subst (λ (k : Cluster). k .channels ≤ mostChannels) (sym (v .made a m))
-      (few-out (entityById r a) (entering (sourcesById r) (c .cluster) a) (v .kept a m)
-      (few-first (sourcesById r a) (c .cluster)
-      (λ b i. few-below n b (closed-ids r (c .rule10) (c .rule11) a m b i) (let q = v .ranked a m b i in omega arith))))
+  few-below : (n i : ℕ) → i < held r → c .rank (idAt r i) < n → c .cluster (idAt r i) .channels ≤ mostChannels
+  few-below zero i l h = absurd (omega arith)
+  few-below (suc n) i l h =
+      subst (λ (k : Cluster). k .channels ≤ mostChannels) (sym (c .given-out i l))
+      (few-out (entityAt r i) (enteringAt r (c .cluster) i) (c .fits i l)
+      (few-first (sourcesAt r i) (c .cluster)
+      (λ s m. let b = source-borne r (c .rule10) (c .rule11) i l s m in
+      let q : c .rank (idAt r (placeOf r s)) < n = rw (b .1) (let q = c .ranked i l s m in omega arith) in
+      subst (λ (a : ℕ). c .cluster a .channels ≤ mostChannels) (b .1) (few-below n (placeOf r s) (b .0) q))))
 
-  pub few-channels : (a : ℕ) → a ∈ idsOf r → c .cluster a .channels ≤ mostChannels
-  few-channels a m = few-below (suc (c .rank a)) a m (omega arith)
+  pub few-channels : (i : ℕ) → i < held r → c .cluster (idAt r i) .channels ≤ mostChannels
+  few-channels i l = few-below (suc (c .rank (idAt r i))) i l (omega arith)
 
 configuration-table : (s : List ℕ) (t : Configuration s) → Sound (tableOf (controls s t))
 configuration-table s t =
@@ -84,7 +83,7 @@ configuration-table s t =
     (laid-distinct (placeOfRun (t .kept)) (run s t) (t .kept .rule8 .1) (t .kept .rule9) (t .connected .rule10 .own))
     (λ i h. let e = held-all s (t .kept) in
     subst (λ (k : Cluster). k .channels ≤ mostChannels) (sym (cluster-shows s t i h))
-    (few-channels (entitiesOf (t .kept)) (t .connected) (idAt (entitiesOf (t .kept)) i) (id-in (entitiesOf (t .kept)) (omega arith))))
+    (few-channels (entitiesOf (t .kept)) (t .connected) i (omega arith)))
     (t .rule15)
 
 empty-sound : Sound emptyTable

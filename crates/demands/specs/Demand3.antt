@@ -12,32 +12,30 @@
 --   controls-stand, controls-order  ==  a control is in the table exactly where an entity carries it; and the table's order
 use Prim.Native.Nat.{ℕ, zero, suc, _+_, _*_, _≤_, _<_}
 use mathlib.Core.Path.{_≡_, refl, sym, ap, _∙_, subst}
-use mathlib.Core.List.{List, [], _∷_, _++_, append-assoc, List·Memᴰ}
+use mathlib.Core.List.{List, [], _++_, append-assoc, List·Memᴰ}
 use mathlib.Core.Logic.{_⊎_, inl, inr, ⊎-elim, _↔_}
 use lib.ListN.{length, getD, take, drop, length-append}
-use lib.Seq.{getD-take, take-at, drop-at, take-append-seam}
+use lib.Seq.{getD-take, take-at, drop-at}
 use lib.Dec.{eqb, ltb}
 use native.Mathlib.Omega.{arith}
-use native.Mathlib.Nat.{add-zero, add-assoc, le-of-suc-le-suc}
 use borrow.Author.Tests.{eq-eqb, ne-eqb}
 use Rattle.ground.specs.Pick.{yes, no, decided, reads-eq, reads-lt, shows}
 use Rattle.ground.specs.Numbers.{byte}
-use Rattle.ground.specs.Lists.{total, pad-at}
+use Rattle.ground.specs.Lists.{total}
 use Rattle.layout.specs.declared.Cluster.{Cluster}
-use Rattle.layout.specs.Layout.{entityOf, idOf}
+use Rattle.layout.specs.Layout.{entityOf}
 use Rattle.layout.specs.LayoutLaws.{id-told}
-use Rattle.layout.specs.Sources.{sourceList, padded, sourcesIn, sourcesOf}
+use Rattle.layout.specs.Sources.{sourceList, sourcesIn, sourcesOf}
 use Rattle.layout.specs.SourcesLaws.{padded-length, sources-few}
 use Rattle.entities.specs.declared.Node.{Node}
 use Rattle.entities.specs.declared.Run.{Run}
-use Rattle.entities.specs.Run.{mostEntities, nodeOf, nodesFrom, blankNode, runIn}
+use Rattle.entities.specs.Run.{nodeOf, runIn}
 use Rattle.cutting.specs.declared.Survey.{Survey}
 use Rattle.cutting.specs.Survey.{surveyOf}
 use Rattle.cutting.specs.Exact.{kept-cutting}
-use Rattle.graph.specs.Members.{_∈_}
-use Rattle.sources.specs.Held.{nodeAt, idAt, sourceIds, sourcesAt}
-use Rattle.sources.specs.Lookup.{idsOf}
-use Rattle.clusters.specs.Edition.{clustersOf}
+use Rattle.sources.specs.Held.{held, nodeAt, idAt, sourcesAt}
+use Rattle.sources.specs.RunLaws.{node-in, id-read, sources-read}
+use Rattle.clusters.specs.Edition.{Connected, clustersOf}
 use Rattle.clusters.specs.Audio.{audio}
 use Rattle.clusters.specs.Topology.{settled-topology}
 use Rattle.table.specs.declared.Control.{Control}
@@ -49,8 +47,7 @@ use Rattle.records.specs.Records.{recordSize, blankCluster, headOf, recordOf, r
 use Rattle.topology.specs.declared.Reading.{Reading}
 use Rattle.topology.specs.Reading.{clustersAt, verdictOf, refusedReading, takenReading, readingOf, sheetOf}
 use Rattle.demands.specs.Surveyed.{placeOfRun, entitiesOf, keptSurvey, survey-kept}
-use Rattle.demands.specs.Configuration.{Connected, clustersBy, Configuration, Rule16}
-use Rattle.demands.specs.Sensible.{sensible}
+use Rattle.demands.specs.Configuration.{clustersBy, Configuration, Rule16}
 use Rattle.demands.specs.Arrays.{held-all, reads-room, clusters-run, controls-same}
 use Rattle.demands.specs.Refusals.{accepted-exactly}
 
@@ -84,19 +81,11 @@ module _ (s : List ℕ) where
   pub one-run : (t u : Configuration s) → entitiesOf (t .kept) ≡ entitiesOf (u .kept)
   one-run t u = ap (λ (v : Survey). v .run) (sym (survey-kept s (t .kept)) ∙ survey-kept s (u .kept))
 
-  pub one-clusters : (t u : Configuration s) (a : ℕ) → a ∈ idsOf (entitiesOf (t .kept)) → t .connected .cluster a ≡ u .connected .cluster a
+  pub one-clusters : (t u : Configuration s) (i : ℕ) → i < held (entitiesOf (t .kept)) → t .connected .cluster (idAt (entitiesOf (t .kept)) i) ≡ u .connected .cluster (idAt (entitiesOf (t .kept)) i)
   one-clusters t u =
-      subst (λ (r : Run). (c : Connected r) (a : ℕ) → a ∈ idsOf (entitiesOf (t .kept)) → t .connected .cluster a ≡ c .cluster a) (one-run t u)
-      (λ c a m. settled-topology audio (entitiesOf (t .kept)) (t .connected .rule10) (t .connected .rule11) .unique (sensible (entitiesOf (t .kept)) (t .connected)) (sensible (entitiesOf (t .kept)) c) a m)
+      subst (λ (r : Run). (c : Connected audio r) (i : ℕ) → i < held (entitiesOf (t .kept)) → t .connected .cluster (idAt (entitiesOf (t .kept)) i) ≡ c .cluster (idAt (entitiesOf (t .kept)) i)) (one-run t u)
+      (settled-topology audio (entitiesOf (t .kept)) (t .connected .rule10) (t .connected .rule11) .unique (t .connected))
       (u .connected)
-
--- what stands at a place of the run
-nodes-at : (p : ℕ) (ds : List (List ℕ)) (i : ℕ) → i < length ds → getD (nodesFrom p ds) i blankNode ≡ nodeOf (p + total (take i ds)) (getD ds i [])
-unfolding nodesFrom total
-nodes-at p [] i h = absurd (omega arith)
-nodes-at p (d ∷ ds) zero h = ap (λ (q : ℕ). nodeOf q d) (sym (add-zero p))
-nodes-at p (d ∷ ds) (suc i) h =
-    nodes-at (p + length d) ds i (le-of-suc-le-suc h) ∙ ap (λ (q : ℕ). nodeOf q (getD ds i [])) (add-assoc p (length d) (total (take i ds)))
 
 record-long : (p : ℕ) (d : List ℕ) (c : Cluster) → length (recordOf (nodeOf p d) c) ≡ recordSize
 unfolding recordOf headOf nodeOf sourcesOf sourcesIn
@@ -163,26 +152,20 @@ module _ (s : List ℕ) (t : Configuration s) where
 
   -- the i-th entity is what the i-th descriptor of the run says, and bears the ID at its byte 3
   pub entity-shows : (i : ℕ) → i < length run → nodeAt entities i ≡ nodeOf (placeOfRun (t .kept) + total (take i run)) (getD run i [])
-  unfolding runIn
-  entity-shows i h =
-      let l = t .kept .rule8 .1 in
-      pad-at blankNode mostEntities (nodesFrom (placeOfRun (t .kept)) run) i (omega arith) ∙ nodes-at (placeOfRun (t .kept)) run i h
+  entity-shows = node-in (placeOfRun (t .kept)) run (t .kept .rule8 .1)
 
   pub id-shows : (i : ℕ) → i < length run → idAt entities i ≡ byte (getD run i []) 3
-  unfolding nodeOf
-  id-shows i h = ap (λ (n : Node). idOf (n .entity)) (entity-shows i h) ∙ id-told (getD run i []) (t .kept .rule9 (getD run i []) (member-at [] run i h))
+  id-shows i h = id-read (placeOfRun (t .kept)) run (t .kept .rule8 .1) i h ∙ id-told (getD run i []) (t .kept .rule9 (getD run i []) (member-at [] run i h))
 
   pub sources-show : (i : ℕ) → i < length run → sourcesAt entities i ≡ sourceList (entityOf (getD run i [])) (getD run i [])
-  unfolding nodeOf sourcesOf sourcesIn padded
-  sources-show i h =
-      ap (λ (n : Node). sourceIds (n .sources)) (entity-shows i h) ∙ take-append-seam (sourceList (entityOf (getD run i [])) (getD run i [])) _
+  sources-show = sources-read (placeOfRun (t .kept)) run (t .kept .rule8 .1)
 
   pub cluster-shows : (i : ℕ) → i < length run → getD clusters i blankCluster ≡ t .connected .cluster (idAt entities i)
   cluster-shows i h =
       let e = held-all s (t .kept) in
       ap (λ (l : List Cluster). getD l i blankCluster) (sym (clusters-run s (t .kept) (t .connected)))
       ∙ getD-take (length run) (clustersOf audio entities) i blankCluster h
-      ∙ sym (settled-topology audio entities (t .connected .rule10) (t .connected .rule11) .held-by-array (sensible entities (t .connected)) i (omega arith))
+      ∙ sym (settled-topology audio entities (t .connected .rule10) (t .connected .rule11) .held-by-array (t .connected) i (omega arith))
 
   record-sixteen : (i : ℕ) → i < length run → (c : Cluster) → length (recordOf (nodeAt entities i) c) ≡ recordSize
   record-sixteen i h c = ap (λ (n : Node). length (recordOf n c)) (entity-shows i h) ∙ record-long (placeOfRun (t .kept) + total (take i run)) (getD run i []) c

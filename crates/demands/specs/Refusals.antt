@@ -23,10 +23,10 @@ use Rattle.cutting.specs.Verdict.{verdict-chain}
 use Rattle.cutting.specs.Exact.{verdict-kept, verdict-refused}
 use Rattle.sources.specs.Rules.{WrongId, Rule10, WrongSources, Rule11}
 use Rattle.ranks.specs.Rules.{Endless, Rule12}
-use Rattle.clusters.specs.Edition.{Broken, clustersOf}
+use Rattle.clusters.specs.Edition.{Broken, Connected, clustersOf}
 use Rattle.clusters.specs.Audio.{audio}
-use Rattle.clusters.specs.Topology.{sensible-parts}
-use Rattle.connections.specs.Judgement.{judged, First, Judgement, wrong-id, wrong-source, no-rank, wrong-cluster, kept, judged-told, told-judged}
+use Rattle.clusters.specs.Topology.{connected-parts}
+use Rattle.connections.specs.Judgement.{judged, FirstWrong, Judgement, wrong-id, wrong-source, no-rank, wrong-cluster, kept, judged-told, told-judged}
 use Rattle.streaming.specs.Terminals.{terminalsOf}
 use Rattle.streaming.specs.Tests.{breach14}
 use Rattle.streaming.specs.Rule.{Breaks14}
@@ -37,19 +37,18 @@ use Rattle.controls.specs.Reader.{rule15-kept, rule15-broken}
 use Rattle.records.specs.Records.{roomFor}
 use Rattle.topology.specs.Reading.{restJudged, runJudged, surveyJudged, verdictOf}
 use Rattle.demands.specs.Surveyed.{entitiesOf, survey-kept}
-use Rattle.demands.specs.Configuration.{Connected, clustersBy, Streams, FewControls, Configuration, Rule16}
-use Rattle.demands.specs.Sensible.{sensible, connected}
+use Rattle.demands.specs.Configuration.{clustersBy, Streams, FewControls, Configuration, Rule16}
 use Rattle.demands.specs.Arrays.{reads-room, terminals-same, controls-same, one-terminal}
 
 pub data Refused (s : List ℕ) (room : ℕ) : ℕ → ℕ → Type 0 where
   by-cutting : {n p : ℕ} → cut.Refused s n p → Refused s room n p
-  by10 : {p : ℕ} (k : Kept s) → First (entitiesOf k) none (WrongId (entitiesOf k)) p → Refused s room 10 p
-  by11 : {p : ℕ} (k : Kept s) → Rule10 (entitiesOf k) → First (entitiesOf k) none (WrongSources (entitiesOf k)) p → Refused s room 11 p
-  by12 : {p : ℕ} (k : Kept s) → Rule10 (entitiesOf k) → Rule11 (entitiesOf k) → First (entitiesOf k) none (Endless (entitiesOf k)) p → Refused s room 12 p
-  by13 : {p : ℕ} (k : Kept s) → Rule10 (entitiesOf k) → Rule11 (entitiesOf k) → Rule12 (entitiesOf k) → First (entitiesOf k) none (Broken audio (entitiesOf k)) p → Refused s room 13 p
-  by14 : {p : ℕ} (k : Kept s) (c : Connected (entitiesOf k)) → Breaks14 (terminalsOf (entitiesOf k) (clustersBy (entitiesOf k) c)) (k .opened .descriptors) p → Refused s room 14 p
-  by15 : {p : ℕ} (k : Kept s) (c : Connected (entitiesOf k)) → Streams k c → (FewControls k c → ⊥) → p ≡ headerPlace (k .opened) → Refused s room 15 p
-  by16 : {p : ℕ} (k : Kept s) (c : Connected (entitiesOf k)) → Streams k c → FewControls k c → (Rule16 (k .rule6 .run) room → ⊥) → p ≡ headerPlace (k .opened) → Refused s room 16 p
+  by10 : {p : ℕ} (k : Kept s) → FirstWrong (entitiesOf k) (WrongId (entitiesOf k)) p → Refused s room 10 p
+  by11 : {p : ℕ} (k : Kept s) → Rule10 (entitiesOf k) → FirstWrong (entitiesOf k) (WrongSources (entitiesOf k)) p → Refused s room 11 p
+  by12 : {p : ℕ} (k : Kept s) → Rule10 (entitiesOf k) → Rule11 (entitiesOf k) → FirstWrong (entitiesOf k) (Endless (entitiesOf k)) p → Refused s room 12 p
+  by13 : {p : ℕ} (k : Kept s) → Rule10 (entitiesOf k) → Rule11 (entitiesOf k) → Rule12 (entitiesOf k) → FirstWrong (entitiesOf k) (Broken audio (entitiesOf k)) p → Refused s room 13 p
+  by14 : {p : ℕ} (k : Kept s) (c : Connected audio (entitiesOf k)) → Breaks14 (terminalsOf (entitiesOf k) (clustersBy (entitiesOf k) c)) (k .opened .descriptors) p → Refused s room 14 p
+  by15 : {p : ℕ} (k : Kept s) (c : Connected audio (entitiesOf k)) → Streams k c → (FewControls k c → ⊥) → p ≡ headerPlace (k .opened) → Refused s room 15 p
+  by16 : {p : ℕ} (k : Kept s) (c : Connected audio (entitiesOf k)) → Streams k c → FewControls k c → (Rule16 (k .rule6 .run) room → ⊥) → p ≡ headerPlace (k .opened) → Refused s room 16 p
 
 numbered-cut : {s : List ℕ} {n p : ℕ} → cut.Refused s n p → n ≡ 0 → ⊥
 numbered-cut (cut.by1 n) e = omega arith
@@ -84,12 +83,12 @@ module _ (s : List ℕ) (room : ℕ) where
       verdict-chain s .on (ap (λ (r : Refusal). r .number) (verdict-kept s .1 k)) _
       ∙ ap (λ (v : Survey). surveyJudged s v room none) (survey-kept s k)
 
-  connected-kept : (k : Kept s) (c : Connected (entitiesOf k)) → Judgement (entitiesOf k) (rest k) (rest k)
+  connected-kept : (k : Kept s) (c : Connected audio (entitiesOf k)) → Judgement (entitiesOf k) (rest k) (rest k)
   connected-kept k c =
-      let p = sensible-parts audio (entitiesOf k) (c .rule10) (c .rule11) .0 (sensible (entitiesOf k) c) in
+      let p = connected-parts audio (entitiesOf k) (c .rule10) (c .rule11) .0 c in
       kept (c .rule10) (c .rule11) (p .0) (p .1)
 
-  module _ (k : Kept s) (c : Connected (entitiesOf k)) where
+  module _ (k : Kept s) (c : Connected audio (entitiesOf k)) where
     abbrev found14 : Place
     found14 = breach14 (terminalsOf (entitiesOf k) (clustersOf audio (entitiesOf k))) s
 
@@ -148,7 +147,7 @@ module _ (s : List ℕ) (room : ℕ) where
   abbrev Outcome : Type 0
   Outcome = Shown ⊎ ((n : ℕ) × (p : ℕ) × Refused s room n p)
 
-  outcome-rest : (k : Kept s) (c : Connected (entitiesOf k)) → Outcome
+  outcome-rest : (k : Kept s) (c : Connected audio (entitiesOf k)) → Outcome
   outcome-rest k c = streams (found14 k c) refl
     where
       sheet : Streams k c → FewControls k c → (r : Place) → found16 k c ≡ r → Outcome
@@ -171,7 +170,7 @@ module _ (s : List ℕ) (room : ℕ) where
       of (wrong-source {q} a f) = inr (11, q, by11 k a f)
       of (no-rank {q} a b f) = inr (12, q, by12 k a b f)
       of (wrong-cluster {q} a b c f) = inr (13, q, by13 k a b c f)
-      of (kept a b c d) = outcome-rest k (connected (entitiesOf k) a b (sensible-parts audio (entitiesOf k) a b .1 (c, d)))
+      of (kept a b c d) = outcome-rest k (connected-parts audio (entitiesOf k) a b .1 (c, d))
 
   outcome : Outcome
   unfolding verdict

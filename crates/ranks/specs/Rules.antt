@@ -1,13 +1,15 @@
--- Document 01, refusal 12: "some upstream chain of sources is longer than 32 steps (no ranks exist)". Such is each
--- entity that has such a chain above it, on a loop or below one; the first by place is named. Sources are followed by ID, through
--- lookup, which rule 10 makes the entity's own (`lookup-own`).
+-- Document 01, refusal 12: "some upstream chain of sources is longer than 32 steps (no ranks exist)". A chain goes from an entity to one
+-- that bears one of its source IDs, and so on from there; it may meet an entity twice. Wrong is each entity with such a chain above it, on a
+-- loop or below one; the first by place is named.
 --   mostSteps        ==  32
---   Rule12 run       ==  above no entity of the run, named by its ID, stands a chain of more than 32 steps
---   Endless run i    ==  above the entity at place i stands one
+--   Upstream run d i ==  a chain of d steps goes upstream from the entity at place i
+--   Endless run i    ==  a chain of more than 32 steps does
+--   Rule12 run       ==  from no entity of the run does one
+--   Ranking run rank ==  the rank, on IDs, is lower at each source than at its user
 --   allSettled now l ==  all of the places l are settled
 --   settledIn run    ==  which places of the run are settled after 32 rounds
 --   breach12 run     ==  the place of the first entity that is not
-use Prim.Native.Nat.{ℕ}
+use Prim.Native.Nat.{ℕ, zero, suc, _<_}
 use mathlib.Core.Bool.{Bool, false, not}
 use mathlib.Core.List.{List}
 use lib.ListN.{getD}
@@ -16,20 +18,27 @@ use Rattle.ground.specs.declared.Place.the-variants.{Nowhere, At}
 use Rattle.entities.specs.declared.Run.{Run}
 use Rattle.entities.specs.Run.{mostEntities}
 use Rattle.graph.specs.Members.{_∈_, all}
-use Rattle.graph.specs.Chains.{Longer}
 use Rattle.graph.specs.Rounds.{settlingRounds}
-use Rattle.sources.specs.Held.{held, idAt, placeAt, linkedTo}
+use Rattle.sources.specs.Held.{held, idAt, placeAt, sourcesAt, linkedTo}
 use Rattle.sources.specs.Firsts.{firstIn}
-use Rattle.sources.specs.Lookup.{linksOf, sourcesById, idsOf}
+use Rattle.sources.specs.Lookup.{linksOf}
+use Rattle.sources.specs.Rules.{Bears}
 
 abbrev pub mostSteps : ℕ
 mostSteps = 32
 
-abbrev pub Rule12 : Run → Type 0
-Rule12 run = (a : ℕ) → a ∈ idsOf run → Longer (sourcesById run) mostSteps a → ⊥
+pub data Upstream (run : Run) : ℕ → ℕ → Type 0 where
+  ends : {i : ℕ} → Upstream run zero i
+  up : {d i j s : ℕ} → s ∈ sourcesAt run i → Bears run s j → Upstream run d j → Upstream run (suc d) i
 
 abbrev pub Endless : Run → ℕ → Type 0
-Endless run i = Longer (sourcesById run) mostSteps (idAt run i)
+Endless run i = (d : ℕ) × (mostSteps < d) × Upstream run d i
+
+abbrev pub Rule12 : Run → Type 0
+Rule12 run = (i : ℕ) → i < held run → Endless run i → ⊥
+
+abbrev pub Ranking : Run → (ℕ → ℕ) → Type 0
+Ranking run rank = (i : ℕ) → i < held run → (s : ℕ) → s ∈ sourcesAt run i → rank s < rank (idAt run i)
 
 -- what the reader computes
 unfoldable pub allSettled : List Bool → List ℕ → Bool

@@ -2,13 +2,16 @@
 -- source stands at a place of the run. So graph's laws on places and names speak of the run.
 --   lookup-own      ==  an ID of the run is found where it stands
 --   entity-own, sources-own  ==  the entity with that ID, and its sources, are those at the place
+--   each-own        ==  what is said of each place and the ID there is said of each ID and the place where it is found
+--   source-borne    ==  the ID of a source is borne at the place where it is found
 --   links-at        ==  where the pins of a place go
 --   closed-links    ==  each pin of an entity of the run goes to an entity of the run
 --   names-links     ==  .. whose ID is the source ID at that pin
 --   id-in           ==  the ID at each place is one of the run's; in-ids: and each of the run's IDs stands at a place
 --   ids-few         ==  a run has at most 32 of them
 use Prim.Native.Nat.{ℕ, zero, suc, _≤_, _<_}
-use mathlib.Core.Path.{_≡_, refl, sym, ap, _∙_}
+use mathlib.Core.Path.{_≡_, refl, sym, ap, _∙_, subst}
+use mathlib.Core.Logic.{_↔_}
 use mathlib.Core.List.{List, [], _∷_, map, map-map, map-id, Memᴰ·of-map}
 use native.Mathlib.Omega.{arith}
 use lib.Dec.{eqb}
@@ -25,7 +28,7 @@ use Rattle.sources.specs.declared.Found.the-variants.{Nothing, At}
 use Rattle.sources.specs.Held.{held, nodeAt, entityAt, idAt, sourcesAt, blankLink, linked, linkedTo}
 use Rattle.sources.specs.Firsts.{Told, nothing, first, told, first-some}
 use Rattle.sources.specs.Lookup.{lookupBelow, indexOf, placeOf, linkOf, linksOf, entityById, sourcesById, idsOf}
-use Rattle.sources.specs.Rules.{Rule10, unknown, Rule11}
+use Rattle.sources.specs.Rules.{Rule10, Bears, unknown, Rule11}
 
 take-map : {A B : Type 0} (f : A → B) (n : ℕ) (l : List A) → take n (map f l) ≡ map f (take n l)
 take-map f zero l = refl
@@ -64,11 +67,16 @@ module _ (run : Run) (rule10 : Rule10 run) where
   pub sources-own : (i : ℕ) → i < held run → sourcesById run (idAt run i) ≡ sourcesAt run i
   sources-own i l = ap (sourcesAt run) (lookup-own i l)
 
+  pub each-own : (P : ℕ → ℕ → Type 0) → ((i : ℕ) → i < held run → P (idAt run i) i) ↔ ((a : ℕ) → a ∈ idsOf run → P a (placeOf run a))
+  each-own P = (
+    λ h a m. let x = in-ids run a m in subst (λ (y : ℕ). P y (placeOf run y)) (x .2) (subst (P (idAt run (x .0))) (sym (lookup-own (x .0) (x .1))) (h (x .0) (x .1))),
+    λ h i l. subst (P (idAt run i)) (lookup-own i l) (h (idAt run i) (id-in run l)),
+  )
+
   module _ (rule11 : Rule11 run) where
-    -- a source of an entity of the run stands at a place of the run, and bears its ID
-    source-placed : (i : ℕ) → i < held run → (s : ℕ) → s ∈ sourcesAt run i → (placeOf run s < held run) × (idAt run (placeOf run s) ≡ s)
+    pub source-borne : (i : ℕ) → i < held run → (s : ℕ) → s ∈ sourcesAt run i → Bears run s (placeOf run s)
     unfolding placeOf lookupBelow indexOf
-    source-placed i l s m = go (told (λ j. eqb (idAt run j) s) At Nothing (held run))
+    source-borne i l s m = go (told (λ j. eqb (idAt run j) s) At Nothing (held run))
       where
         go : {r : Found} → Told (λ j. eqb (idAt run j) s) At Nothing (held run) r → (indexOf r < held run) × (idAt run (indexOf r) ≡ s)
         go (nothing h) = absurd (rule11 i l s m (unknown (λ j b. eqb-false _ _ (h j (b .0)) (b .1))))
@@ -77,7 +85,7 @@ module _ (run : Run) (rule10 : Rule10 run) where
     pub closed-links : ClosedBelow (linkedTo (linksOf run)) (held run)
     closed-links i l j m =
         let x = Memᴰ·of-map (placeOf run) (sourcesAt run i) (along (links-at run i (omega arith)) m) in
-        let p = source-placed i l (x .0) (x .1) .0 in
+        let p = source-borne i l (x .0) (x .1) .0 in
         let e = x .2 in
         omega arith
 
@@ -85,6 +93,6 @@ module _ (run : Run) (rule10 : Rule10 run) where
     names-links i l =
         ap (map (idAt run)) (links-at run i (omega arith))
         ∙ map-map (idAt run) (placeOf run) (sourcesAt run i)
-        ∙ map-same (λ s. idAt run (placeOf run s)) (λ s. s) (sourcesAt run i) (λ s m. source-placed i l s m .1)
+        ∙ map-same (λ s. idAt run (placeOf run s)) (λ s. s) (sourcesAt run i) (λ s m. source-borne i l s m .1)
         ∙ map-id (sourcesAt run i)
         ∙ sym (sources-own i l)
