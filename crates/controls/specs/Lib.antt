@@ -3,5 +3,6 @@ pub mod Growth
 pub mod Counts
 pub mod Standing
 pub mod Order
+pub mod Rule
 pub mod Reader
 pub mod Examples

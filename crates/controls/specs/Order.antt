@@ -34,7 +34,7 @@ pairs-append R {m = m} (more {a} {l} f p) q h =
     (pairs-append R p q (λ x y i. h x y (List·Memᴰ·tail i)))
 
 -- elements that have P, related by R, are related by S
-pairs-as : {A : Type 0} (P : A → Type 0) (R S : A → A → Type 0) {l : List A} → ((a b : A) → P a → P b → R a b → S a b) → ((a : A) → List·Memᴰ a l → P a) → Pairs R l → Pairs S l
+pub pairs-as : {A : Type 0} (P : A → Type 0) (R S : A → A → Type 0) {l : List A} → ((a b : A) → P a → P b → R a b → S a b) → ((a : A) → List·Memᴰ a l → P a) → Pairs R l → Pairs S l
 pairs-as P R S h g none = none
 pairs-as P R S h g (more f p) =
     more (λ b i. h _ b (g _ (List·Memᴰ·head refl)) (g b (List·Memᴰ·tail i)) (f b i)) (pairs-as P R S h (λ x i. g x (List·Memᴰ·tail i)) p)

@@ -1,24 +1,19 @@
--- The reader's table and rule 15.
---   Rule15 ds cs     ==  at most 128 controls
---   rule15-kept      ==  the reader answers nowhere exactly where the rule is kept
---   rule15-broken    ==  it answers the header's place exactly where it is broken
+-- The reader's table, of a run with right layouts and distinct IDs that keeps rule 15.
 --   InTable t x      ==  the control x stands in the table t
---   table-stands     ==  a control stands in the table exactly where some entity of the run carries it
 --   controls-run     ==  the controls of a run as the reader has it are those of its descriptors
---   reader-sound, run-sound ==  refusal 30 has nothing against the table of a run's controls
+--   table-stands     ==  a control stands in the table exactly where some entity of the run carries it
+--   table-ordered    ==  of two places of the table the earlier holds the control that is Before the other
+--   reader-sound     ==  refusal 30 has nothing against the table
 use Prim.Native.Nat.{ℕ, zero, suc, _+_, _≤_, _<_}
 use mathlib.Core.Path.{_≡_, refl, sym, ap, _∙_}
-use mathlib.Core.Bool.{true}
-use mathlib.Core.Logic.{inl, inr, _↔_}
+use mathlib.Core.Logic.{_↔_}
 use mathlib.Core.List.{List, [], _∷_, _++_, flatten, append-assoc, List·Memᴰ, List·Memᴰ·head, List·Memᴰ·tail}
 use native.Mathlib.Omega.{arith}
 use lib.ListN.{length, getD, drop, length-append}
 use lib.Seq.{getD-append-seam}
-use Rattle.ground.specs.declared.Place.the-variants.{Nowhere, At}
-use Rattle.ground.specs.Pick.{shows, true≠false, reads-le}
+use Rattle.ground.specs.Pick.{true≠false}
 use Rattle.ground.specs.Numbers.{byte}
 use Rattle.ground.specs.Lists.{part, pad-at, split-of}
-use Rattle.ground.specs.Refuse.{kept-nowhere, kept-at}
 use Rattle.scan.specs.Cutting.{Descriptor, endAt}
 use Rattle.scan.specs.CuttingLaws.{starts-end, starts-part, starts-next}
 use Rattle.layout.specs.declared.Cluster.{Cluster}
@@ -26,7 +21,7 @@ use Rattle.layout.specs.Layout.{LaidOut, entityOf}
 use Rattle.layout.specs.Layout as layout
 use Rattle.entities.specs.declared.Node.{Node}
 use Rattle.entities.specs.Run.{mostEntities, nodeOf, nodesFrom, runIn}
-use Rattle.entities.specs.RunLaws.{run-nodes, OwnIds, DistinctIds, laid-distinct}
+use Rattle.entities.specs.RunLaws.{run-nodes, DistinctIds}
 use Rattle.setting.specs.declared.Sort.{Sort}
 use Rattle.setting.specs.declared.Sort.the-variants.{Volume, Tone, Delay}
 use Rattle.table.specs.declared.Control.{Control}
@@ -34,24 +29,12 @@ use Rattle.table.specs.declared.Table.{Table}
 use Rattle.table.specs.declared.Sense.{Sense}
 use Rattle.table.specs.declared.Sense.the-variants.{YesNo, Ranged}
 use Rattle.table.specs.Controls.{mostControls, blankControl, at, senseOf}
-use Rattle.table.specs.Sound.{soundOf}
-use Rattle.table.specs.Meaning.{SoundAs, Same, Sound, sound-reads}
-use Rattle.controls.specs.Controls.{unitControl, entityControls, controlsOf, nodeControls, controlsIn, controlsOfRun, breach15}
+use Rattle.table.specs.Meaning.{SoundAs, Sound}
+use Rattle.controls.specs.Controls.{unitControl, entityControls, controlsOf, nodeControls, controlsIn, controlsOfRun}
 use Rattle.controls.specs.Growth.{tableOf}
 use Rattle.controls.specs.Standing.{Carries, feature, selector, Stands, here, there, stands-of, control-stands}
 use Rattle.controls.specs.Order.{member-at, pairs-at, Before, controls-ordered}
-
-abbrev pub Rule15 : List (List ℕ) → List Cluster → Type 0
-Rule15 ds cs = length (controlsOf ds cs) ≤ mostControls
-
-module _ (ds : List (List ℕ)) (cs : List Cluster) (p : ℕ) where
-  pub rule15-kept : (breach15 (tableOf (controlsOf ds cs) .count) p ≡ Nowhere) ↔ Rule15 ds cs
-  unfolding breach15 tableOf
-  rule15-kept = kept-nowhere p (reads-le (length (controlsOf ds cs)) mostControls)
-
-  pub rule15-broken : (q : ℕ) → (breach15 (tableOf (controlsOf ds cs) .count) p ≡ At q) ↔ ((q ≡ p) × (Rule15 ds cs → ⊥))
-  unfolding breach15 tableOf
-  rule15-broken q = kept-at p q (reads-le (length (controlsOf ds cs)) mostControls)
+use Rattle.controls.specs.Rule.{Rule15, before-other, listed-few}
 
 -- the run's descriptors stand in the configuration s from place p on
 nodes-controls : (s : List ℕ) (p : ℕ) (ds : List (List ℕ)) (cs : List Cluster) (tail : List ℕ) → drop p s ≡ flatten ds ++ tail → ((d : List ℕ) → List·Memᴰ d ds → Descriptor d) → controlsIn s (nodesFrom p ds) cs ≡ controlsOf ds cs
@@ -79,30 +62,6 @@ pub record InTable (t : Table) (x : Control) : Type 0 where
   pub place : ℕ
   pub inside : place < t .count
   pub stands : at t place ≡ x
-
--- THE LAW: a control stands in the table exactly where some entity of the run carries it
-pub table-stands : (ds : List (List ℕ)) (cs : List Cluster) → ((d : List ℕ) → List·Memᴰ d ds → LaidOut d) → Rule15 ds cs → (x : Control) → InTable (tableOf (controlsOf ds cs)) x ↔ Stands ds cs x
-unfolding tableOf
-table-stands ds cs laid few x = (of, to)
-  where
-    l : List Control
-    l = controlsOf ds cs
-
-    of : InTable (tableOf l) x → Stands ds cs x
-    of k =
-        let e : getD l (k .place) blankControl ≡ x = sym (at-place l few (k .place) (k .inside)) ∙ k .stands in
-        stands-of ds cs x (rw (← e) (member-at blankControl l (k .place) (k .inside)))
-
-    to : Stands ds cs x → InTable (tableOf l) x
-    to h =
-        let k = split-of (control-stands ds cs laid x .1 h) in
-        let a = k .0 in
-        let n : length l ≡ length a + suc (length (k .1)) = ap length (k .2) ∙ length-append a (x ∷ k .1) in
-        record {
-          place = length a;
-          inside = omega arith;
-          stands = at-place l few (length a) (omega arith) ∙ ap (λ (m : List Control). getD m (length a) blankControl) (k .2) ∙ getD-append-seam a x (k .1) blankControl;
-        }
 
 -- what a Feature Unit's control may hold
 data Held : Sense → Type 0 where
@@ -147,37 +106,46 @@ stands-at : (z : Cluster) {ds : List (List ℕ)} {cs : List Cluster} {x : Contro
 stands-at z (here h) = (0, omega arith, h)
 stands-at z (there h) = let r = stands-at z h in (suc (r .0), let l = r .1 in omega arith, r .2)
 
-before-other : (ds : List (List ℕ)) → DistinctIds (λ d. byte d 3) ds → (a b : Control) → Before ds a b → Same a b → ⊥
-before-other ds h a b (inl e) s = h (e .before) (e .one) (e .behind) (e .other) (e .split) (e .among) (e .first ∙ s .unit ∙ sym (e .second))
-before-other ds h a b (inr (u, inl l)) s = let c = s .channel in omega arith
-before-other ds h a b (inr (u, inr (k, l))) s = let c = s .selector in omega arith
+module _ (ds : List (List ℕ)) (cs : List Cluster) (laid : (d : List ℕ) → List·Memᴰ d ds → LaidOut d) (distinct : DistinctIds (λ d. byte d 3) ds) (rule : Rule15 ds cs) where
+  abbrev listed : List Control
+  listed = controlsOf ds cs
 
--- THE THEOREM: a run with right layouts, distinct IDs, at most 16 channels at each place and at most 128 controls gives a table
--- that refusal 30 does not turn away
-module _ (ds : List (List ℕ)) (cs : List Cluster) (z : Cluster)
-    (laid : (d : List ℕ) → List·Memᴰ d ds → LaidOut d) (distinct : DistinctIds (λ d. byte d 3) ds)
-    (channels : (i : ℕ) → i < length ds → getD cs i z .channels ≤ 16) (few : Rule15 ds cs) where
-  pub reader-sound : Sound (tableOf (controlsOf ds cs))
+  few : length listed ≤ mostControls
+  few = listed-few ds cs laid distinct .1 rule
+
+  -- THE LAW: a control stands in the table exactly where some entity of the run carries it
+  pub table-stands : (x : Control) → InTable (tableOf listed) x ↔ Stands ds cs x
   unfolding tableOf
-  reader-sound = record { few = few; once = once; each = each }
+  table-stands x = (of, to)
     where
-      once : (p q : ℕ) → p < q → q < tableOf (controlsOf ds cs) .count → Same (at (tableOf (controlsOf ds cs)) p) (at (tableOf (controlsOf ds cs)) q) → ⊥
-      once p q l h s =
-          before-other ds distinct (getD (controlsOf ds cs) p blankControl) (getD (controlsOf ds cs) q blankControl)
-          (pairs-at (Before ds) blankControl (controls-ordered ds cs) p q l h)
-          (rw (at-place (controlsOf ds cs) few p (omega arith), at-place (controlsOf ds cs) few q h) at s)
+      of : InTable (tableOf listed) x → Stands ds cs x
+      of k =
+          let e : getD listed (k .place) blankControl ≡ x = sym (at-place listed few (k .place) (k .inside)) ∙ k .stands in
+          stands-of ds cs x (rw (← e) (member-at blankControl listed (k .place) (k .inside)))
 
-      each : (p : ℕ) → p < tableOf (controlsOf ds cs) .count → SoundAs (senseOf (at (tableOf (controlsOf ds cs)) p .selector)) (at (tableOf (controlsOf ds cs)) p)
+      to : Stands ds cs x → InTable (tableOf listed) x
+      to h =
+          let k = split-of (control-stands ds cs laid x .1 h) in
+          let a = k .0 in
+          let n : length listed ≡ length a + suc (length (k .1)) = ap length (k .2) ∙ length-append a (x ∷ k .1) in
+          record {
+            place = length a;
+            inside = omega arith;
+            stands = at-place listed few (length a) (omega arith) ∙ ap (λ (m : List Control). getD m (length a) blankControl) (k .2) ∙ getD-append-seam a x (k .1) blankControl;
+          }
+
+  -- THE LAW: the table goes by entity place, channel, selector
+  pub table-ordered : (p q : ℕ) → p < q → q < tableOf listed .count → Before ds (at (tableOf listed) p) (at (tableOf listed) q)
+  unfolding tableOf
+  table-ordered p q l h =
+      rw (at-place listed few p (omega arith), at-place listed few q h) (pairs-at (Before ds) blankControl (controls-ordered ds cs) p q l h)
+
+  -- THE THEOREM: with at most 16 channels at each place, refusal 30 does not turn the table away
+  pub reader-sound : (z : Cluster) → ((i : ℕ) → i < length ds → getD cs i z .channels ≤ 16) → Sound (tableOf listed)
+  unfolding tableOf
+  reader-sound z channels = record { few = few; once = λ p q l h. before-other ds distinct _ _ (table-ordered p q l h); each = each }
+    where
+      each : (p : ℕ) → p < tableOf listed .count → SoundAs (senseOf (at (tableOf listed) p .selector)) (at (tableOf listed) p)
       each p h =
-          let r = stands-at z (stands-of ds cs (getD (controlsOf ds cs) p blankControl) (member-at blankControl (controlsOf ds cs) p h)) in
-          rw (at-place (controlsOf ds cs) few p h) (carried-sound (laid (getD ds (r .0) []) (member-at [] ds (r .0) (r .1))) (channels (r .0) (r .1)) (r .2))
-
-  pub reader-accepted : soundOf (tableOf (controlsOf ds cs)) ≡ true
-  reader-accepted = shows (sound-reads (tableOf (controlsOf ds cs))) reader-sound
-
--- the same of a run as the reader has it: its descriptors stand in the configuration s from place p on, and its entities bear their own IDs
-pub run-sound : (s : List ℕ) (p : ℕ) (ds : List (List ℕ)) (cs : List Cluster) (z : Cluster) (tail : List ℕ) → drop p s ≡ flatten ds ++ tail → ((d : List ℕ) → List·Memᴰ d ds → Descriptor d)
-    → length ds ≤ mostEntities → ((d : List ℕ) → List·Memᴰ d ds → LaidOut d) → OwnIds (runIn p ds)
-    → ((i : ℕ) → i < length ds → getD cs i z .channels ≤ 16) → Rule15 ds cs → soundOf (tableOf (controlsOfRun s (runIn p ds) cs)) ≡ true
-run-sound s p ds cs z tail e h few laid own channels rule =
-    rw (controls-run s p ds cs tail e h few) (reader-accepted ds cs z laid (laid-distinct p ds few laid own) channels rule)
+          let r = stands-at z (stands-of ds cs (getD listed p blankControl) (member-at blankControl listed p h)) in
+          rw (at-place listed few p h) (carried-sound (laid (getD ds (r .0) []) (member-at [] ds (r .0) (r .1))) (channels (r .0) (r .1)) (r .2))

@@ -2,6 +2,7 @@
 -- controls and the room for the records are those of the rules.
 --   clusters-shown  ==  the array's places of the run hold those clusters, in the entities' order
 --   terminals-same, controls-same  ==  the Terminals and the controls that the reader has are those with these clusters
+--   distinct-ids    ==  the descriptors of the run have distinct IDs
 --   reads-room      ==  the test of room decides rule 16
 use Prim.Native.Nat.{ℕ, _*_, _≤_}
 use mathlib.Core.Path.{_≡_, refl, sym, ap, _∙_}
@@ -9,12 +10,13 @@ use mathlib.Core.List.{List, [], _∷_, _++_, map-map, map-id}
 use lib.ListN.{length, take, getD}
 use native.Mathlib.Omega.{arith}
 use Rattle.ground.specs.Pick.{Reads, reads-le}
+use Rattle.ground.specs.Numbers.{byte}
 use Rattle.ground.specs.Lists.{pad-length}
 use Rattle.layout.specs.declared.Cluster.{Cluster}
 use Rattle.entities.specs.declared.Node.{Node}
 use Rattle.entities.specs.declared.Run.{Run}
 use Rattle.entities.specs.Run.{mostEntities, nodesFrom, blankNode, runIn}
-use Rattle.entities.specs.RunLaws.{nodes-length}
+use Rattle.entities.specs.RunLaws.{nodes-length, DistinctIds, laid-distinct}
 use Rattle.cutting.specs.Rules.{Kept}
 use Rattle.graph.specs.Members.{map-same}
 use Rattle.graph.specs.Tables.{below, below-lt}
@@ -95,3 +97,6 @@ module _ (s : List ℕ) (k : Kept s) where
     pub one-terminal : (cs : List Cluster) → OneEach (terminalsOf (entitiesOf k) cs)
     unfolding runIn
     one-terminal cs = one-each-run (entitiesOf k) cs (pad-length blankNode mostEntities (nodesFrom (placeOfRun k) (k .rule6 .run))) (c .rule10 .own)
+
+    pub distinct-ids : DistinctIds (λ d. byte d 3) (k .rule6 .run)
+    distinct-ids = laid-distinct (placeOfRun k) (k .rule6 .run) few (k .rule9) (c .rule10 .own)

@@ -17,7 +17,7 @@ use Rattle.clusters.specs.Edition.{Connected}
 use Rattle.clusters.specs.Audio.{audio}
 use Rattle.streaming.specs.Terminals.{terminalsOf}
 use Rattle.streaming.specs.Rule.{Rule14}
-use Rattle.controls.specs.Reader.{Rule15}
+use Rattle.controls.specs.Rule.{Rule15}
 use Rattle.records.specs.Records.{recordSize}
 use Rattle.demands.specs.Surveyed.{entitiesOf}
 

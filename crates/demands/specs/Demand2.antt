@@ -17,7 +17,6 @@ use Rattle.layout.specs.declared.Cluster.{Cluster}
 use Rattle.layout.specs.declared.Entity.{Entity}
 use Rattle.layout.specs.declared.Entity.the-variants.{Unknown, Input, Output, Mixer, Selector, Printed, Feature}
 use Rattle.entities.specs.declared.Run.{Run}
-use Rattle.entities.specs.RunLaws.{laid-distinct}
 use Rattle.graph.specs.Members.{_∈_}
 use Rattle.channels.specs.Declared.{mostChannels}
 use Rattle.sources.specs.Held.{held, entityAt, idAt, sourcesAt}
@@ -40,9 +39,9 @@ use Rattle.runs.proofs.Answers.{Answers, get-answers}
 use Rattle.runs.proofs.Moved.{Moved, whole-run}
 use Rattle.topology.specs.declared.Reading.{Reading}
 use Rattle.topology.specs.Reading.{readingOf}
-use Rattle.demands.specs.Surveyed.{placeOfRun, entitiesOf}
+use Rattle.demands.specs.Surveyed.{entitiesOf}
 use Rattle.demands.specs.Configuration.{Configuration}
-use Rattle.demands.specs.Arrays.{held-all}
+use Rattle.demands.specs.Arrays.{held-all, distinct-ids}
 use Rattle.demands.specs.Refusals.{Shown}
 use Rattle.demands.specs.Demand3.{run, clusters, controls, cluster-shows, answer-shows}
 use Rattle.demands.specs.Demand1.{RefusedReading, reader-answers}
@@ -79,12 +78,10 @@ module _ (r : Run) (c : Connected audio r) where
 
 configuration-table : (s : List ℕ) (t : Configuration s) → Sound (tableOf (controls s t))
 configuration-table s t =
-    reader-sound (run s t) (clusters s t) blankCluster (t .kept .rule9)
-    (laid-distinct (placeOfRun (t .kept)) (run s t) (t .kept .rule8 .1) (t .kept .rule9) (t .connected .rule10 .own))
+    reader-sound (run s t) (clusters s t) (t .kept .rule9) (distinct-ids s (t .kept) (t .connected)) (t .rule15) blankCluster
     (λ i h. let e = held-all s (t .kept) in
     subst (λ (k : Cluster). k .channels ≤ mostChannels) (sym (cluster-shows s t i h))
     (few-channels (entitiesOf (t .kept)) (t .connected) i (omega arith)))
-    (t .rule15)
 
 empty-sound : Sound emptyTable
 empty-sound = record { few = zero-le; once = λ p q l h. absurd (omega arith); each = λ p h. absurd (omega arith) }

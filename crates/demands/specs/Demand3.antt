@@ -12,7 +12,7 @@
 --   controls-stand, controls-order  ==  a control is in the table exactly where an entity carries it; and the table's order
 use Prim.Native.Nat.{ℕ, zero, suc, _+_, _*_, _≤_, _<_}
 use mathlib.Core.Path.{_≡_, refl, sym, ap, _∙_, subst}
-use mathlib.Core.List.{List, [], _++_, append-assoc, List·Memᴰ}
+use mathlib.Core.List.{List, [], _++_, append-assoc}
 use mathlib.Core.Logic.{_⊎_, inl, inr, ⊎-elim, _↔_}
 use lib.ListN.{length, getD, take, drop, length-append}
 use lib.Seq.{getD-take, take-at, drop-at}
@@ -41,14 +41,16 @@ use Rattle.clusters.specs.Topology.{settled-topology}
 use Rattle.table.specs.declared.Control.{Control}
 use Rattle.controls.specs.Controls.{controlsOf}
 use Rattle.controls.specs.Growth.{tableOf}
-use Rattle.controls.specs.Standing.{Stands, control-stands}
-use Rattle.controls.specs.Order.{Pairs, member-at, Before, controls-ordered}
+use Rattle.table.specs.Controls.{at}
+use Rattle.controls.specs.Standing.{Stands}
+use Rattle.controls.specs.Order.{member-at, Before}
+use Rattle.controls.specs.Reader.{InTable, table-stands, table-ordered}
 use Rattle.records.specs.Records.{recordSize, blankCluster, headOf, recordOf, recordsTo, shownIn}
 use Rattle.topology.specs.declared.Reading.{Reading}
 use Rattle.topology.specs.Reading.{clustersAt, verdictOf, refusedReading, takenReading, readingOf, sheetOf}
 use Rattle.demands.specs.Surveyed.{placeOfRun, entitiesOf, keptSurvey, survey-kept}
 use Rattle.demands.specs.Configuration.{clustersBy, Configuration, Rule16}
-use Rattle.demands.specs.Arrays.{held-all, reads-room, clusters-run, controls-same}
+use Rattle.demands.specs.Arrays.{held-all, reads-room, clusters-run, controls-same, distinct-ids}
 use Rattle.demands.specs.Refusals.{accepted-exactly}
 
 -- a sheet that holds 32 records
@@ -144,11 +146,15 @@ module _ (s : List ℕ) (t : Configuration s) where
       ∙ shown-is d h
 
   -- a control is in the table exactly where some entity carries it, and the table goes by entity place, channel, selector
-  pub controls-stand : (x : Control) → List·Memᴰ x controls ↔ Stands run clusters x
-  controls-stand = control-stands run clusters (t .kept .rule9)
+  pub controls-stand : (room : ℕ) → Rule16 run room → (x : Control) → InTable (readingOf s room .table) x ↔ Stands run clusters x
+  controls-stand room h x =
+      subst (λ (r : Reading). InTable (r .table) x ↔ Stands run clusters x) (sym (answer-shows room h))
+      (table-stands run clusters (t .kept .rule9) (distinct-ids s (t .kept) (t .connected)) (t .rule15) x)
 
-  pub controls-order : Pairs (Before run) controls
-  controls-order = controls-ordered run clusters
+  pub controls-order : (room : ℕ) → Rule16 run room → (p q : ℕ) → p < q → q < readingOf s room .table .count → Before run (at (readingOf s room .table) p) (at (readingOf s room .table) q)
+  controls-order room h p q l =
+      subst (λ (r : Reading). q < r .table .count → Before run (at (r .table) p) (at (r .table) q)) (sym (answer-shows room h))
+      (table-ordered run clusters (t .kept .rule9) (distinct-ids s (t .kept) (t .connected)) (t .rule15) p q l)
 
   -- the i-th entity is what the i-th descriptor of the run says, and bears the ID at its byte 3
   pub entity-shows : (i : ℕ) → i < length run → nodeAt entities i ≡ nodeOf (placeOfRun (t .kept) + total (take i run)) (getD run i [])

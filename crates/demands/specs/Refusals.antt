@@ -33,12 +33,12 @@ use Rattle.streaming.specs.Rule.{Breaks14}
 use Rattle.streaming.specs.Breaches.{rule14-kept, rule14-broken}
 use Rattle.controls.specs.Controls.{controlsOfRun, breach15}
 use Rattle.controls.specs.Growth.{tableOf}
-use Rattle.controls.specs.Reader.{rule15-kept, rule15-broken}
+use Rattle.controls.specs.Rule.{rule15-kept, rule15-broken}
 use Rattle.records.specs.Records.{roomFor}
 use Rattle.topology.specs.Reading.{restJudged, runJudged, surveyJudged, verdictOf}
 use Rattle.demands.specs.Surveyed.{entitiesOf, survey-kept}
 use Rattle.demands.specs.Configuration.{clustersBy, Streams, FewControls, Configuration, Rule16}
-use Rattle.demands.specs.Arrays.{reads-room, terminals-same, controls-same, one-terminal}
+use Rattle.demands.specs.Arrays.{reads-room, terminals-same, controls-same, one-terminal, distinct-ids}
 
 pub data Refused (s : List ℕ) (room : ℕ) : ℕ → ℕ → Type 0 where
   by-cutting : {n p : ℕ} → cut.Refused s n p → Refused s room n p
@@ -105,10 +105,10 @@ module _ (s : List ℕ) (room : ℕ) where
     breaks14 p = rw (terminals-same s k c) (rule14-broken (terminalsOf (entitiesOf k) (clustersBy (entitiesOf k) c)) (one-terminal s k c (clustersBy (entitiesOf k) c)) s (k .opened .descriptors) (k .opened .rule3) p)
 
     keeps15 : (found15 ≡ Nowhere) ↔ FewControls k c
-    keeps15 = rw (controls-same s k c) (rule15-kept (k .rule6 .run) (clustersBy (entitiesOf k) c) (headerPlace (k .opened)))
+    keeps15 = rw (controls-same s k c) (rule15-kept (k .rule6 .run) (clustersBy (entitiesOf k) c) (k .rule9) (distinct-ids s k c) (headerPlace (k .opened)))
 
     breaks15 : (p : ℕ) → (found15 ≡ At p) ↔ ((p ≡ headerPlace (k .opened)) × (FewControls k c → ⊥))
-    breaks15 p = rw (controls-same s k c) (rule15-broken (k .rule6 .run) (clustersBy (entitiesOf k) c) (headerPlace (k .opened)) p)
+    breaks15 p = rw (controls-same s k c) (rule15-broken (k .rule6 .run) (clustersBy (entitiesOf k) c) (k .rule9) (distinct-ids s k c) (headerPlace (k .opened)) p)
 
     keeps16 : (found16 ≡ Nowhere) ↔ Rule16 (k .rule6 .run) room
     keeps16 = kept-nowhere (headerPlace (k .opened)) (reads-room s k room)
