@@ -19,7 +19,7 @@ use ranks::MOST_STEPS;
 use sources::Link;
 
 // No channels.
-pub fn no_cluster() -> Cluster
+fn no_cluster() -> Cluster
     ensures { λ r. ⌜ r ≡ noCluster ⌝ }
 {
     Cluster {

@@ -92,7 +92,7 @@ fn rounds(links: [Link; 32]) -> [bool; 32]
 }
 
 // Which places of a run settle.
-pub fn settled(run: Run) -> [bool; 32]
+fn settled(run: Run) -> [bool; 32]
     ensures { λ r. ⌜ r ≡ settledIn run ⌝ }
 {
     rounds(sources::links(run))

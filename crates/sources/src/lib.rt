@@ -110,7 +110,7 @@ fn find_below(run: Run, n: usize, id: u8) -> Found
 }
 
 // The entity that bears an ID.
-pub fn find(run: Run, id: u8) -> Found
+fn find(run: Run, id: u8) -> Found
     ensures { λ r. ⌜ r ≡ lookup run id ⌝ }
 {
     find_below(run, count(run), id)
