@@ -7,7 +7,8 @@
 --                           gives, "interface number 0, zero counts and an empty table; the sheet keeps its bytes"
 --   reader-refuses      ==  so it is wherever the number is not 0
 --   reader-answers      ==  the number is 0, and the bytes are a configuration with room for its records; or it refuses so
---   load-refuses, request-refuses  ==  a refused load or request has one of the papers' numbers, and leaves table and reply
+--   load-refuses, request-refuses  ==  every answer that the contract of a load or a request allows and whose number is not 0 has one
+--                                      of the papers' numbers, and leaves table and reply as they stood
 --   load-number, request-number    ==  .. which is that of the first row of the papers' table that applies; 0 where none does
 use Prim.Native.Nat.{ℕ}
 use mathlib.Core.Path.{_≡_, refl, sym, ap, _∙_}
@@ -20,13 +21,14 @@ use Rattle.ground.specs.Pick.{no, decided, reads-eq}
 use Rattle.setting.specs.declared.Range.{Range}
 use Rattle.table.specs.declared.Table.{Table}
 use Rattle.table.specs.Controls.{emptyTable}
-use Rattle.request.specs.Outcome.{Outcome, numberOf}
-use Rattle.request.specs.Outcome.Outcome.{refused}
+use Rattle.request.specs.declared.Answer.{Answer}
+use Rattle.request.specs.Outcome.{Outcome, numberOf, answerOf, Answered}
+use Rattle.request.specs.Outcome.Outcome.{refused, got, done}
 use Rattle.request.specs.Load.{loadOf}
 use Rattle.request.specs.Request.{requestOf}
 use Rattle.runs.specs.Rows.{firstRow, requestRows, loadRows}
 use Rattle.runs.proofs.Rows.{request-rows, load-rows}
-use Rattle.runs.proofs.Refusals.{Keeps, LoadNumber, RequestNumber, Numbered, load-numbers, request-numbers}
+use Rattle.runs.proofs.Refusals.{refused-keeps, LoadNumber, RequestNumber, Numbered, load-numbers, request-numbers}
 use Rattle.topology.specs.declared.Reading.{Reading}
 use Rattle.topology.specs.Reading.{verdictOf, refusedReading, readingOf, sheetOf}
 use Rattle.demands.specs.Refusals.{Refused, Shown, accepted-exactly, refused-exactly}
@@ -65,17 +67,29 @@ module _ (s d : List ℕ) where
       go (inl e) = inl (e, accepted-exactly s (length d) .0 (sym (number-told s (length d)) ∙ e))
       go (inr n) = inr (reader-refuses n)
 
-pub record RefusedStep (P : ℕ → Type 0) (t : Table) (b : List ℕ) (n : ℕ) (o : Outcome) : Type 0 where
-  pub named : P n
-  pub keeps : Keeps t b o
+-- what r, an answer that the contract allows, says of a refusal: one of the papers' numbers, nothing written, and the table as it stood
+pub record RefusedAnswer (Named : ℕ → Type 0) (t : Table) (r : Answer) : Type 0 where
+  pub named : Named (r .number)
+  pub none-written : r .written ≡ 0
+  pub table : r .table ≡ t
 
-pub load-refuses : (t : Table) (b : List ℕ) (u c v : ℕ) (range : Range) (w n : ℕ) → loadOf t u c v range w ≡ refused n → RefusedStep LoadNumber t b n (loadOf t u c v range w)
-unfolding Numbered
-load-refuses t b u c v range w n e = record { named = load-numbers t u c v range w n e; keeps = rw e (record { table = refl; reply = refl }) }
+answer-refuses : (Named : ℕ → Type 0) (t : Table) (o : Outcome) → Numbered Named o → (r : Answer) → r ≡ answerOf t o → (r .number ≡ 0 → ⊥) → RefusedAnswer Named t r
+unfolding Numbered answerOf
+answer-refuses Named t (refused n) named r e h = record { named = rw e (named n refl); none-written = ap (λ (x : Answer). x .written) e; table = ap (λ (x : Answer). x .table) e }
+answer-refuses Named t (got bytes) named r e h = absurd (h (ap (λ (x : Answer). x .number) e))
+answer-refuses Named t (done u) named r e h = absurd (h (ap (λ (x : Answer). x .number) e))
 
-pub request-refuses : (t : Table) (b : List ℕ) (i : ℕ) (setup «data» : List ℕ) (n : ℕ) → requestOf t i setup «data» (length b) ≡ refused n → RefusedStep RequestNumber t b n (requestOf t i setup «data» (length b))
-unfolding Numbered
-request-refuses t b i setup «data» n e = record { named = request-numbers t i setup «data» (length b) n e; keeps = rw e (record { table = refl; reply = refl }) }
+pub load-refuses : (t : Table) (u c v : ℕ) (range : Range) (w : ℕ) (r : Answer) → r ≡ answerOf t (loadOf t u c v range w) → (r .number ≡ 0 → ⊥) → RefusedAnswer LoadNumber t r
+load-refuses t u c v range w = answer-refuses LoadNumber t (loadOf t u c v range w) (load-numbers t u c v range w)
+
+-- a is what the reply, which held b, holds afterwards
+pub request-refuses : (t : Table) (i : ℕ) (setup «data» b : List ℕ) (r : Answer) (a : List ℕ) → Answered t (requestOf t i setup «data» (length b)) b r a → (r .number ≡ 0 → ⊥) → RefusedAnswer RequestNumber t r × (a ≡ b)
+unfolding answerOf
+request-refuses t i setup «data» b r a k h =
+    let o = requestOf t i setup «data» (length b) in (
+      answer-refuses RequestNumber t o (request-numbers t i setup «data» (length b)) r (k .result) h,
+      k .lent ∙ refused-keeps t b o (λ e. h (ap (λ (x : Answer). x .number) (k .result) ∙ e)) .reply,
+    )
 
 pub load-number : (t : Table) (u c v : ℕ) (range : Range) (w : ℕ) → numberOf (loadOf t u c v range w) ≡ firstRow (loadRows t u c v range w)
 load-number = load-rows

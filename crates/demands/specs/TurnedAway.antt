@@ -3,9 +3,9 @@
 -- acknowledges later ones (2, over runs), and counts of entities or controls not taken from the bytes (2)." Each is shown of whatever
 -- keeps the contract: functions that answer what the entry points' contracts say.
 --   Reads answers leaves  ==  these answer as the reader's contract says, and leave the sheet so
---   Responds answers      ==  this answers as the request's contract says
+--   Responds answers leaves  ==  these answer as the request's contract says, and leave the reply so
 --   ReadersTurnedAway, RespondersTurnedAway  ==  none of the wrong ones is such; with their proofs
-use Prim.Native.Nat.{ℕ}
+use Prim.Native.Nat.{ℕ, _<_}
 use mathlib.Core.Path.{_≡_, refl, sym, ap, _∙_}
 use mathlib.Core.List.{List, [], _∷_}
 use lib.ListN.{length}
@@ -16,7 +16,8 @@ use Rattle.table.specs.declared.Table.{Table}
 use Rattle.table.specs.Controls.{senseOf, answersTo}
 use Rattle.table.specs.First.{firstFrom, foundIn, unitIn}
 use Rattle.table.specs.Sound.{narrowOf, soundYesNo, soundPin, soundRanged, soundBy, soundControl, firstThere, soundPlace, soundOf}
-use Rattle.request.specs.Outcome.{Outcome, numberOf, bytesOf, tableAfter, lowFirst}
+use Rattle.request.specs.declared.Answer.{Answer}
+use Rattle.request.specs.Outcome.{numberOf, bytesOf, tableAfter, answerOf, laid, Answered, lowFirst}
 use Rattle.request.specs.Request.{getAsked, askedBy, askedOf, placeOf, addressedIn, lacking, unready, valueIn, settledBetween, settledOf, setTo, setBy, getBy, setFrom, getFrom, answerAsked, requestOf}
 use Rattle.runs.proofs.Case.{caseTable}
 use Rattle.topology.specs.declared.Reading.{Reading}
@@ -74,49 +75,60 @@ getMute = 0xA1 ∷ 0x81 ∷ 0 ∷ 1 ∷ 0 ∷ 2 ∷ 1 ∷ 0 ∷ []
 abbrev setMute : List ℕ
 setMute = 0x21 ∷ 0x01 ∷ 0 ∷ 1 ∷ 0 ∷ 2 ∷ 1 ∷ 0 ∷ []
 
+-- a reply of one byte, which is neither of a mute's
+abbrev reply : List ℕ
+reply = 7 ∷ []
+
 abbrev muted : Table → ℕ → Table
 muted t x = tableAfter t (requestOf t 0 setMute (x ∷ []) 0)
 
 record Mutes : Type 0 where
   answered : numberOf (requestOf caseTable 0 getMute [] 1) ≡ 0
   one-set : bytesOf (requestOf (muted caseTable 1) 0 getMute [] 1) ≡ 1 ∷ []
-  acknowledged : numberOf (requestOf (muted caseTable 1) 0 setMute (0 ∷ []) 0) ≡ 0
   two-sets : bytesOf (requestOf (muted (muted caseTable 1) 0) 0 getMute [] 1) ≡ 0 ∷ []
 
 mutes : Mutes
 unfolding requestOf answerAsked askedOf askedBy getAsked addressedIn placeOf setFrom getFrom setBy getBy setTo settledOf settledBetween valueIn unready lacking lowFirst soundOf soundPlace firstThere soundControl soundBy soundYesNo soundPin soundRanged narrowOf foundIn unitIn firstFrom senseOf answersTo fitsOf legalOf availableOf onGrid wholeSteps nearer closestHeight closestSetting closestTo
-mutes = record { answered = refl; one-set = refl; acknowledged = refl; two-sets = refl }
+mutes = record { answered = refl; one-set = refl; two-sets = refl }
 
-module _ (answers : Table → ℕ → List ℕ → List ℕ → ℕ → Outcome) where
+module _ (answers : Table → ℕ → List ℕ → List ℕ → List ℕ → Answer) (leaves : Table → ℕ → List ℕ → List ℕ → List ℕ → List ℕ) where
   abbrev pub Responds : Type 0
-  Responds = (t : Table) (n : ℕ) (setup «data» : List ℕ) (room : ℕ) → answers t n setup «data» room ≡ requestOf t n setup «data» room
+  Responds = (t : Table) (n : ℕ) (setup «data» b : List ℕ) → Answered t (requestOf t n setup «data» (length b)) b (answers t n setup «data» b) (leaves t n setup «data» b)
 
+  -- the table after a Set of mute
   abbrev next : Table → ℕ → Table
-  next t x = tableAfter t (answers t 0 setMute (x ∷ []) 0)
+  next t x = answers t 0 setMute (x ∷ []) [] .table
+
+  -- what a Get of mute leaves in the reply
+  abbrev told : Table → List ℕ
+  told t = leaves t 0 getMute [] reply
 
   pub record RespondersTurnedAway : Type 0 where
-    pub stalls-always : ((t : Table) (n : ℕ) (setup «data» : List ℕ) (room : ℕ) → numberOf (answers t n setup «data» room) ≡ 0 → ⊥) → ⊥
-    pub answers-zero : ((t : Table) (n : ℕ) (setup «data» : List ℕ) (room i : ℕ) → byte (bytesOf (answers t n setup «data» room)) i ≡ 0) → ⊥
-    pub stores-first : bytesOf (answers (next (next caseTable 1) 0) 0 getMute [] 1) ≡ bytesOf (answers (next caseTable 1) 0 getMute [] 1) → ⊥
+    pub stalls-always : ((t : Table) (n : ℕ) (setup «data» b : List ℕ) → answers t n setup «data» b .number ≡ 0 → ⊥) → ⊥
+    pub answers-zero : ((t : Table) (n : ℕ) (setup «data» b : List ℕ) (i : ℕ) → i < answers t n setup «data» b .written → byte (leaves t n setup «data» b) i ≡ 0) → ⊥
+    pub stores-first : told (next (next caseTable 1) 0) ≡ told (next caseTable 1) → ⊥
 
   pub responders-turned-away : Responds → RespondersTurnedAway
+  unfolding answerOf
   responders-turned-away r = record {
-    stalls-always = λ h. h caseTable 0 getMute [] 1 (ap numberOf (r caseTable 0 getMute [] 1) ∙ mutes .answered);
+    stalls-always = λ h. h caseTable 0 getMute [] reply (ap (λ (x : Answer). x .number) (r caseTable 0 getMute [] reply .result) ∙ mutes .answered);
     answers-zero = λ h.
-        let x : _≡_ {A = ℕ} 1 0 = sym (ap (λ (l : List ℕ). byte l 0) (ap bytesOf (r (muted caseTable 1) 0 getMute [] 1) ∙ mutes .one-set)) ∙ h (muted caseTable 1) 0 getMute [] 1 0 in
+        let w : answers (next caseTable 1) 0 getMute [] reply .written ≡ 1 = ap (λ (x : Answer). x .written) (r (next caseTable 1) 0 getMute [] reply .result) ∙ ap length (got-after (same caseTable 1) ∙ mutes .one-set) in
+        let x : _≡_ {A = ℕ} 1 0 = sym (ap (λ (l : List ℕ). byte l 0) (shown (same caseTable 1) (mutes .one-set))) ∙ h (next caseTable 1) 0 getMute [] reply 0 (omega arith) in
         omega arith;
     stores-first = λ h.
-        let x : _≡_ {A = ℕ} 0 1 = ap (λ (l : List ℕ). byte l 0) (sym (second ∙ mutes .two-sets) ∙ h ∙ (first ∙ mutes .one-set)) in
+        let x : _≡_ {A = ℕ} 0 1 = ap (λ (l : List ℕ). byte l 0) (sym (shown twice (mutes .two-sets)) ∙ h ∙ shown (same caseTable 1) (mutes .one-set)) in
         omega arith;
   }
     where
       same : (t : Table) (x : ℕ) → next t x ≡ muted t x
-      same t x = ap (tableAfter t) (r t 0 setMute (x ∷ []) 0)
+      same t x = ap (λ (a : Answer). a .table) (r t 0 setMute (x ∷ []) [] .result)
 
-      first : bytesOf (answers (next caseTable 1) 0 getMute [] 1) ≡ bytesOf (requestOf (muted caseTable 1) 0 getMute [] 1)
-      first = ap bytesOf (r (next caseTable 1) 0 getMute [] 1) ∙ ap (λ (t : Table). bytesOf (requestOf t 0 getMute [] 1)) (same caseTable 1)
+      twice : next (next caseTable 1) 0 ≡ muted (muted caseTable 1) 0
+      twice = same (next caseTable 1) 0 ∙ ap (λ (t : Table). muted t 0) (same caseTable 1)
 
-      second : bytesOf (answers (next (next caseTable 1) 0) 0 getMute [] 1) ≡ bytesOf (requestOf (muted (muted caseTable 1) 0) 0 getMute [] 1)
-      second =
-          ap bytesOf (r (next (next caseTable 1) 0) 0 getMute [] 1)
-          ∙ ap (λ (t : Table). bytesOf (requestOf t 0 getMute [] 1)) (same (next caseTable 1) 0 ∙ ap (λ (t : Table). muted t 0) (same caseTable 1))
+      got-after : {t u : Table} → t ≡ u → bytesOf (requestOf t 0 getMute [] 1) ≡ bytesOf (requestOf u 0 getMute [] 1)
+      got-after e = ap (λ (t : Table). bytesOf (requestOf t 0 getMute [] 1)) e
+
+      shown : {t u : Table} {x : ℕ} → t ≡ u → bytesOf (requestOf u 0 getMute [] 1) ≡ x ∷ [] → told t ≡ x ∷ []
+      shown {t} e f = r t 0 getMute [] reply .lent ∙ ap (λ (l : List ℕ). laid l reply) (got-after e ∙ f)
