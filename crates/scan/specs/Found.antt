@@ -22,11 +22,11 @@ use Rattle.scan.specs.declared.Want.{Want}
 -- a search finds something exactly where something wanted stands
 pub found-any : (w : Want) (s : List ℕ) (from q : ℕ) → foundFrom s from w ≡ At q → any (wants w) (rest s from) ≡ true
 unfolding foundFrom searched
-found-any w s from q e = first-at-any (wants w) from [] (rest s from) q e
+found-any w s from q e = first-at-any (wants w) from (rest s from) q e
 
 pub found-none : (w : Want) (s : List ℕ) (from : ℕ) → foundFrom s from w ≡ Nowhere → any (wants w) (rest s from) ≡ false
 unfolding foundFrom searched
-found-none w s from e = first-none-any (wants w) from [] (rest s from) e
+found-none w s from e = first-none-any (wants w) from (rest s from) e
 
 -- what stands from a place on, cut in two: the second part is what stands behind the first, and the first is all that stands up to there
 module _ (s : List ℕ) (from : ℕ) (h : from ≤ length s) (x y : List (List ℕ)) (e : rest s from ≡ x ++ y) where
