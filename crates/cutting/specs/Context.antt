@@ -1,4 +1,10 @@
--- What the rules that are kept so far say of the places that the reader works with.
+-- What the rules that are kept so far say of the places that the reader works with: the parts that the rules speak of are the parts
+-- that the reader finds.
+--   cut-told      ==  the cutting is what stands from the first byte on
+--   frame-told    ==  the AudioControl interface stands where the reader finds it: it is one
+--   header-place  ==  so does the header's place
+--   rule5-reads, rule6-reads, rule7-reads  ==  the reader's tests decide the rules 5, 6 and 7
+--   header-is, others-are, run-place, run-is  ==  the header, what stands behind it, the run's place and the run
 use Prim.Native.Nat.{ℕ, _+_, _≤_}
 use mathlib.Core.Path.{_≡_, sym, ap, _∙_}
 use mathlib.Core.Bool.{not, _&&_}
@@ -13,8 +19,8 @@ use Rattle.ground.specs.First.{Sound}
 use Rattle.scan.specs.Cutting.{rest}
 use Rattle.scan.specs.CuttingLaws.{cutting-rest}
 use Rattle.scan.specs.Want.{Audio}
-use Rattle.groups.specs.Rules.{second-control, Rule5, Rule6, Rule7}
-use Rattle.groups.specs.Reading.{frameOf, frameFrom, headerOf, isHeader, straysFrom, listedOf, collects}
+use Rattle.groups.specs.Rules.{second-control, Rule5, listedOf, Rule6, Rule7}
+use Rattle.groups.specs.Reading.{frameOf, frameFrom, headerOf, isHeader, straysFrom, collects}
 use Rattle.groups.specs.FrameLaws.{Framed, framed, nine, header-told, header-room, reads-rule5}
 use Rattle.groups.specs.TotalLaws.{reads-rule6, rule6-run}
 use Rattle.groups.specs.CollectionLaws.{reads-rule7}
@@ -29,7 +35,6 @@ module _ (s : List ℕ) (o : Opened s) where
   unfolding Sound
   none-before before control tail e c d m a = o .rule4 .right before control tail e (second-control c (record { one = d; among = m; has = a }))
 
-  -- the AudioControl interface is one, so it stands where the reader finds it
   pub frame-told : Framed s (o .before) (o .control) (o .tail)
   frame-told = go (framed s (rw cut-told (o .rule4)))
     where
@@ -82,7 +87,6 @@ module _ (s : List ℕ) (o : Opened s) where
     pub rule7-reads : Reads (collects s (listedOf (headerOf s (frameOf s)))) (Rule7 (o .descriptors) (listedOf (h .header)))
     rule7-reads = rw (← cut-told, header-is) (reads-rule7 s (listedOf (headerOf s (frameOf s))))
 
-    -- the run that the rule speaks of is the run that the reader works with
     pub run-is : (t : Rule6 (h .header) (h .others)) → runOf s (frameOf s) ≡ t .run
     unfolding runOf frameOf frameFrom
     run-is t = rule6-run s (h .header) (frameOf s .header) (frameOf s .run) (room .0) (room .1) full (h .others) others-are t

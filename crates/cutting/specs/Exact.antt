@@ -1,5 +1,9 @@
 -- What the verdict says, exactly: it refuses nothing exactly where the nine rules are kept, and gives number n at place p exactly
 -- where every rule before n is kept, n is not, and p is its place. What keeps the rules is unique: the cutting, the header, the run.
+--   verdict-kept     ==  nothing is refused exactly where the nine rules are kept
+--   verdict-refused  ==  number n is given at place p exactly where that is the refusal that document 01 gives
+--   kept-cutting, kept-header, kept-run  ==  the cutting, the header and the run that keep the rules are those that the reader works
+--                        with, so they are one
 use Prim.Native.Nat.{ℕ, _+_}
 use mathlib.Core.Path.{_≡_, refl, sym, ap, _∙_}
 use mathlib.Core.Bool.{_&&_}
@@ -21,9 +25,9 @@ use Rattle.scan.specs.Search.{searched}
 use Rattle.layout.specs.Layout.{LaidOut, entityOf, isUnknown}
 use Rattle.layout.specs.LayoutLaws.{reads-unknown, laid-out}
 use Rattle.entities.specs.Run.{mostEntities}
-use Rattle.groups.specs.Rules.{Rule1, Rule2, Rule4, Rule5, Rule6, Rule7, mostBytes}
-use Rattle.groups.specs.Reading.{frameOf, breach1, breach2, breach4, breach5, breach6, breach7, groupJudged, judged, listedOf, headerOf}
-use Rattle.groups.specs.InterfaceLaws.{Broken4, rule4-kept, rule4-broken}
+use Rattle.groups.specs.Rules.{mostBytes, Rule1, Rule2, Rule4, Broken4, Rule5, listedOf, Rule6, Rule7}
+use Rattle.groups.specs.Reading.{frameOf, breach1, breach2, breach4, breach5, breach6, breach7, groupJudged, judged, headerOf}
+use Rattle.groups.specs.InterfaceLaws.{rule4-kept, rule4-broken}
 use Rattle.groups.specs.FrameLaws.{Framed, framed}
 use Rattle.cutting.specs.Rules.{Rule8, Rule9, Opened, headerPlace, Kept, Refused, by1, by2, by3, by4, by5, by6, by7, by8, by9}
 use Rattle.cutting.specs.Survey.{runOf, breach8, breach9, runJudged, verdictThen, verdict}
@@ -223,7 +227,6 @@ module _ (s : List ℕ) where
   numbered (by8 o h t c n q) e = omega arith
   numbered (by9 o h t c m b) e = omega arith
 
-  -- THE THEOREMS. Accepted by the cutting layer exactly where the nine rules are kept
   pub verdict-kept : (verdict s ≡ none) ↔ Kept s
   verdict-kept = (of outcome, accepts)
     where
@@ -231,7 +234,6 @@ module _ (s : List ℕ) where
       of (inl k) e = k
       of (inr (n, p, r)) e = absurd (numbered r (ap (λ (x : Refusal). x .number) (sym (gives r) ∙ e)))
 
-  -- refused with number n at place p exactly where that is the refusal that document 01 gives
   pub verdict-refused : (n p : ℕ) → (n ≡ 0 → ⊥) → (verdict s ≡ record { number = n; place = p }) ↔ Refused s n p
   verdict-refused n p z = (of outcome, gives)
     where
@@ -241,7 +243,6 @@ module _ (s : List ℕ) where
           let g : _≡_ {A = Refusal} (record { number = m; place = q }) (record { number = n; place = p }) = sym (gives r) ∙ e in
           rw (← (ap (λ (x : Refusal). x .number) g), ← (ap (λ (x : Refusal). x .place) g)) r
 
-  -- what keeps the rules is one cutting, one header, one run, and they are what the reader works with
   pub kept-cutting : (k : Kept s) → k .opened .descriptors ≡ rest s 0
   kept-cutting k = sym (cut-told s (k .opened))
 

@@ -15,9 +15,7 @@ use Rattle.scan.specs.Cutting.{Cutting, Misfit}
 use Rattle.scan.specs.Want.{Audio}
 use Rattle.layout.specs.Layout.{LaidOut}
 use Rattle.entities.specs.Run.{mostEntities}
-use Rattle.groups.specs.Rules.{Rule1, Rule2, Rule4, Rule5, Rule6, Rule7}
-use Rattle.groups.specs.Reading.{listedOf}
-use Rattle.groups.specs.InterfaceLaws.{Broken4}
+use Rattle.groups.specs.Rules.{Rule1, Rule2, Rule4, Broken4, Rule5, listedOf, Rule6, Rule7}
 
 abbrev pub Rule8 : List (List ℕ) → Type 0
 Rule8 run = (1 ≤ length run) × (length run ≤ mostEntities)

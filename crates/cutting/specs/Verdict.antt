@@ -1,4 +1,5 @@
 -- The refusals 1 to 9 in a row: what the layer above puts behind them is reached exactly where none of them is given.
+--   run-chain, verdict-chain  ==  the refusals 8 and 9, and all nine
 use Prim.Native.Nat.{ℕ}
 use mathlib.Core.List.{List}
 use native.Mathlib.Omega.{arith}

@@ -1,13 +1,14 @@
--- A run of at most 32 descriptors stands whole in its places; and what it is that its entities bear their own IDs.
+-- A run of at most 32 descriptors stands whole in its places; and what it means that each ID is its entity's own.
 --   nodes-length  ==  an entity for each descriptor
+--   nodes-more    ==  one descriptor more
 --   run-nodes     ==  the first count places are the run's entities
---   OwnIds r      ==  each ID is its entity's own: no two places that the run r counts bear the same (rule 10)
---   DistinctIds f l ==  the same of a list: no two of its elements have the same number by f
+--   OwnIds r      ==  each ID is its entity's own: no two places of the run r that are looked at bear the same (rule 10)
+--   DistinctIds f l ==  the same of a list: no two elements of the list l have the same number by f
 --   own-distinct  ==  where each ID is its entity's own, the entities have distinct IDs
 --   laid-distinct ==  and so have the descriptors, where each has a layout: byte 3 is the ID
 use Prim.Native.Nat.{ℕ, suc, min, _+_, _≤_, _<_}
 use mathlib.Core.Path.{_≡_, refl, sym, ap, _∙_}
-use mathlib.Core.List.{List, [], _∷_, _++_, List·Memᴰ, List·Memᴰ·tail}
+use mathlib.Core.List.{List, [], _∷_, _++_, List·Memᴰ, List·Memᴰ·tail, Memᴰ·append-right}
 use lib.ListN.{length, take, getD, length-take, length-append}
 use lib.Seq.{getD-take, getD-append-seam, getD-append-add}
 use native.Mathlib.Omega.{arith}
@@ -18,7 +19,7 @@ use Rattle.layout.specs.Layout.{LaidOut, entityOf, idOf}
 use Rattle.layout.specs.LayoutLaws.{id-told}
 use Rattle.entities.specs.declared.Node.{Node}
 use Rattle.entities.specs.declared.Run.{Run}
-use Rattle.entities.specs.Run.{mostEntities, nodeOf, nodesFrom, blankNode, runIn}
+use Rattle.entities.specs.Run.{mostEntities, nodeOf, nodesFrom, blankNode, runIn, held, idAt}
 
 pub nodes-length : (p : ℕ) (ds : List (List ℕ)) → length (nodesFrom p ds) ≡ length ds
 unfolding nodesFrom
@@ -31,11 +32,8 @@ run-nodes p ds h =
     let l = nodes-length p ds in
     ap (λ (i : ℕ). take i (pad blankNode mostEntities (nodesFrom p ds))) (sym l) ∙ pad-front blankNode mostEntities (nodesFrom p ds) (omega arith)
 
-abbrev idAt : Run → ℕ → ℕ
-idAt r i = idOf (getD (r .nodes) i blankNode .entity)
-
 abbrev pub OwnIds : Run → Type 0
-OwnIds r = (i j : ℕ) → i < min (r .count) mostEntities → j < min (r .count) mostEntities → idAt r i ≡ idAt r j → i ≡ j
+OwnIds r = (i j : ℕ) → i < held r → j < held r → idAt r i ≡ idAt r j → i ≡ j
 
 abbrev pub DistinctIds : {A : Type 0} → (A → ℕ) → List A → Type 0
 DistinctIds {A} f l = (x : List A) (a : A) (y : List A) (b : A) → l ≡ x ++ a ∷ y → List·Memᴰ b y → f a ≡ f b → ⊥
@@ -60,6 +58,10 @@ unfolding nodesFrom total
 nodes-append p [] y = ap (λ (i : ℕ). nodesFrom i y) (sym (add-zero p))
 nodes-append p (d ∷ x) y = ap (λ (l : List Node). nodeOf p d ∷ l) (nodes-append (p + length d) x y ∙ ap (λ (i : ℕ). nodesFrom (p + length d) x ++ nodesFrom i y) (add-assoc p (length d) (total x)))
 
+pub nodes-more : (p : ℕ) (ds : List (List ℕ)) (d : List ℕ) → nodesFrom p (ds ++ d ∷ []) ≡ nodesFrom p ds ++ nodeOf (p + total ds) d ∷ []
+unfolding nodesFrom
+nodes-more p ds d = nodes-append p ds (d ∷ [])
+
 pub laid-distinct : (p : ℕ) (ds : List (List ℕ)) → length ds ≤ mostEntities → ((d : List ℕ) → List·Memᴰ d ds → LaidOut d) → OwnIds (runIn p ds) → DistinctIds (λ d. byte d 3) ds
 unfolding nodesFrom nodeOf total runIn
 laid-distinct p ds few laid own x d y e s m q =
@@ -71,10 +73,6 @@ laid-distinct p ds few laid own x d y e s m q =
     let n : nodesFrom p ds ≡ nodesFrom p x ++ nodeOf (p + total x) d ∷ (nodesFrom at z ++ nodeOf (at + total z) e ∷ nodesFrom (at + total z + length e) w) =
     ap (nodesFrom p) all ∙ nodes-append p x (d ∷ (z ++ e ∷ w)) ∙ ap (λ (l : List Node). nodesFrom p x ++ nodeOf (p + total x) d ∷ l) (nodes-append at z (e ∷ w)) in
     let one : idOf (entityOf d) ≡ byte d 3 = id-told d (laid d (rw all (of-split x d (z ++ e ∷ w)))) in
-    let two : idOf (entityOf e) ≡ byte e 3 = id-told e (laid e (rw s (behind x d y e m))) in
+    let two : idOf (entityOf e) ≡ byte e 3 = id-told e (laid e (rw s (Memᴰ·append-right x (List·Memᴰ·tail m)))) in
     own-distinct (runIn p ds) (pad-length blankNode mostEntities (nodesFrom p ds)) own (nodesFrom p x) (nodeOf (p + total x) d) (nodesFrom at z ++ nodeOf (at + total z) e ∷ nodesFrom (at + total z + length e) w) (nodeOf (at + total z) e)
     (run-nodes p ds few ∙ n) (of-split (nodesFrom at z) (nodeOf (at + total z) e) (nodesFrom (at + total z + length e) w)) (one ∙ q ∙ sym two)
-  where
-    behind : (x : List (List ℕ)) (d : List ℕ) (y : List (List ℕ)) (e : List ℕ) → List·Memᴰ e y → List·Memᴰ e (x ++ d ∷ y)
-    behind [] d y e m = List·Memᴰ·tail m
-    behind (a ∷ x) d y e m = List·Memᴰ·tail (behind x d y e m)

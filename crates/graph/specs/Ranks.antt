@@ -1,18 +1,17 @@
 -- Ranks. Demand 3 asks for a rank on each entity, lower at each source than at its user; document 01's refusal 12 is given
--- where "some upstream chain of sources is longer than 32 steps (no ranks exist)". That the one is the other is a theorem
--- here, for any number k of steps that the count of entities does not pass, and k rounds find out which it is.
+-- where "some upstream chain of sources is longer than 32 steps (no ranks exist)". That the one is the other's contrary is a
+-- theorem here, for any number k of steps that the count of entities does not pass, and k rounds find out which it is.
 --   Closed src nodes        ==  each source of a node is a node
 --   Ranked src nodes rank   ==  rank is lower at each source of a node than at the node
 --   Ranks src nodes         ==  a rank, and that it is one
 --   AllSettled src nodes k  ==  every node is settled after k rounds
---   lag src d a             ==  of the first d rounds, how many a waits for
---   ranks-of                ==  where every node settles within k rounds, what the nodes wait is a rank
+--   ranks-of                ==  where every node settles within k rounds, the number of rounds that each waits for is a rank
 --   ranked-settled          ==  where there is a rank, every node settles within k rounds
---   ranks-settled           ==  a rank exists exactly where every node settles within k rounds
 --   unsettled-endless       ==  from a node that does not settle within k rounds go chains of every length
 --   longer-unsettled        ==  some chain from a node is longer than k steps exactly where it does not settle in k rounds
 --   ranks-chains            ==  a rank exists exactly where from no node a chain is longer than k steps
---   reads-longer, reads-ranks  ==  the last two as tests and their statements
+--   reads-longer            ==  whether a node has settled decides that no chain from it is longer than k steps
+--   reads-ranks             ==  whether all have settled decides that a rank exists
 --   no-ranks                ==  no rank exists exactly where "some upstream chain of sources is longer than" k steps
 use Prim.Native.Nat.{ℕ, zero, suc, _+_, _≤_, _<_, zero-le, suc-le-suc}
 use mathlib.Core.Path.{_≡_, refl, sym, ap, _∙_}
@@ -38,7 +37,8 @@ waited-kept false true h = zero-le
 waited-kept false false h = le-refl 1
 
 module _ {A : Type 0} (src : A → List A) where
-  unfoldable pub lag : ℕ → A → ℕ
+  -- of the first d rounds, how many a waits for
+  unfoldable lag : ℕ → A → ℕ
   lag zero a = 0
   lag (suc d) a = lag d a + waited (settled src d a)
 
@@ -120,9 +120,6 @@ module _ {A : Type 0} (src : A → List A) where
             go : (b : Bool) → settled src d a ≡ b → settled src d a ≡ false
             go true h = absurd (true≠false (sym (settled-within d a l h) ∙ e))
             go false h = h
-
-        pub ranks-settled : Ranks ↔ AllSettled k
-        ranks-settled = (λ r. ranked-settled (r .0) (r .1), ranks-of k)
 
         pub longer-unsettled : (a : A) → a ∈ nodes → Longer src k a ↔ (settled src k a ≡ false)
         longer-unsettled a l = (

@@ -3,7 +3,7 @@
 --   tabulate k f        ==  f 0, f 1, .. f (k - 1)
 --   tabulateFrom i k f  ==  f i, .. f (i + k - 1)
 --   below n             ==  0, 1, .. n - 1
---   getD-tabulate, getD-tabulateFrom, length-tabulate  ==  what stands in a table, and its length
+--   getD-tabulate, length-tabulate  ==  what stands in a table, and its length
 --   tabulate-same, map-tabulate     ==  tables of functions that agree, and a mapped table
 --   tabulate-getD       ==  the table of a list's own places is that list
 --   lt-below, below-lt, length-below  ==  the members of below n are the numbers below n
@@ -28,7 +28,7 @@ module _ {X : Type 0} where
   abbrev pub tabulate : ℕ → (ℕ → X) → List X
   tabulate k f = tabulateFrom 0 k f
 
-  pub getD-tabulateFrom : (i k : ℕ) (f : ℕ → X) (j : ℕ) (blank : X) → j < k → getD (tabulateFrom i k f) j blank ≡ f (i + j)
+  getD-tabulateFrom : (i k : ℕ) (f : ℕ → X) (j : ℕ) (blank : X) → j < k → getD (tabulateFrom i k f) j blank ≡ f (i + j)
   unfolding tabulateFrom
   getD-tabulateFrom i zero f j blank h = absurd (omega arith)
   getD-tabulateFrom i (suc k) f zero blank h = ap f (sym (add-zero i))
@@ -47,7 +47,7 @@ module _ {X : Type 0} where
   pub length-tabulate : (k : ℕ) (f : ℕ → X) → length (tabulate k f) ≡ k
   length-tabulate = length-tabulateFrom 0
 
-  pub tabulateFrom-same : (i k : ℕ) (f g : ℕ → X) → ((j : ℕ) → j < i + k → f j ≡ g j) → tabulateFrom i k f ≡ tabulateFrom i k g
+  tabulateFrom-same : (i k : ℕ) (f g : ℕ → X) → ((j : ℕ) → j < i + k → f j ≡ g j) → tabulateFrom i k f ≡ tabulateFrom i k g
   unfolding tabulateFrom
   tabulateFrom-same i zero f g h = refl
   tabulateFrom-same i (suc k) f g h =

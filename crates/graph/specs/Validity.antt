@@ -1,7 +1,8 @@
 -- The theorem that every edition's demand 3 stands on: there are a rank on each entity, lower at each source than at its
 -- user, and a cluster on each entity's output that keep every rule, exactly where k rounds settle every node and the
 -- clusters that they compute pass each node's test; and these clusters are the only ones. The kind of cluster, the rule by
--- which a node gives one out and the test of what enters it ("all pins have the same c") are any.
+-- which a node gives one out and the test of what enters it ("all pins have the same c") are any. It asks that each source
+-- of a node is a node (rule 11) and that there are at most k nodes (rule 8).
 --   Kept src fits nodes cluster          ==  what enters each node passes its test
 --   Clusters src rule fits nodes         ==  clusters that are made by the rule and pass the tests
 --   Valid src rule fits nodes            ==  a rank, and such clusters
@@ -10,17 +11,16 @@
 --   decided-by-rounds                    ==  .. and its proof, by valid-accepted, valid-cluster and valid-unique
 --   valid-parts              ==  valid is: there are a rank and clusters
 --   fits-settled             ==  a settled node's test may be read off the rounds' clusters
---   accepts src rule start k nodes test  ==  Accepted as a test, where `test` decides `fits`
---   reads-fits, reads-clusters, reads-valid  ==  what the tests at the rounds' clusters decide: one node's rule; whether
---                                clusters exist, where all is settled; whether a rank and clusters do
+--   reads-fits               ==  .. so where `test` decides `fits`, the test at the rounds' clusters decides it of any others
+--                                that are made by the rule: for one node, what names the first offender
 use Prim.Native.Nat.{ℕ, _≤_}
 use mathlib.Core.Path.{_≡_, sym, _∙_, subst}
 use mathlib.Core.List.{List}
 use mathlib.Core.Logic.{_↔_}
-use mathlib.Core.Bool.{Bool, true, _&&_}
+use mathlib.Core.Bool.{Bool, true}
 use lib.ListN.{length}
-use Rattle.ground.specs.Pick.{Reads, reads-and, true≠false}
-use Rattle.graph.specs.Members.{_∈_, all, reads-all}
+use Rattle.ground.specs.Pick.{Reads}
+use Rattle.graph.specs.Members.{_∈_}
 use Rattle.graph.specs.Chains.{settled}
 use Rattle.graph.specs.Ranks.{Closed, Ranked, Ranks, AllSettled, ranks-of, ranked-settled}
 use Rattle.graph.specs.Clusters.{entering, Made, after, after-made, made-settled, entering-settled}
@@ -91,10 +91,6 @@ module _ {A C : Type 0} (src : A → List A) (rule : A → List C → C) (fits :
         pub decided-by-rounds : Decided
         decided-by-rounds = record { exactly = valid-accepted; computed = valid-cluster; unique = valid-unique }
 
--- as tests
-unfoldable pub accepts : {A C : Type 0} (src : A → List A) (rule : A → List C → C) (start : C) (k : ℕ) (nodes : List A) → (A → List C → Bool) → Bool
-accepts src rule start k nodes test = all (settled src k) nodes && all (λ a. test a (entering src (after src rule start k) a)) nodes
-
 module _ {A C : Type 0} (src : A → List A) (rule : A → List C → C) (fits : A → List C → Type 0) (start : C) (k : ℕ) (nodes : List A) where
   module _ (test : A → List C → Bool) (reads : (a : A) (cs : List C) → Reads (test a cs) (fits a cs)) (closed : Closed src nodes) where
     pub reads-fits : (cluster : A → C) → Made src rule nodes cluster → (a : A) → a ∈ nodes → settled src k a ≡ true → Reads (test a (entering src (after src rule start k) a)) (fits a (entering src cluster a))
@@ -102,23 +98,3 @@ module _ {A C : Type 0} (src : A → List A) (rule : A → List C → C) (fits :
         let both = fits-settled src rule fits start k nodes closed cluster made a l h in
         let r = reads a (entering src (after src rule start k) a) in
         record { says = λ e. both .1 (r .says e); denies = λ e f. r .denies e (both .0 f) }
-
-    pub reads-clusters : AllSettled src nodes k → Reads (all (λ a. test a (entering src (after src rule start k) a)) nodes) (Clusters src rule fits nodes)
-    reads-clusters h =
-        let r = reads-all (λ a. test a (entering src (after src rule start k) a)) (λ a. fits a (entering src (after src rule start k) a)) nodes (λ a l. reads a _) in
-        record {
-          says = λ e. (after src rule start k, after-made src rule start nodes k h, r .says e);
-          denies = λ e c. r .denies e (λ a l. fits-settled src rule fits start k nodes closed (c .0) (c .1) a l (h a l) .0 (c .2 a l));
-        }
-
-    pub reads-valid : length nodes ≤ k → Reads (accepts src rule start k nodes test) (Valid src rule fits nodes)
-    unfolding accepts
-    reads-valid few = record {
-      says = λ e. let s = both .says e in valid-accepted src rule fits start k nodes closed few .1 (record { all-settled = s .0; all-fit = s .1 });
-      denies = λ e v. let w = valid-accepted src rule fits start k nodes closed few .0 v in both .denies e (w .all-settled, w .all-fit);
-    }
-      where
-        both : Reads (all (settled src k) nodes && all (λ a. test a (entering src (after src rule start k) a)) nodes) (AllSettled src nodes k × Kept src fits nodes (after src rule start k))
-        both = reads-and _ _
-            (reads-all (settled src k) (λ a. settled src k a ≡ true) nodes (λ a l. record { says = λ e. e; denies = λ e f. true≠false (sym f ∙ e) }))
-            (reads-all (λ a. test a (entering src (after src rule start k) a)) (λ a. fits a (entering src (after src rule start k) a)) nodes (λ a l. reads a _))

@@ -3,7 +3,13 @@
 --   firstFrom t p b ds ==  the place of the first of ds that the test t holds of, where ds begin at place p behind the descriptors b
 --   Breaks w p ds q    ==  q is the place of the first of ds that is wrong by w, where ds begin at place p
 --   Sound w ds         ==  none of ds is wrong by w
+--   first-here, first-on, first-end  ==  the search, one descriptor at a time
+--   first-nowhere, first-at  ==  THE LAWS, for a test that reads a rule: the search answers nowhere exactly where nothing is wrong,
+--                          and a place exactly where that is the first offender's
 --   isBefore r at      ==  a search answered a place before at
+--   first-before       ==  the first of x then y that passes stands before y exactly where one of x passes
+--   sound-each         ==  where what is wrong does not hang on what stands before: nothing is wrong exactly where no descriptor is
+--   sound-none, first-none-any, first-at-any  ==  the same for a test, by whether any descriptor passes it
 use Prim.Native.Nat.{ℕ, _+_, _≤_, _<_}
 use mathlib.Core.Path.{_≡_, refl, sym, ap, _∙_}
 use mathlib.Core.Bool.{Bool, true, false, _||_}
@@ -24,7 +30,6 @@ unfoldable pub firstFrom : (List (List ℕ) → List ℕ → Bool) → ℕ → L
 firstFrom t p b [] = Nowhere
 firstFrom t p b (d ∷ ds) = pick (t b d) (At p) (firstFrom t (p + length d) (b ++ d ∷ []) ds)
 
--- the two turns of the search
 pub first-here : (t : List (List ℕ) → List ℕ → Bool) (p : ℕ) (b : List (List ℕ)) (d : List ℕ) (ds : List (List ℕ)) → t b d ≡ true → firstFrom t p b (d ∷ ds) ≡ At p
 unfolding firstFrom
 first-here t p b d ds e = yes _ _ e
@@ -37,7 +42,7 @@ pub first-end : (t : List (List ℕ) → List ℕ → Bool) (p : ℕ) (b : List 
 unfolding firstFrom
 first-end t p b = refl
 
-pub no-split : (x : List (List ℕ)) (d : List ℕ) (y : List (List ℕ)) → [] ≡ x ++ d ∷ y → ⊥
+no-split : (x : List (List ℕ)) (d : List ℕ) (y : List (List ℕ)) → [] ≡ x ++ d ∷ y → ⊥
 no-split [] d y q = nil≢cons q
 no-split (e ∷ x) d y q = nil≢cons q
 
@@ -75,7 +80,7 @@ module _ (t : List (List ℕ) → List ℕ → Bool) (Wrong : List (List ℕ) �
       ∙ ap At (add-assoc p (length e) (total x))
 
   -- what the search finds is the first offender; where it finds nothing there is none
-  pub data Told (p : ℕ) (b ds : List (List ℕ)) : Place → Type 0 where
+  data Told (p : ℕ) (b ds : List (List ℕ)) : Place → Type 0 where
     nothing : Sound (Behind b) ds → Told p b ds Nowhere
     found : {q : ℕ} → Breaks (Behind b) p ds q → Told p b ds (At q)
 
@@ -115,7 +120,6 @@ module _ (t : List (List ℕ) → List ℕ → Bool) (Wrong : List (List ℕ) �
           })
       go false r k = later (r .denies refl) k
 
-  -- THE LAWS: the search answers nowhere exactly where nothing is wrong, and a place exactly where that is the first offender's
   pub first-nowhere : (p : ℕ) (ds : List (List ℕ)) → (firstFrom t p [] ds ≡ Nowhere) ↔ Sound Wrong ds
   first-nowhere p ds = (λ e. of (told p [] ds) e, at-nowhere p [] ds)
     where
@@ -133,62 +137,46 @@ module _ (t : List (List ℕ) → List ℕ → Bool) (Wrong : List (List ℕ) �
       to : Breaks Wrong p ds q → firstFrom t p [] ds ≡ At q
       to k = rw (k .split) (at-place p [] (k .before) (k .offender) (k .after) (k .wrong) (k .none-before) ∙ ap At (sym (k .place)))
 
--- Searches by a test that does not look at what stands before.
-module _ (t : List ℕ → Bool) where
-  abbrev alone : List (List ℕ) → List ℕ → Bool
-  alone b d = t d
+-- a search that began at p comes to no place before p
+first-not-before : (t : List (List ℕ) → List ℕ → Bool) (p : ℕ) (b ds : List (List ℕ)) (q : ℕ) → firstFrom t p b ds ≡ At q → p ≤ q
+unfolding firstFrom
+first-not-before t p b [] q e = let y : _≡_ {A = ℕ} 0 1 = cc in absurd (omega arith)
+first-not-before t p b (d ∷ ds) q e = go (t b d) refl (λ h. first-not-before t (p + length d) (b ++ d ∷ []) ds q h)
+  where
+    go : (c : Bool) → t b d ≡ c → (firstFrom t (p + length d) (b ++ d ∷ []) ds ≡ At q → p + length d ≤ q) → p ≤ q
+    go true h ih = let z : At p ≡ At q = sym (first-here t p b d ds h) ∙ e in let y : p ≡ q = cc in omega arith
+    go false h ih = let l = ih (sym (first-on t p b d ds h) ∙ e) in omega arith
 
-  pub first-none-any : (p : ℕ) (b ds : List (List ℕ)) → firstFrom (λ b d. t d) p b ds ≡ Nowhere → any t ds ≡ false
-  unfolding firstFrom any
-  first-none-any p b [] e = refl
-  first-none-any p b (d ∷ ds) e = go (t d) refl (λ h. first-none-any (p + length d) (b ++ d ∷ []) ds h)
-    where
-      go : (c : Bool) → t d ≡ c → (firstFrom (λ b d. t d) (p + length d) (b ++ d ∷ []) ds ≡ Nowhere → any t ds ≡ false) → t d || any t ds ≡ false
-      go true q ih = let z : At p ≡ Nowhere = sym (first-here alone p b d ds q) ∙ e in let y : _≡_ {A = ℕ} 0 1 = cc in absurd (omega arith)
-      go false q ih = rw q (ih (sym (first-on alone p b d ds q) ∙ e))
-
-  pub first-at-any : (p : ℕ) (b ds : List (List ℕ)) (q : ℕ) → firstFrom (λ b d. t d) p b ds ≡ At q → any t ds ≡ true
-  unfolding firstFrom any
-  first-at-any p b [] q e = let y : _≡_ {A = ℕ} 0 1 = cc in absurd (omega arith)
-  first-at-any p b (d ∷ ds) q e = go (t d) refl (λ h. first-at-any (p + length d) (b ++ d ∷ []) ds q h)
-    where
-      go : (c : Bool) → t d ≡ c → (firstFrom (λ b d. t d) (p + length d) (b ++ d ∷ []) ds ≡ At q → any t ds ≡ true) → t d || any t ds ≡ true
-      go true h ih = rw h refl
-      go false h ih = rw h (ih (sym (first-on alone p b d ds h) ∙ e))
-
-  -- where a search that began at p comes to: not before p
-  pub first-not-before : (p : ℕ) (b ds : List (List ℕ)) (q : ℕ) → firstFrom (λ b d. t d) p b ds ≡ At q → p ≤ q
-  unfolding firstFrom
-  first-not-before p b [] q e = let y : _≡_ {A = ℕ} 0 1 = cc in absurd (omega arith)
-  first-not-before p b (d ∷ ds) q e = go (t d) refl (λ h. first-not-before (p + length d) (b ++ d ∷ []) ds q h)
-    where
-      go : (c : Bool) → t d ≡ c → (firstFrom (λ b d. t d) (p + length d) (b ++ d ∷ []) ds ≡ At q → p + length d ≤ q) → p ≤ q
-      go true h ih = let z : At p ≡ At q = sym (first-here alone p b d ds h) ∙ e in let y : p ≡ q = cc in omega arith
-      go false h ih = let l = ih (sym (first-on alone p b d ds h) ∙ e) in omega arith
-
--- whether a search came to a place before at
 unfoldable pub isBefore : Place → ℕ → Bool
 isBefore Nowhere at = false
 isBefore (At q) at = ltb q at
 
--- among descriptors x, then y: the first that passes stands before y exactly where one of x passes
 pub first-before : (t : List ℕ → Bool) (p : ℕ) (b x y : List (List ℕ)) → ((d : List ℕ) → List·Memᴰ d x → 0 < length d) → isBefore (firstFrom (λ b d. t d) p b (x ++ y)) (p + total x) ≡ any t x
 unfolding isBefore any total
 first-before t p b [] y h = go (firstFrom (λ b d. t d) p b y) refl
   where
     go : (r : Place) → firstFrom (λ b d. t d) p b y ≡ r → isBefore r (p + 0) ≡ false
     go Nowhere e = refl
-    go (At q) e = let l = first-not-before t p b y q e in le-ltb q (p + 0) (omega arith)
+    go (At q) e = let l = first-not-before (λ b d. t d) p b y q e in le-ltb q (p + 0) (omega arith)
 first-before t p b (d ∷ x) y h = go (t d) refl (first-before t (p + length d) (b ++ d ∷ []) x y (λ e m. h e (List·Memᴰ·tail m)))
   where
     go : (c : Bool) → t d ≡ c → isBefore (firstFrom (λ b d. t d) (p + length d) (b ++ d ∷ []) (x ++ y)) (p + length d + total x) ≡ any t x → isBefore (firstFrom (λ b d. t d) p b (d ∷ (x ++ y))) (p + (length d + total x)) ≡ t d || any t x
     go true q ih = rw (first-here (λ b d. t d) p b d (x ++ y) q, q) (let l = h d (List·Memᴰ·head refl) in lt-ltb p (p + (length d + total x)) (omega arith))
     go false q ih = rw (first-on (λ b d. t d) p b d (x ++ y) q, q, ← (add-assoc p (length d) (total x))) ih
 
--- where what is wrong does not hang on what stands before: nothing is wrong exactly where no descriptor is
 pub sound-each : (Wrong : List ℕ → Type 0) (ds : List (List ℕ)) → Sound (λ b d. Wrong d) ds ↔ ((d : List ℕ) → List·Memᴰ d ds → Wrong d → ⊥)
 unfolding Sound
 sound-each Wrong ds = (λ h d m. let k = split-of m in h (k .0) d (k .1) (k .2), λ h x d y e. h d (rw e (of-split x d y)))
 
 pub sound-none : (t : List ℕ → Bool) (ds : List (List ℕ)) → Sound (λ b d. t d ≡ true) ds → any t ds ≡ false
 sound-none t ds h = refutes (reads-any t (λ d. t d ≡ true) (λ d. reads-true (t d)) ds) (λ k. sound-each (λ d. t d ≡ true) ds .0 h (k .one) (k .among) (k .has))
+
+-- a search by a test that does not look at what stands before
+pub first-none-any : (t : List ℕ → Bool) (p : ℕ) (ds : List (List ℕ)) → firstFrom (λ b d. t d) p [] ds ≡ Nowhere → any t ds ≡ false
+first-none-any t p ds e = sound-none t ds (first-nowhere (λ b d. t d) (λ b d. t d ≡ true) (λ b d. reads-true (t d)) p ds .0 e)
+
+pub first-at-any : (t : List ℕ → Bool) (p : ℕ) (ds : List (List ℕ)) (q : ℕ) → firstFrom (λ b d. t d) p [] ds ≡ At q → any t ds ≡ true
+first-at-any t p ds q e = of (first-at (λ b d. t d) (λ b d. t d ≡ true) (λ b d. reads-true (t d)) p ds q .0 e)
+  where
+    of : Breaks (λ b d. t d ≡ true) p ds q → any t ds ≡ true
+    of k = rw (k .split) (shows (reads-any t (λ d. t d ≡ true) (λ d. reads-true (t d)) _) (record { one = k .offender; among = of-split (k .before) (k .offender) (k .after); has = k .wrong }))

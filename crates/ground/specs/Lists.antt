@@ -2,10 +2,17 @@
 --   any t l    ==  some element of l passes the test t
 --   Some P l   ==  some element of l has the property P
 --   total ds   ==  the lengths of the parts ds together
---   part s a e ==  the bytes of s from place a up to place e
---   pad b n l  ==  n places: the elements of l, then b
---   Stops P l  ==  l begins with no P: it is empty, or its first element is not P
+--   part s a e ==  the bytes of s from place a up to place e, as many of them as there are: what a callee is handed
+--   pad b n l  ==  n places: the first n elements of l, then b in the spare ones
+--   Stops P l  ==  l begins with no P: it is empty (stop-end), or its first element is not P (stop-at)
 --   front-one  ==  a list has one longest front of P: the law by which two such splits are the same
+--   part-length, part-none, part-join, part-drop  ==  a part's length; an empty part; a part and what stands behind it
+--   drop-take  ==  a part in the kit's form, lib.Seq's slice
+--   flatten-append, total-append, length-flatten  ==  parts laid end to end, and their length
+--   reads-any  ==  any t l decides Some P l, where t decides P
+--   split-of, of-split  ==  an element stands somewhere in its list, and what stands somewhere in a list is an element
+--   pad-length, pad-blank, pad-at, pad-front  ==  how many places; all of them spare; one of them; the taken ones
+--   pad-set    ==  filling the next spare place; past the last place nothing changes
 use Prim.Native.Nat.{ℕ, zero, suc, _+_, _-_, _≤_, _<_}
 use mathlib.Core.Path.{_≡_, refl, sym, ap, _∙_}
 use mathlib.Core.Bool.{Bool, true, false, _||_}
@@ -87,7 +94,6 @@ reads-any {A} t P r (x ∷ l) = go (t x) (r x) (reads-any t P r l)
         split e h (inl m) = q .denies refl (rw m at (h .has))
         split e h (inr m) = ih .denies e (record { one = h .one; among = m; has = h .has })
 
--- an element of a list stands somewhere in it
 pub split-of : {A : Type 0} {a : A} {l : List A} → List·Memᴰ a l → (x : List A) × (y : List A) × (l ≡ x ++ a ∷ y)
 split-of (List·Memᴰ·head {xs = l} e) = ([], l, ap (λ b. b ∷ l) (sym e))
 split-of (List·Memᴰ·tail {x = b} m) = let r = split-of m in (b ∷ r .0, r .1, ap (λ l. b ∷ l) (r .2))
@@ -95,7 +101,6 @@ split-of (List·Memᴰ·tail {x = b} m) = let r = split-of m in (b ∷ r .0, r .
 pub of-split : {A : Type 0} (x : List A) (a : A) (y : List A) → List·Memᴰ a (x ++ a ∷ y)
 of-split x a y = Memᴰ·append-right x (List·Memᴰ·head refl)
 
--- n places: the elements of l, the spare places b
 unfoldable pub pad : {A : Type 0} → A → ℕ → List A → List A
 pad b zero l = []
 pad b (suc n) [] = b ∷ pad b n []
@@ -112,7 +117,6 @@ unfolding pad
 pad-blank b zero = refl
 pad-blank b (suc n) = ap (λ l. b ∷ l) (pad-blank b n)
 
--- the next spare place is filled; past the last place nothing changes
 pub pad-set : {A : Type 0} (b : A) (n : ℕ) (l : List A) (v : A) → set (pad b n l) (length l) v ≡ pad b n (l ++ v ∷ [])
 unfolding pad
 pad-set b zero l v = refl
@@ -127,7 +131,6 @@ pad-at b (suc n) [] (suc i) h = pad-at b n [] i (le-of-suc-le-suc h)
 pad-at b (suc n) (x ∷ l) zero h = refl
 pad-at b (suc n) (x ∷ l) (suc i) h = pad-at b n l i (le-of-suc-le-suc h)
 
--- where there is room for all, the first places are the elements
 pub pad-front : {A : Type 0} (b : A) (n : ℕ) (l : List A) → length l ≤ n → take (length l) (pad b n l) ≡ l
 unfolding pad
 pad-front b zero [] h = refl

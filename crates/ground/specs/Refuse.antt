@@ -3,8 +3,13 @@
 --   none           ==  nothing is refused
 --   refuse n b r   ==  number n at the place where b says that rule n is broken; where it is broken nowhere, what r says
 --   placeOr b e    ==  the place that b names, e where it names none
---   keptAt k p     ==  nowhere where a rule is kept, else its one place p
---   Chain c        ==  c puts refusals, one after another, before what comes behind them
+--   refuse-at, refuse-on  ==  refuse's two equations, from what b is
+--   keptAt k p     ==  nowhere where a rule with one place is kept, else that place p
+--   kept-nowhere, kept-at  ==  what it says of the rule that the test k reads
+--   Chain c        ==  c puts refusals in a row before what comes behind them: where none of them is given, what comes behind;
+--                      else what they say, whatever comes behind
+--   chain-end, chain-more, chain-both  ==  the empty row, one refusal more in front, two rows as one
+--   chain-none     ==  a row that gives number 0 gives place 0 too
 use Prim.Native.Nat.{ℕ}
 use mathlib.Core.Path.{_≡_, refl, sym, ap, _∙_}
 use mathlib.Core.Bool.{Bool, true, false}
@@ -35,7 +40,6 @@ pub refuse-on : {b : Place} (n : ℕ) (r : Refusal) → b ≡ Nowhere → refuse
 unfolding refuse
 refuse-on n r e = ap (λ (b : Place). refuse n b r) e
 
--- A rule with one place: kept, or broken there.
 abbrev pub keptAt : Bool → ℕ → Place
 keptAt kept p = pick kept Nowhere (At p)
 
@@ -53,7 +57,6 @@ kept-at {b} {P} p q r = (λ e. of b r e, λ h. no _ _ (refutes r (h .1)) ∙ ap 
     of true r e = let z : _≡_ {A = ℕ} 0 1 = cc in absurd (omega arith)
     of false r e = (let z : p ≡ q = cc in sym z, r .denies refl)
 
--- Refusals in a row, with r behind them: where none of them is given, r; else what they say, whatever r is.
 pub record Chain (c : Refusal → Refusal) : Type 0 where
   pub on : c none .number ≡ 0 → (r : Refusal) → c r ≡ r
   pub stays : (c none .number ≡ 0 → ⊥) → (r : Refusal) → c r ≡ c none
@@ -86,6 +89,5 @@ chain-both c d j k = record { on = on; stays = stays }
         go (inl z) = ap c (k .stays (λ e. m (ap (λ (x : Refusal). x .number) (j .on z (d none)) ∙ e)) r)
         go (inr n) = j .stays n (d r) ∙ sym (j .stays n (d none))
 
--- a row of refusals that gives none answers 0 for number and place
 pub chain-none : (c : Refusal → Refusal) → Chain c → c none .number ≡ 0 → c none ≡ none
 chain-none c k e = k .on e none

@@ -1,8 +1,9 @@
 -- Rule 7 and the test of it, both ways.
+--   reads-rule7  ==  collects decides rule 7
 use Prim.Native.Nat.{ℕ}
 use mathlib.Core.Path.{_≡_, refl, ap}
 use mathlib.Core.Bool.{Bool, true, false, not}
-use mathlib.Core.List.{List, [], _∷_, _++_, List·Memᴰ, List·Memᴰ·head, List·Memᴰ·tail, List·Memᴰ·not-nil, List·Memᴰ·cases-cons, head-eq-of-cons-eq, tail-eq-of-cons-eq, nil≢cons}
+use mathlib.Core.List.{List, [], _∷_, _++_, List·Memᴰ, List·Memᴰ·head, List·Memᴰ·tail, List·Memᴰ·not-nil, List·Memᴰ·cases-cons, Memᴰ·cast, head-eq-of-cons-eq, tail-eq-of-cons-eq, nil≢cons}
 use mathlib.Core.Logic.{_⊎_, ⊎-elim}
 use lib.Dec.{eqb}
 use Rattle.ground.specs.Pick.{Reads, reads-same, reads-eq, reads-and, reads-or, reads-not, true≠false}
@@ -13,11 +14,8 @@ use Rattle.scan.specs.Want.{Audio, Member, isMember, reads-audio, reads-member}
 use Rattle.groups.specs.Rules.{Rule7}
 use Rattle.groups.specs.Reading.{isDistinct, allKnown, unlisted, collects}
 
-pub reads-listed : (k : ℕ) (l : List ℕ) → Reads (any (eqb k) l) (List·Memᴰ k l)
-reads-listed k l = reads-same (reads-any (eqb k) (λ n. k ≡ n) (reads-eq k) l) (λ s. Memᴰ-cast (s .has) (s .among)) (λ m. record { one = k; among = m; has = refl })
-  where
-    Memᴰ-cast : {a b : ℕ} → a ≡ b → List·Memᴰ b l → List·Memᴰ a l
-    Memᴰ-cast e m = rw e m
+reads-listed : (k : ℕ) (l : List ℕ) → Reads (any (eqb k) l) (List·Memᴰ k l)
+reads-listed k l = reads-same (reads-any (eqb k) (λ n. k ≡ n) (reads-eq k) l) (λ s. Memᴰ·cast (s .has) (s .among)) (λ m. record { one = k; among = m; has = refl })
 
 abbrev Distinct : List ℕ → Type 0
 Distinct l = (x y : List ℕ) (k : ℕ) → l ≡ x ++ k ∷ y → List·Memᴰ k y → ⊥

@@ -1,6 +1,10 @@
--- Where the AudioControl group's parts stand, and the rules 5 and 6 on them, both ways.
+-- Where the AudioControl group's parts stand, and rule 5 on them, both ways.
+--   nine          ==  where rule 4 is kept, an interface descriptor is 9 long
 --   Framed s before control tail ==  the AudioControl interface control stands behind the descriptors before, in front of tail,
 --                                    and the frame is where that is
+--   framed        ==  where rule 4 is kept, so it is
+--   header-told, header-room  ==  the first descriptor behind that interface is what stands where the header should; where it ends
+--   reads-rule5   ==  the test of what stands there decides rule 5
 use Prim.Native.Nat.{ℕ, _+_, _-_, _≤_}
 use mathlib.Core.Path.{_≡_, refl, sym, ap, _∙_}
 use mathlib.Core.Bool.{true}
@@ -46,7 +50,6 @@ total-snoc : (b : List (List ℕ)) (d : List ℕ) → total (b ++ d ∷ []) ≡ 
 unfolding total
 total-snoc b d = total-append b (d ∷ [])
 
--- where rule 4 is kept, the AudioControl interface is found, and 9 long
 module _ (s : List ℕ) (k : Rule4 (rest s 0)) where
   control-found : (q : ℕ) × (foundFrom s 0 (want.Audio 1) ≡ At q)
   unfolding wants

@@ -1,5 +1,7 @@
 -- Rule 4 and what the reader computes for it, both ways.
---   Broken4 s ds p ==  p is the place of the first wrong interface descriptor; L if only the AudioControl one is missing
+--   reads-wrong   ==  the test of an interface descriptor decides the four parts of refusal 4
+--   rule4-kept    ==  breach4 is nowhere exactly where rule 4 is kept
+--   rule4-broken  ==  .. and at p exactly where p is refusal 4's place
 use Prim.Native.Nat.{ℕ}
 use mathlib.Core.Path.{_≡_, refl, sym, _∙_}
 use mathlib.Core.List.{List}
@@ -16,7 +18,7 @@ use Rattle.ground.specs.Refuse.{keptAt, kept-nowhere, kept-at}
 use Rattle.scan.specs.Cutting.{rest}
 use Rattle.scan.specs.Search.{searched}
 use Rattle.scan.specs.Want.{Interface, Audio, Setting, isAudio, reads-interface, reads-audio, reads-setting}
-use Rattle.groups.specs.Rules.{WrongInterface, not-nine, repeats, second-control, other-setting, Rule4}
+use Rattle.groups.specs.Rules.{WrongInterface, not-nine, repeats, second-control, other-setting, Rule4, Broken4, wrong, missing}
 use Rattle.groups.specs.Reading.{wrongInterface, breach4}
 
 -- the four parts of refusal 4, as one statement
@@ -45,10 +47,6 @@ parts-of b i (other-setting a n) = (a .0, inr (inr (a, inr n)))
 
 pub reads-wrong : (b : List (List ℕ)) (i : List ℕ) → Reads (wrongInterface b i) (WrongInterface b i)
 reads-wrong b i = reads-same (reads-parts b i) (wrong-of b i) (parts-of b i)
-
-pub data Broken4 (s : List ℕ) (ds : List (List ℕ)) (p : ℕ) : Type 0 where
-  wrong : Breaks WrongInterface 0 ds p → Broken4 s ds p
-  missing : Sound WrongInterface ds → (Some (Audio 1) ds → ⊥) → p ≡ length s → Broken4 s ds p
 
 module _ (s : List ℕ) where
   nowhere : searched wrongInterface s 0 ≡ Nowhere ↔ Sound WrongInterface (rest s 0)

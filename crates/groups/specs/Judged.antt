@@ -1,4 +1,5 @@
 -- The refusals 1 to 7 in a row: what stands behind them is reached exactly where none of them is given.
+--   group-chain, judged-chain  ==  the refusals 5 to 7, and all seven
 use Prim.Native.Nat.{ℕ}
 use mathlib.Core.List.{List}
 use native.Mathlib.Omega.{arith}

@@ -1,4 +1,5 @@
 -- The header's fixed opening, bytes 1 to 4: compared as a byte string, and byte by byte in the definition.
+--   reads-opens, reads-header  ==  the tests decide the rule's words, Opening and Header
 use Prim.Native.Nat.{ℕ, _+_, _<_}
 use mathlib.Core.Path.{_≡_, refl, sym, ap, _∙_}
 use mathlib.Core.List.{List, [], _∷_}

@@ -1,5 +1,6 @@
 -- What the reader computes for the rules 1 to 7: for each, nowhere or the place of the refusal (document 01's table).
---   breach1 s .. breach7 s f  ==  where rule 1 .. 7 is broken first; f is the frame: where the AudioControl group's parts stand
+--   breach1, breach2, breach4 ==  where rule 1, 2, 4 is broken (breach3 stands with the cutting)
+--   breach5, breach6, breach7 ==  the same of s and its frame f: where the AudioControl group's parts stand
 --   wrongInterface b i        ==  the test that i, behind the descriptors b, is an interface descriptor that refusal 4 names
 --   wrongAt s p i             ==  the same of i at place p of s, where two searches from the first byte on tell what stands before
 --   frameOf s                 ==  control: the AudioControl interface; header: 9 bytes behind it, where the header should stand;
@@ -10,7 +11,6 @@
 --   opens h                   ==  the test that bytes 1 to 4 of h are 24 01 00 01
 --   isHeader h                ==  the test that h opens so and is 8+n long, where byte 7 is n
 --   straysFrom s p            ==  the test that a type 24 descriptor stands in the group from place p on
---   listedOf h                ==  the numbers that the header h lists
 --   isDistinct l              ==  the test that the numbers l are distinct
 --   allKnown ds l             ==  the test that each of l is the number of a streaming or MIDI group of ds
 --   unlisted l d              ==  the test that d is the interface descriptor of such a group, and its number is not among l
@@ -20,7 +20,7 @@
 use Prim.Native.Nat.{ℕ, _+_}
 use mathlib.Core.Bool.{Bool, true, false, not, _&&_, _||_}
 use mathlib.Core.List.{List, [], _∷_}
-use lib.ListN.{length, drop}
+use lib.ListN.{length}
 use lib.Dec.{eqb}
 use Rattle.ground.specs.declared.Place.{Place}
 use Rattle.ground.specs.declared.Place.the-variants.{Nowhere, At}
@@ -34,7 +34,7 @@ use Rattle.scan.specs.Cutting.{endAt, rest, breach3}
 use Rattle.scan.specs.Search.{searched}
 use Rattle.scan.specs.Want.{isInterface, isAudio, isSetting, isMember, foundFrom}
 use Rattle.scan.specs.declared.Want.the-variants as want
-use Rattle.groups.specs.Rules.{mostBytes}
+use Rattle.groups.specs.Rules.{mostBytes, listedOf}
 use Rattle.groups.specs.declared.Frame.{Frame}
 
 unfoldable pub breach1 : List ℕ → Place
@@ -91,9 +91,6 @@ straysFrom s e = elim (foundFrom s e want.ClassOrInterface) [ Nowhere ↦ false 
 
 unfoldable pub breach6 : List ℕ → Frame → Place
 breach6 s f = keptAt (eqb (f .header + word (headerOf s f) 5) (f .end) && not (straysFrom s (f .end))) (f .header)
-
-abbrev pub listedOf : List ℕ → List ℕ
-listedOf h = drop 8 h
 
 unfoldable pub isDistinct : List ℕ → Bool
 isDistinct [] = true

@@ -1,5 +1,8 @@
 -- Rule 6 and the test of it, both ways: the run is the longest stretch of type 24 descriptors behind the header, and the group's
 -- other descriptors behind it have no type 24 among them.
+--   type-of      ==  the byte behind a descriptor's place is its type
+--   reads-rule6  ==  the test of rule 6 decides it
+--   rule6-run    ==  the run that the rule speaks of is what stands from where it begins up to the run's end
 use Prim.Native.Nat.{ℕ, _+_, _-_, _≤_}
 use mathlib.Core.Path.{_≡_, refl, sym, ap, _∙_}
 use mathlib.Core.Bool.{true, false, not, _&&_}
@@ -88,7 +91,6 @@ module _ (s : List ℕ) (from : ℕ) (inside : from ≤ length s) (full : from +
             here = ap (rest s) (end-of (At q) e) ∙ f .here;
           }
 
--- byte q+1 is the type of the descriptor at q
 pub type-of : (s : List ℕ) (q : ℕ) (d : List ℕ) (ds : List (List ℕ)) → rest s q ≡ d ∷ ds → byte s (q + 1) ≡ byte d 1
 type-of s q d ds e = go (decided (eqb (endAt s q) q) (reads-eq (endAt s q) q))
   where
@@ -163,7 +165,7 @@ later-stops [] after h last = stop-end
 later-stops [] after h (next {i = i} k) = stop-at (λ c. no-both i c k)
 later-stops (d ∷ later) after h k = stop-at (h d (List·Memᴰ·head refl) .0)
 
--- THE TIE of rule 6: header is the header's place, h the header, from where the run begins
+-- header is the header's place, h the header, from where the run begins
 module _ (s h : List ℕ) (header from : ℕ) (e : from ≡ header + length h) (inside : from ≤ length s) (full : from + total (rest s from) ≡ length s) where
   r : Run s from
   r = run-found s from inside full

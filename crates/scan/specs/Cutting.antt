@@ -2,6 +2,7 @@
 -- byte says, which is 2 at least.
 --   Descriptor d    ==  d is as long as its first byte says, and at least 2 long
 --   Cutting s ds    ==  ds are descriptors which, one after another, are the bytes s
+--   Rule3 s         ==  there is a cutting of s
 --   endAt s at      ==  where the descriptor at place at ends; at itself where none stands there
 --   rest s at       ==  the descriptors that stand one after another from place at on
 --   restFrom k s at ==  the same, the first k of them
@@ -26,6 +27,9 @@ pub record Descriptor (d : List ℕ) : Type 0 where
 pub record Cutting (s : List ℕ) (ds : List (List ℕ)) : Type 0 where
   pub whole : flatten ds ≡ s
   pub each : (d : List ℕ) → List·Memᴰ d ds → Descriptor d
+
+abbrev pub Rule3 : List ℕ → Type 0
+Rule3 s = (ds : List (List ℕ)) × Cutting s ds
 
 unfoldable pub endAt : List ℕ → ℕ → ℕ
 endAt s at = pick (ltb (byte s at) 2) at (pick (ltb (length s) (at + byte s at)) at (at + byte s at))

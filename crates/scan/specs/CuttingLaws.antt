@@ -1,7 +1,18 @@
 -- Laws of the cutting: what stands at a place, that there is one cutting at most, and that rule 3 holds exactly where the scan
 -- reaches the end.
---   Ends s at e      ==  no descriptor stands at place at and e is at, or one does and e is where it ends: what endAt answers
+--   end-stands, end-none  ==  what endAt answers where a descriptor stands at the place, and where none does
+--   end-off          ==  .. where it answers another place: 2 or more behind, and not past the end
+--   rest-none, rest-more  ==  the descriptors from a place on, where none stands there, and where one does
+--   starts-end, starts-part, starts-next  ==  where the bytes from a place on begin with a descriptor: where it ends, that it is that
+--                        part of the bytes, and what follows
+--   rest-of          ==  descriptors that the bytes from a place on begin with are the first of the rest
 --   Standing s at ds ==  ds are descriptors, and they are the bytes of s from place at up to where they reach
+--   standing         ==  so stands the rest
+--   cutting-rest     ==  a cutting is what stands from the first byte on
+--   cutting-one      ==  THE CUTTING THEOREM: there is one cutting at most
+--   cutting-exists   ==  .. the scan answers nowhere exactly where there is one
+--   cutting-misfit   ==  .. and a place exactly where that is the first at which no descriptor stands
+--   byte-inside      ==  a byte that is not 0 stands within the bytes
 use Prim.Native.Nat.{ℕ, zero, suc, _+_, _-_, _≤_, _<_}
 use mathlib.Core.Path.{_≡_, refl, sym, ap, _∙_}
 use mathlib.Core.Bool.{Bool, true, false}
@@ -17,13 +28,14 @@ use Rattle.ground.specs.declared.Place.the-variants.{Nowhere, At}
 use Rattle.ground.specs.Pick.{pick, yes, no}
 use Rattle.ground.specs.Numbers.{byte}
 use Rattle.ground.specs.Lists.{part, total, part-length, part-join, part-none, length-flatten}
-use Rattle.scan.specs.Cutting.{Descriptor, Cutting, endAt, restFrom, rest, reach, breach3, Misfit}
+use Rattle.scan.specs.Cutting.{Descriptor, Cutting, Rule3, endAt, restFrom, rest, reach, breach3, Misfit}
 
-pub data Ends (s : List ℕ) (at : ℕ) : ℕ → Type 0 where
+-- what endAt answers: at itself where no descriptor stands there, or where the one that does ends
+data Ends (s : List ℕ) (at : ℕ) : ℕ → Type 0 where
   none : (2 ≤ byte s at → at + byte s at ≤ length s → ⊥) → Ends s at at
   stands : {e : ℕ} → 2 ≤ byte s at → e ≡ at + byte s at → e ≤ length s → Ends s at e
 
-pub ends : (s : List ℕ) (at : ℕ) → Ends s at (endAt s at)
+ends : (s : List ℕ) (at : ℕ) → Ends s at (endAt s at)
 unfolding endAt
 ends s at = short (ltb (byte s at) 2) refl
   where
@@ -46,7 +58,6 @@ end-none s at h = go (ends s at)
     go (none n) = refl
     go (stands a b c) = absurd (h a (omega arith))
 
--- where the descriptor at a place ends: at the place itself, or 2 or more behind it and not past the end
 pub end-off : (s : List ℕ) (at : ℕ) → (endAt s at ≡ at → ⊥) → (at + 2 ≤ endAt s at) × (endAt s at ≤ length s)
 end-off s at h = go (ends s at) h
   where
@@ -99,7 +110,6 @@ module _ (s : List ℕ) (at : ℕ) (d tail : List ℕ) (e : drop at s ≡ d ++ t
   pub starts-next : drop (at + length d) s ≡ tail
   starts-next = sym (drop-drop (length d) at s) ∙ ap (drop (length d)) e ∙ drop-append-seam d tail
 
--- the descriptors b, standing from place at on, are the first of the rest
 pub rest-of : (s : List ℕ) (at : ℕ) (b : List (List ℕ)) (tail : List ℕ) → drop at s ≡ flatten b ++ tail → ((d : List ℕ) → List·Memᴰ d b → Descriptor d) → rest s at ≡ b ++ rest s (at + total b)
 unfolding total flatten
 rest-of s at [] tail e h = ap (rest s) (sym (add-zero at))
@@ -152,7 +162,6 @@ pub standing : (s : List ℕ) (at : ℕ) → at ≤ length s → Standing s at (
 unfolding rest
 standing s at h = rest-standing (length s) s at h
 
--- THE CUTTING THEOREM, in parts: a cutting is what stands from the first byte on, so there is one at most
 pub cutting-rest : (s : List ℕ) (ds : List (List ℕ)) → Cutting s ds → rest s 0 ≡ ds
 cutting-rest s ds c =
     rest-of s 0 ds [] (sym (c .whole) ∙ sym (append-nil (flatten ds))) (c .each)
@@ -162,7 +171,6 @@ cutting-rest s ds c =
 pub cutting-one : (s : List ℕ) (ds es : List (List ℕ)) → Cutting s ds → Cutting s es → ds ≡ es
 cutting-one s ds es c d = sym (cutting-rest s ds c) ∙ cutting-rest s es d
 
--- a byte of 1 or more stands inside
 pub byte-inside : (s : List ℕ) (at : ℕ) → 0 < byte s at → at < length s
 byte-inside s at h = go (ltb at (length s)) refl
   where
@@ -187,15 +195,14 @@ none-at-reach s two room =
     let e = end-stands s p two room in
     cons≢nil (sym (rest-more s p (λ q. omega arith)) ∙ reach-stops s)
 
--- Rule 3 and what the scan answers, both ways: nowhere exactly where a cutting exists ..
-pub cutting-exists : (s : List ℕ) → (breach3 s ≡ Nowhere) ↔ ((ds : List (List ℕ)) × Cutting s ds)
+pub cutting-exists : (s : List ℕ) → (breach3 s ≡ Nowhere) ↔ Rule3 s
 unfolding breach3 reach
 cutting-exists s = (λ e. of (eqb (reach s 0) (length s)) refl e, λ c. to (c .0) (c .1))
   where
     k : Standing s 0 (rest s 0)
     k = standing s 0 (omega arith)
 
-    of : (b : Bool) → eqb (reach s 0) (length s) ≡ b → pick b Nowhere (At (reach s 0)) ≡ Nowhere → (ds : List (List ℕ)) × Cutting s ds
+    of : (b : Bool) → eqb (reach s 0) (length s) ≡ b → pick b Nowhere (At (reach s 0)) ≡ Nowhere → Rule3 s
     of true e q = (rest s 0, record { whole = k .flat ∙ part-front s (0 + total (rest s 0)) ∙ take-all (0 + total (rest s 0)) s (let h : 0 + total (rest s 0) ≡ length s = eqb-true _ _ e in omega arith); each = k .each })
     of false e q = let z : _≡_ {A = ℕ} 0 1 = cc in absurd (omega arith)
 
@@ -205,7 +212,6 @@ cutting-exists s = (λ e. of (eqb (reach s 0) (length s)) refl e, λ c. to (c .0
         let m : total (rest s 0) ≡ total ds = ap total (cutting-rest s ds c) in
         yes _ _ (eq-eqb (0 + total (rest s 0)) (length s) (omega arith))
 
--- .. and a place exactly where that is the first at which no descriptor stands
 pub cutting-misfit : (s : List ℕ) (p : ℕ) → (breach3 s ≡ At p) ↔ Misfit s p
 unfolding breach3 reach
 cutting-misfit s p = (λ e. of (eqb (reach s 0) (length s)) refl e, to)

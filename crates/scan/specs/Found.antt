@@ -1,5 +1,12 @@
 -- What a search by what is wanted has found: its place, what it passed, and that nothing of what it passed was wanted.
+--   found-any, found-none  ==  a search finds a place exactly where something wanted stands
+--   rest-split, rest-front ==  what stands from a place on, cut in two: the second part is what stands behind the first, and the first
+--                        is all that stands where the bytes end there
 --   Found w s from q ==  q is the place of the first wanted descriptor; the descriptors before it are passed, none of them wanted
+--   found            ==  what a search from within the bytes has found
+--   found-before     ==  during a search from the first byte on: the first wanted stands before exactly where one of what was passed is
+--                        wanted
+--   found-room       ==  wherever a search began, what it found is a whole descriptor within the bytes
 use Prim.Native.Nat.{ℕ, _+_, _-_, _≤_, _<_}
 use mathlib.Core.Path.{_≡_, refl, sym, ap, _∙_}
 use mathlib.Core.Bool.{Bool, true, false}
@@ -19,16 +26,14 @@ use Rattle.scan.specs.Search.{searched, Passed}
 use Rattle.scan.specs.Want.{wants, foundFrom}
 use Rattle.scan.specs.declared.Want.{Want}
 
--- a search finds something exactly where something wanted stands
 pub found-any : (w : Want) (s : List ℕ) (from q : ℕ) → foundFrom s from w ≡ At q → any (wants w) (rest s from) ≡ true
 unfolding foundFrom searched
-found-any w s from q e = first-at-any (wants w) from [] (rest s from) q e
+found-any w s from q e = first-at-any (wants w) from (rest s from) q e
 
 pub found-none : (w : Want) (s : List ℕ) (from : ℕ) → foundFrom s from w ≡ Nowhere → any (wants w) (rest s from) ≡ false
 unfolding foundFrom searched
-found-none w s from e = first-none-any (wants w) from [] (rest s from) e
+found-none w s from e = first-none-any (wants w) from (rest s from) e
 
--- what stands from a place on, cut in two: the second part is what stands behind the first, and the first is all that stands up to there
 module _ (s : List ℕ) (from : ℕ) (h : from ≤ length s) (x y : List (List ℕ)) (e : rest s from ≡ x ++ y) where
   k : Standing s from (rest s from)
   k = standing s from h
@@ -91,7 +96,6 @@ found w s from q h e = of (first-at (λ b d. wants w d) (λ b d. wants w d ≡ t
           none-passed = sound-none (wants w) (b .before) (b .none-before);
         }
 
--- during a search from the first byte on: the first wanted stands before exactly where one of what was passed is wanted
 pub found-before : (w : Want) (s : List ℕ) (t : List (List ℕ) → List ℕ → Bool) (at : ℕ) (g : Passed t s 0 at) → isBefore (foundFrom s 0 w) at ≡ any (wants w) (g .behind)
 unfolding foundFrom searched
 found-before w s t at g =
@@ -100,7 +104,6 @@ found-before w s t at g =
     ∙ ap (λ (i : ℕ). isBefore (firstFrom (λ b d. wants w d) 0 [] (g .behind ++ rest s at)) i) (g .place)
     ∙ first-before (wants w) 0 [] (g .behind) (rest s at) (λ d m. let two = k .each d (rw (g .whole) (Memᴰ·append-left (rest s at) m)) .two in omega arith)
 
--- wherever a search began, what it found is a whole descriptor within the bytes
 pub found-room : (w : Want) (s : List ℕ) (from q : ℕ) → foundFrom s from w ≡ At q → q + 2 ≤ length s
 unfolding any
 found-room w s from q e = go (leb from (length s)) refl

@@ -2,6 +2,8 @@
 -- come, and what each way out of its loop answers. Every search of the cutting layer is a loop of this form.
 --   searched t s from   ==  the place of the first descriptor from place from on that the test t holds of
 --   Passed t s from at  ==  the search has come to place at, and what it finds is what it finds from there on
+--   start, stop, hit, miss  ==  the loop's start, its two ways out, and its next turn
+--   ordered, inside, falls  ==  a turn's part of the bytes is one, and what is left grows shorter
 use Prim.Native.Nat.{ℕ, _+_, _-_, _≤_, _<_}
 use mathlib.Core.Path.{_≡_, refl, sym, ap, _∙_}
 use mathlib.Core.Bool.{Bool, true, false}
@@ -56,7 +58,6 @@ module _ (t : List (List ℕ) → List ℕ → Bool) (s : List ℕ) where
             same = g .same ∙ ap (firstFrom t at (g .behind)) next ∙ first-on t at (g .behind) _ _ y ∙ ap (λ (i : ℕ). firstFrom t i (g .behind ++ part s at e ∷ []) (rest s e)) m;
           }
 
--- the loop's steps: each descriptor is a part of the bytes, and the rest grows shorter
 module _ (s : List ℕ) (at e : ℕ) (f : e ≡ endAt s at) (h : e ≡ at → ⊥) where
   pub ordered : at ≤ e
   ordered = let o = end-off s at (λ q. h (f ∙ q)) in omega arith

@@ -5,7 +5,8 @@
 --   Audio k d          ==  an interface descriptor of class 1 and subclass k: 1 AudioControl, 2 AudioStreaming, 3 MIDI
 --   Setting n a d      ==  an interface descriptor of number n and alternate setting a
 --   Member n d         ==  the interface descriptor of a streaming or MIDI group of number n
---   isInterface ..     ==  the tests
+--   isInterface, isClass, isAudio, isSetting, isMember  ==  the tests
+--   reads-interface, reads-class, reads-audio, reads-setting, reads-member  ==  that they decide the statements
 --   wants w d          ==  the search for w stops at d
 --   foundFrom s from w ==  the place of the first descriptor from place from on that the search for w stops at
 use Prim.Native.Nat.{ℕ}
@@ -75,7 +76,6 @@ unfoldable pub wants : Want → List ℕ → Bool
 wants (want.Audio k) d = isAudio k d
 wants (want.Setting n a) d = isSetting n a d
 wants (want.Member n) d = isMember n d
-wants want.Interface d = isInterface d
 wants want.NotClass d = not (isClass d)
 wants want.ClassOrInterface d = isClass d || isInterface d
 

@@ -1,9 +1,9 @@
 // Bytes to descriptors. What it promises to the layer above: for every slice and every place, the byte and the number that stand there,
 // where the descriptor there ends, how far descriptors stand one after another from there on, and the first of them that is wanted.
 ghost use mathlib.Core.Path.{_≡_};
+ghost use mathlib.Core.Bool.{_||_};
 ghost use Rattle.ground.specs.Numbers.{byte, word};
 ghost use Rattle.scan.specs.Cutting.{endAt, reach};
-ghost use mathlib.Core.Bool.{_||_};
 ghost use Rattle.scan.specs.Want.{isInterface, isClass, isAudio, isSetting, isMember, wants, foundFrom};
 use ground::Place;
 
@@ -54,17 +54,15 @@ pub fn reach_of(s: &[u8], from: usize) -> usize
 
 // What a search among descriptors stops at.
 pub enum Want {
-    // An interface descriptor of type 04.
-    Interface,
     // An interface descriptor of class 1 and this subclass.
     Audio(u8),
     // An interface descriptor of this number and alternate setting.
     Setting(u8, u8),
     // The interface descriptor of a streaming or MIDI group of this number.
     Member(u8),
-    // What ends a run of type 24 descriptors.
+    // A descriptor of another type than 24: what ends a run.
     NotClass,
-    // A type 24 descriptor, or what ends the group.
+    // A type 24 descriptor, or the interface descriptor that ends the group.
     ClassOrInterface,
 }
 
@@ -114,7 +112,7 @@ fn is_member(d: &[u8], number: u8) -> bool
     false
 }
 
-// A descriptor of type 24 hex, as the header and the entities are.
+// A descriptor of type 24 hex, as the header and the entities are: a class descriptor.
 pub fn is_class(d: &[u8]) -> bool
     ensures { λ r. ⌜ r ≡ isClass (now (d .entry)) ⌝ }
 {
@@ -134,7 +132,6 @@ fn wanted(d: &[u8], want: Want) -> bool
     ensures { λ r. ⌜ r ≡ wants want (now (d .entry)) ⌝ }
 {
     match want {
-        Want::Interface => is_interface(d),
         Want::Audio(subclass) => is_audio(d, subclass),
         Want::Setting(number, setting) => is_setting(d, number, setting),
         Want::Member(number) => is_member(d, number),

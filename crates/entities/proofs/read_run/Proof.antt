@@ -1,6 +1,6 @@
 -- The loop stands behind the descriptors that it has counted; they stand in the first places, and the spare places are blank.
 use borrow.Author.Needs.{needs}
-use Prim.Native.Nat.{ℕ, suc, _+_, _-_, _≤_, _<_, _^_}
+use Prim.Native.Nat.{ℕ, _+_, _-_, _≤_, _<_, _^_}
 use mathlib.Core.Path.{_≡_, refl, sym, ap, _∙_}
 use mathlib.Core.List.{List, [], _∷_, _++_, append-nil}
 use native.Mathlib.Omega.{arith}
@@ -15,20 +15,9 @@ use Rattle.scan.specs.CuttingLaws.{end-off, rest-none, rest-more}
 use Rattle.scan.specs.Search.{ordered, inside, falls}
 use Rattle.entities.specs.declared.Node.{Node}
 use Rattle.entities.specs.Run.{mostEntities, nodeOf, nodesFrom, blankNode, runIn}
+use Rattle.entities.specs.RunLaws.{nodes-length, nodes-more}
 use Rattle.entities.proofs.read_run.Statement.{statement}
 use Rattle.entities.proofs.read_run.Tie as tie
-
-nodes-more : (p : ℕ) (ds : List (List ℕ)) (d : List ℕ) → nodesFrom p (ds ++ d ∷ []) ≡ nodesFrom p ds ++ nodeOf (p + total ds) d ∷ []
-unfolding nodesFrom total
-nodes-more p [] d = ap (λ (i : ℕ). nodeOf i d ∷ []) (sym (add-zero p))
-nodes-more p (x ∷ ds) d =
-    let q : p + length x + total ds ≡ p + (length x + total ds) = omega arith in
-    ap (λ (l : List Node). nodeOf p x ∷ l) (nodes-more (p + length x) ds d ∙ ap (λ (i : ℕ). nodesFrom (p + length x) ds ++ nodeOf i d ∷ []) q)
-
-nodes-count : (p : ℕ) (ds : List (List ℕ)) → length (nodesFrom p ds) ≡ length ds
-unfolding nodesFrom
-nodes-count p [] = refl
-nodes-count p (d ∷ ds) = ap suc (nodes-count (p + length d) ds)
 
 record Kept (s : List ℕ) (from : ℕ) (nodes : List Node) (count at : ℕ) : Type 0 where
   behind : List (List ℕ)
@@ -71,7 +60,7 @@ module _ (s : List ℕ) (from : ℕ) (nodes : List Node) (count at e : ℕ) (g :
           counted = omega arith;
           few = omega arith;
           filled =
-              z ∙ ap (λ (x : List Node). set x count v) (g .filled) ∙ ap (λ (i : ℕ). set (pad blankNode mostEntities (nodesFrom from (g .behind))) i v) (c ∙ sym (nodes-count from (g .behind)))
+              z ∙ ap (λ (x : List Node). set x count v) (g .filled) ∙ ap (λ (i : ℕ). set (pad blankNode mostEntities (nodesFrom from (g .behind))) i v) (c ∙ sym (nodes-length from (g .behind)))
               ∙ pad-set blankNode mostEntities (nodesFrom from (g .behind)) v
               ∙ ap (pad blankNode mostEntities) (ap (λ (x : Node). nodesFrom from (g .behind) ++ x ∷ []) (y ∙ ap (λ (i : ℕ). nodeOf i (part s at e)) p) ∙ sym (nodes-more from (g .behind) (part s at e)));
         }

@@ -11,10 +11,6 @@ use Rattle.scan.proofs.wanted.Statement.{statement}
 use Rattle.scan.proofs.wanted.Tie as tie
 
 module _ (w : Want) (d : List ℕ) (r : Bool) where
-  interface : w ≡ want.Interface → r ≡ isInterface d → r ≡ wants w d
-  unfolding wants
-  interface e h = rw e h
-
   audio : (k : ℕ) → w ≡ want.Audio k → r ≡ isAudio k d → r ≡ wants w d
   unfolding wants
   audio k e h = rw e h
@@ -35,13 +31,7 @@ module _ (w : Want) (d : List ℕ) (r : Bool) where
   unfolding wants
   class-or-interface e h = rw e h
 
-ruleset laws = (interface, audio, setting, member, not-class, class-or-interface, needs)
-
-enum-told : tie.Need-enum-told
-enum-told c = search laws
-
-is-interface-requires : tie.Need-is-interface-requires
-is-interface-requires c κs = search laws
+ruleset laws = (audio, setting, member, not-class, class-or-interface, needs)
 
 enum-known-want : tie.Need-enum-known-want
 enum-known-want c = search laws
@@ -61,14 +51,14 @@ enum-known-want-3 c = search laws
 is-member-requires : tie.Need-is-member-requires
 is-member-requires c κs = search laws
 
-enum-told-2 : tie.Need-enum-told-2
-enum-told-2 c = search laws
+enum-told : tie.Need-enum-told
+enum-told c = search laws
 
 is-class-requires : tie.Need-is-class-requires
 is-class-requires c κs = search laws
 
-enum-told-3 : tie.Need-enum-told-3
-enum-told-3 c = search laws
+enum-told-2 : tie.Need-enum-told-2
+enum-told-2 c = search laws
 
 class-or-interface-requires : tie.Need-class-or-interface-requires
 class-or-interface-requires c κs = search laws
@@ -88,28 +78,22 @@ returns-4 c = search laws
 returns-5 : tie.Need-returns-5
 returns-5 c = search laws
 
-returns-6 : tie.Need-returns-6
-returns-6 c = search laws
-
 pub wanted-spec : {M : Type 1} → statement M
 wanted-spec =
     tie.close
     (tie.spec
-    enum-told
-    is-interface-requires
     enum-known-want
     is-audio-requires
     enum-known-want-2
     is-setting-requires
     enum-known-want-3
     is-member-requires
-    enum-told-2
+    enum-told
     is-class-requires
-    enum-told-3
+    enum-told-2
     class-or-interface-requires
     returns
     returns-2
     returns-3
     returns-4
-    returns-5
-    returns-6)
+    returns-5)
