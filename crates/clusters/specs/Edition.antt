@@ -25,10 +25,10 @@ use Rattle.ground.specs.Pick.{Reads}
 use Rattle.layout.specs.declared.Cluster.{Cluster}
 use Rattle.layout.specs.declared.Entity.{Entity}
 use Rattle.entities.specs.declared.Run.{Run}
-use Rattle.entities.specs.Run.{mostEntities}
+use Rattle.entities.specs.Run.{mostEntities, held, entityAt, idAt, placeAt}
 use Rattle.graph.specs.Rounds.{clusterRounds}
-use Rattle.sources.specs.Held.{held, entityAt, idAt, placeAt, sourcesAt, linkedTo}
-use Rattle.sources.specs.Firsts.{firstIn}
+use Rattle.sources.specs.Pins.{sourcesAt, linkedTo}
+use Rattle.ground.specs.Places.{firstIn}
 use Rattle.sources.specs.Lookup.{linksOf}
 use Rattle.sources.specs.Rules.{Rule10, Rule11}
 use Rattle.ranks.specs.Rules.{mostSteps, Ranking}

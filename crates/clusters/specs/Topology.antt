@@ -22,13 +22,13 @@ use Rattle.ground.specs.Pick.{Reads, shows, refutes}
 use Rattle.layout.specs.declared.Cluster.{Cluster}
 use Rattle.layout.specs.declared.Entity.{Entity}
 use Rattle.entities.specs.declared.Run.{Run}
-use Rattle.entities.specs.Run.{mostEntities}
+use Rattle.entities.specs.Run.{mostEntities, held, entityAt, idAt, placeAt}
 use Rattle.graph.specs.Ranks.{AllSettled}
 use Rattle.graph.specs.Clusters.{entering, Made, after, after-made, entering-settled}
 use Rattle.graph.specs.Validity.{Valid, Decided, decided-by-rounds}
 use Rattle.graph.specs.Places.{after-at, entering-at}
-use Rattle.sources.specs.Held.{held, entityAt, idAt, placeAt, linkedTo}
-use Rattle.sources.specs.Firsts.{Breaks, breach-nowhere, breach-at}
+use Rattle.sources.specs.Pins.{linkedTo}
+use Rattle.ground.specs.Places.{FirstPlace, breach-nowhere, breach-at}
 use Rattle.sources.specs.Lookup.{linksOf, entityById, sourcesById, idsOf}
 use Rattle.sources.specs.Rules.{Rule10, Rule11}
 use Rattle.sources.specs.GraphLaws.{id-in, ids-few, entity-own, sources-own, each-own, closed-links, names-links}
@@ -99,7 +99,7 @@ module _ (ed : Edition) (run : Run) (rule10 : Rule10 run) (rule11 : Rule11 run) 
           λ r. b .1 (λ i l k. k .2 (reads-place (k .0) (k .1) i l .says (shows (reads-place (r .0) (r .1) i l) (r .2 i l)))),
         )
 
-    pub rule13-at : (q : ℕ) → (breach13 ed run ≡ At q) ↔ Breaks (held run) (placeAt run) (Broken ed run) q
+    pub rule13-at : (q : ℕ) → (breach13 ed run ≡ At q) ↔ FirstPlace (held run) (placeAt run) (Broken ed run) q
     unfolding breach13
     rule13-at = breach-at (held run) (placeAt run) (Broken ed run) (λ i. not (keepsAt ed run i)) reads-broken
 

@@ -6,7 +6,7 @@ ghost use lib.Dec.{eqb};
 ghost use lib.ListN.{getD, take};
 ghost use Rattle.graph.specs.Rounds.{clusterRound, clusterRounds};
 ghost use Rattle.entities.specs.Run.{mostEntities};
-ghost use Rattle.sources.specs.Held.{linked, linkedTo};
+ghost use Rattle.sources.specs.Pins.{linked, linkedTo};
 ghost use Rattle.ranks.specs.Rules.{mostSteps};
 ghost use Rattle.clusters.specs.Audio.{firstOf, alike, alikeIn, Entering, giveOut, mixerLength, mixerKept, featureLength, featureKept, keeps, audio};
 ghost use Rattle.clusters.specs.Edition.{noCluster, clustersAt, ruleAt, clustersOf, breach13};

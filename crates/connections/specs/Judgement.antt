@@ -11,8 +11,8 @@ use Rattle.ground.specs.declared.Place.the-variants.{Nowhere, At}
 use Rattle.ground.specs.declared.Refusal.{Refusal}
 use Rattle.ground.specs.Refuse.{refuse, refuse-at, refuse-on}
 use Rattle.entities.specs.declared.Run.{Run}
-use Rattle.sources.specs.Held.{held, placeAt}
-use Rattle.sources.specs.Firsts.{Breaks}
+use Rattle.entities.specs.Run.{held, placeAt}
+use Rattle.ground.specs.Places.{FirstPlace}
 use Rattle.sources.specs.Rules.{WrongId, Rule10, WrongSources, Rule11, breach10, breach11}
 use Rattle.sources.specs.RuleLaws.{rule10-nowhere, rule10-at, rule11-nowhere, rule11-at}
 use Rattle.ranks.specs.Rules.{Endless, Rule12, breach12}
@@ -25,7 +25,7 @@ unfoldable pub judged : Run → Refusal → Refusal
 judged run r = refuse 10 (breach10 run) (refuse 11 (breach11 run) (refuse 12 (breach12 run) (refuse 13 (breach13 audio run) r)))
 
 abbrev pub FirstWrong : Run → (ℕ → Type 0) → ℕ → Type 0
-FirstWrong run Wrong q = Breaks (held run) (placeAt run) Wrong q
+FirstWrong run Wrong q = FirstPlace (held run) (placeAt run) Wrong q
 
 module _ (run : Run) (r : Refusal) where
   pub data Judgement : Refusal → Type 0 where

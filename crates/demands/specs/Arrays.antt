@@ -15,14 +15,13 @@ use Rattle.ground.specs.Lists.{pad-length}
 use Rattle.layout.specs.declared.Cluster.{Cluster}
 use Rattle.entities.specs.declared.Node.{Node}
 use Rattle.entities.specs.declared.Run.{Run}
-use Rattle.entities.specs.Run.{mostEntities, nodesFrom, blankNode, runIn}
+use Rattle.entities.specs.Run.{mostEntities, nodesFrom, blankNode, runIn, held, idAt}
 use Rattle.entities.specs.RunLaws.{nodes-length, DistinctIds, laid-distinct}
 use Rattle.cutting.specs.Rules.{Kept}
 use Rattle.graph.specs.Members.{map-same}
 use Rattle.graph.specs.Tables.{below, below-lt}
 use Rattle.graph.specs.Places.{named-list}
 use Rattle.graph.specs.Rounds.{length-roundsOf}
-use Rattle.sources.specs.Held.{held, idAt}
 use Rattle.ranks.specs.Rules.{mostSteps}
 use Rattle.clusters.specs.Edition.{noCluster, Connected, clustersOf}
 use Rattle.clusters.specs.Audio.{audio}

@@ -17,9 +17,10 @@ use Rattle.layout.specs.declared.Cluster.{Cluster}
 use Rattle.layout.specs.declared.Entity.{Entity}
 use Rattle.layout.specs.declared.Entity.the-variants.{Unknown, Input, Output, Mixer, Selector, Printed, Feature}
 use Rattle.entities.specs.declared.Run.{Run}
+use Rattle.entities.specs.Run.{held, entityAt, idAt}
 use Rattle.graph.specs.Members.{_∈_}
 use Rattle.channels.specs.Declared.{mostChannels}
-use Rattle.sources.specs.Held.{held, entityAt, idAt, sourcesAt}
+use Rattle.sources.specs.Pins.{sourcesAt}
 use Rattle.sources.specs.Lookup.{placeOf}
 use Rattle.sources.specs.GraphLaws.{source-borne}
 use Rattle.clusters.specs.Edition.{Connected, enteringAt}

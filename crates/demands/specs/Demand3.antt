@@ -29,11 +29,11 @@ use Rattle.layout.specs.Sources.{sourceList, sourcesIn, sourcesOf}
 use Rattle.layout.specs.SourcesLaws.{padded-length, sources-few}
 use Rattle.entities.specs.declared.Node.{Node}
 use Rattle.entities.specs.declared.Run.{Run}
-use Rattle.entities.specs.Run.{nodeOf, runIn}
+use Rattle.entities.specs.Run.{nodeOf, runIn, held, nodeAt, idAt}
 use Rattle.cutting.specs.declared.Survey.{Survey}
 use Rattle.cutting.specs.Survey.{surveyOf}
 use Rattle.cutting.specs.Exact.{kept-cutting}
-use Rattle.sources.specs.Held.{held, nodeAt, idAt, sourcesAt}
+use Rattle.sources.specs.Pins.{sourcesAt}
 use Rattle.sources.specs.RunLaws.{node-in, id-read, sources-read}
 use Rattle.clusters.specs.Edition.{Connected, clustersOf}
 use Rattle.clusters.specs.Audio.{audio}

@@ -14,15 +14,15 @@ use borrow.Author.Tests.{not-true, not-false}
 use Rattle.ground.specs.declared.Place.the-variants.{Nowhere, At}
 use Rattle.ground.specs.Pick.{Reads, shows, true≠false}
 use Rattle.entities.specs.declared.Run.{Run}
-use Rattle.entities.specs.Run.{mostEntities}
+use Rattle.entities.specs.Run.{mostEntities, held, idAt, placeAt}
 use native.Mathlib.Omega.{arith}
 use Rattle.graph.specs.Members.{_∈_, along}
 use Rattle.graph.specs.Chains.{settled, Chain, Longer}
 use Rattle.graph.specs.Chains as chains
 use Rattle.graph.specs.Ranks.{Closed, Ranked, AllSettled, longer-unsettled, reads-longer, ranks-chains}
 use Rattle.graph.specs.Places.{closed-named, settled-at}
-use Rattle.sources.specs.Held.{held, idAt, placeAt, sourcesAt, linkedTo}
-use Rattle.sources.specs.Firsts.{Breaks, breach-nowhere, breach-at}
+use Rattle.sources.specs.Pins.{sourcesAt, linkedTo}
+use Rattle.ground.specs.Places.{FirstPlace, breach-nowhere, breach-at}
 use Rattle.sources.specs.Lookup.{placeOf, linksOf, sourcesById, idsOf}
 use Rattle.sources.specs.Rules.{Rule10, Rule11}
 use Rattle.sources.specs.GraphLaws.{id-in, ids-few, sources-own, each-own, source-borne, closed-links, names-links}
@@ -66,7 +66,7 @@ module _ (run : Run) (rule10 : Rule10 run) (rule11 : Rule11 run) where
   unfolding breach12
   rule12-nowhere = breach-nowhere (held run) (placeAt run) (Endless run) (λ i. not (getD (settledIn run) i false)) reads-endless
 
-  pub rule12-at : (q : ℕ) → (breach12 run ≡ At q) ↔ Breaks (held run) (placeAt run) (Endless run) q
+  pub rule12-at : (q : ℕ) → (breach12 run ≡ At q) ↔ FirstPlace (held run) (placeAt run) (Endless run) q
   unfolding breach12
   rule12-at = breach-at (held run) (placeAt run) (Endless run) (λ i. not (getD (settledIn run) i false)) reads-endless
 

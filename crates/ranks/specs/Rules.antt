@@ -16,11 +16,11 @@ use lib.ListN.{getD}
 use Rattle.ground.specs.declared.Place.{Place}
 use Rattle.ground.specs.declared.Place.the-variants.{Nowhere, At}
 use Rattle.entities.specs.declared.Run.{Run}
-use Rattle.entities.specs.Run.{mostEntities}
+use Rattle.entities.specs.Run.{mostEntities, held, idAt, placeAt}
 use Rattle.graph.specs.Members.{_∈_, all}
 use Rattle.graph.specs.Rounds.{settlingRounds}
-use Rattle.sources.specs.Held.{held, idAt, placeAt, sourcesAt, linkedTo}
-use Rattle.sources.specs.Firsts.{firstIn}
+use Rattle.sources.specs.Pins.{sourcesAt, linkedTo}
+use Rattle.ground.specs.Places.{firstIn}
 use Rattle.sources.specs.Lookup.{linksOf}
 use Rattle.sources.specs.Rules.{Bears}
 

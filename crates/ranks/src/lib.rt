@@ -7,7 +7,7 @@ ghost use Prim.Native.Nat.{_<_};
 ghost use lib.ListN.{getD, set, take};
 ghost use Rattle.graph.specs.Rounds.{settlingRound, settlingRounds};
 ghost use Rattle.entities.specs.Run.{mostEntities};
-ghost use Rattle.sources.specs.Held.{linked, linkedTo};
+ghost use Rattle.sources.specs.Pins.{linked, linkedTo};
 ghost use Rattle.ranks.specs.Rules.{mostSteps, allSettled, settledIn, breach12};
 use entities::MOST_ENTITIES;
 use entities::Run;

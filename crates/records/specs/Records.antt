@@ -16,7 +16,7 @@ use Rattle.layout.specs.declared.Cluster.{Cluster}
 use Rattle.layout.specs.Layout.{idOf, kindOf}
 use Rattle.entities.specs.declared.Node.{Node}
 use Rattle.entities.specs.declared.Run.{Run}
-use Rattle.sources.specs.Held.{held, nodeAt}
+use Rattle.entities.specs.Run.{held, nodeAt}
 
 abbrev pub recordSize : ℕ
 recordSize = 16

@@ -18,15 +18,15 @@ use lib.Dec.{eqb}
 use lib.ListN.{length, take}
 use borrow.Author.Tests.{eq-eqb, ne-eqb, eqb-true, eqb-false}
 use Rattle.entities.specs.declared.Run.{Run}
-use Rattle.entities.specs.Run.{mostEntities}
+use Rattle.entities.specs.Run.{mostEntities, held, nodeAt, entityAt, idAt}
 use Rattle.graph.specs.Members.{_∈_, map-same, along}
 use Rattle.graph.specs.Tables.{getD-tabulate, below-lt}
 use Rattle.graph.specs.Rounds.{ClosedBelow}
 use Rattle.graph.specs.Places.{Names, named-in, length-named}
 use Rattle.sources.specs.declared.Found.{Found}
 use Rattle.sources.specs.declared.Found.the-variants.{Nothing, At}
-use Rattle.sources.specs.Held.{held, nodeAt, entityAt, idAt, sourcesAt, blankLink, linked, linkedTo}
-use Rattle.sources.specs.Firsts.{Told, nothing, first, told, first-some}
+use Rattle.sources.specs.Pins.{sourcesAt, blankLink, linked, linkedTo}
+use Rattle.ground.specs.Places.{Finding, nothing, first, finding, first-some}
 use Rattle.sources.specs.Lookup.{lookupBelow, indexOf, placeOf, linkOf, linksOf, entityById, sourcesById, idsOf}
 use Rattle.sources.specs.Rules.{Rule10, Bears, unknown, Rule11}
 
@@ -76,9 +76,9 @@ module _ (run : Run) (rule10 : Rule10 run) where
   module _ (rule11 : Rule11 run) where
     pub source-borne : (i : ℕ) → i < held run → (s : ℕ) → s ∈ sourcesAt run i → Bears run s (placeOf run s)
     unfolding placeOf lookupBelow indexOf
-    source-borne i l s m = go (told (λ j. eqb (idAt run j) s) At Nothing (held run))
+    source-borne i l s m = go (finding (λ j. eqb (idAt run j) s) At Nothing (held run))
       where
-        go : {r : Found} → Told (λ j. eqb (idAt run j) s) At Nothing (held run) r → (indexOf r < held run) × (idAt run (indexOf r) ≡ s)
+        go : {r : Found} → Finding (λ j. eqb (idAt run j) s) At Nothing (held run) r → (indexOf r < held run) × (idAt run (indexOf r) ≡ s)
         go (nothing h) = absurd (rule11 i l s m (unknown (λ j b. eqb-false _ _ (h j (b .0)) (b .1))))
         go (first f) = (f .inside, eqb-true _ _ (f .passes))
 

@@ -1,5 +1,4 @@
-pub mod Held
-pub mod Firsts
+pub mod Pins
 pub mod Lookup
 pub mod Rules
 pub mod RuleLaws

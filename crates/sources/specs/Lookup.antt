@@ -13,14 +13,14 @@ use lib.Dec.{eqb}
 use Rattle.layout.specs.declared.Entity.{Entity}
 use Rattle.layout.specs.declared.Sources.{Sources}
 use Rattle.entities.specs.declared.Run.{Run}
-use Rattle.entities.specs.Run.{mostEntities}
+use Rattle.entities.specs.Run.{mostEntities, held, nodeAt, entityAt, idAt}
 use Rattle.graph.specs.Tables.{tabulate}
 use Rattle.graph.specs.Places.{named}
 use Rattle.sources.specs.declared.Found.{Found}
 use Rattle.sources.specs.declared.Found.the-variants.{Nothing, At}
 use Rattle.sources.specs.declared.Link.{Link}
-use Rattle.sources.specs.Held.{held, nodeAt, entityAt, idAt, sourcesAt}
-use Rattle.sources.specs.Firsts.{firstIn}
+use Rattle.sources.specs.Pins.{sourcesAt}
+use Rattle.ground.specs.Places.{firstIn}
 
 unfoldable pub lookupBelow : Run → ℕ → ℕ → Found
 lookupBelow run n s = firstIn (λ i. eqb (idAt run i) s) At Nothing 0 n

@@ -15,10 +15,11 @@ use Rattle.ground.specs.declared.Place.the-variants as place
 use Rattle.ground.specs.Pick.{Reads, reads-eq, reads-or, reads-lt, decided, true≠false}
 use Rattle.ground.specs.Lists.{reads-any}
 use Rattle.entities.specs.declared.Run.{Run}
+use Rattle.entities.specs.Run.{held, nodeAt, entityAt, idAt, placeAt}
 use Rattle.sources.specs.declared.Found.{Found}
 use Rattle.sources.specs.declared.Found.the-variants.{Nothing, At}
-use Rattle.sources.specs.Held.{held, nodeAt, entityAt, idAt, placeAt, sourcesAt, isOutput}
-use Rattle.sources.specs.Firsts.{Told, nothing, first, told, Breaks, breach-nowhere, breach-at}
+use Rattle.sources.specs.Pins.{sourcesAt, isOutput}
+use Rattle.ground.specs.Places.{Finding, nothing, first, finding, FirstPlace, breach-nowhere, breach-at}
 use Rattle.sources.specs.Lookup.{lookupBelow}
 use Rattle.sources.specs.Rules.{WrongId, Rule10, Bears, WrongSource, zero-source, unknown, output, WrongSources, Rule11, isFound, wrongId, breach10, noOutput, wrongSource, wrongSources, breach11}
 
@@ -29,9 +30,9 @@ module _ (run : Run) where
   -- an ID is found below n exactly where an entity there bears it
   reads-found : (n s : ℕ) → Reads (isFound (lookupBelow run n s)) ((j : ℕ) × (j < n) × (idAt run j ≡ s))
   unfolding lookupBelow
-  reads-found n s = go (told (bears s) At Nothing n)
+  reads-found n s = go (finding (bears s) At Nothing n)
     where
-      go : {r : Found} → Told (bears s) At Nothing n r → Reads (isFound r) ((j : ℕ) × (j < n) × (idAt run j ≡ s))
+      go : {r : Found} → Finding (bears s) At Nothing n r → Reads (isFound r) ((j : ℕ) × (j < n) × (idAt run j ≡ s))
       go (nothing h) = record { says = λ e. absurd (true≠false (sym e)); denies = λ e k. eqb-false _ _ (h (k .0) (k .1)) (k .2) }
       go (first {i} f) = record { says = λ e. (i, f .inside, eqb-true _ _ (f .passes)); denies = λ e. absurd (true≠false e) }
 
@@ -58,7 +59,7 @@ module _ (run : Run) where
       let b = breach-nowhere (held run) (placeAt run) (WrongId run) (wrongId run) (λ i l. reads-id i) in
       (λ e. rule10-sound .0 (b .0 e), λ r. b .1 (rule10-sound .1 r))
 
-  pub rule10-at : (q : ℕ) → (breach10 run ≡ place.At q) ↔ Breaks (held run) (placeAt run) (WrongId run) q
+  pub rule10-at : (q : ℕ) → (breach10 run ≡ place.At q) ↔ FirstPlace (held run) (placeAt run) (WrongId run) q
   unfolding breach10
   rule10-at = breach-at (held run) (placeAt run) (WrongId run) (wrongId run) (λ i l. reads-id i)
 
@@ -69,9 +70,9 @@ module _ (run : Run) where
   module _ (kept : Rule10 run) where
     pub reads-source : (s : ℕ) → Reads (wrongSource run s) (WrongSource run s)
     unfolding wrongSource lookupBelow noOutput
-    reads-source s = join (reads-or _ _ (reads-eq s 0) (go (told (bears s) At Nothing (held run))))
+    reads-source s = join (reads-or _ _ (reads-eq s 0) (go (finding (bears s) At Nothing (held run))))
       where
-        go : {r : Found} → Told (bears s) At Nothing (held run) r → Reads (noOutput run r) (Useless s)
+        go : {r : Found} → Finding (bears s) At Nothing (held run) r → Reads (noOutput run r) (Useless s)
         go (nothing h) = record { says = λ e. inl (λ i b. eqb-false _ _ (h i (b .0)) (b .1)); denies = λ e. absurd (true≠false e) }
         go (first {i} f) =
             let b : Bears run s i = (f .inside, eqb-true _ _ (f .passes)) in
@@ -105,6 +106,6 @@ module _ (run : Run) where
           λ r. b .1 (λ i l k. r i l (k .one) (k .among) (k .has)),
         )
 
-    pub rule11-at : (q : ℕ) → (breach11 run ≡ place.At q) ↔ Breaks (held run) (placeAt run) (WrongSources run) q
+    pub rule11-at : (q : ℕ) → (breach11 run ≡ place.At q) ↔ FirstPlace (held run) (placeAt run) (WrongSources run) q
     unfolding breach11
     rule11-at = breach-at (held run) (placeAt run) (WrongSources run) (λ i. wrongSources run (nodeAt run i .sources)) (λ i l. reads-sources i)

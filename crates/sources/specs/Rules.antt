@@ -20,10 +20,11 @@ use Rattle.ground.specs.declared.Place.the-variants as place
 use Rattle.ground.specs.Lists.{any, Some}
 use Rattle.layout.specs.declared.Sources.{Sources}
 use Rattle.entities.specs.declared.Run.{Run}
+use Rattle.entities.specs.Run.{held, nodeAt, entityAt, idAt, placeAt}
 use Rattle.sources.specs.declared.Found.{Found}
 use Rattle.sources.specs.declared.Found.the-variants.{Nothing, At}
-use Rattle.sources.specs.Held.{held, nodeAt, entityAt, idAt, placeAt, sourceIds, sourcesAt, isOutput}
-use Rattle.sources.specs.Firsts.{firstIn}
+use Rattle.sources.specs.Pins.{sourceIds, sourcesAt, isOutput}
+use Rattle.ground.specs.Places.{firstIn}
 use Rattle.sources.specs.Lookup.{lookupBelow, lookup}
 
 abbrev pub WrongId : Run → ℕ → Type 0

@@ -14,9 +14,9 @@ use Rattle.ground.specs.Lists.{total, pad-at}
 use Rattle.layout.specs.Layout.{entityOf, idOf}
 use Rattle.layout.specs.Sources.{sourceList, sourcesOf, sourcesIn, padded}
 use Rattle.entities.specs.declared.Node.{Node}
-use Rattle.entities.specs.Run.{mostEntities, nodeOf, nodesFrom, blankNode, runIn}
+use Rattle.entities.specs.Run.{mostEntities, nodeOf, nodesFrom, blankNode, runIn, held, nodeAt, idAt, placeAt}
 use Rattle.graph.specs.Tables.{tabulate, tabulate-same, tabulate-getD, map-tabulate}
-use Rattle.sources.specs.Held.{held, nodeAt, idAt, placeAt, sourcesAt}
+use Rattle.sources.specs.Pins.{sourcesAt}
 use Rattle.sources.specs.Lookup.{idsOf}
 
 nodes-at : (p : ℕ) (ds : List (List ℕ)) (i : ℕ) → i < length ds → getD (nodesFrom p ds) i blankNode ≡ nodeOf (p + total (take i ds)) (getD ds i [])

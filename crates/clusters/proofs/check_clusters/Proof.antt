@@ -11,10 +11,11 @@ use Rattle.layout.specs.declared.Cluster.{Cluster}
 use Rattle.layout.specs.declared.Entity.{Entity}
 use Rattle.entities.specs.declared.Node.{Node}
 use Rattle.entities.specs.declared.Run.{Run}
+use Rattle.entities.specs.Run.{held, nodeAt, entityAt, placeAt}
 use Rattle.sources.specs.declared.Link.{Link}
-use Rattle.sources.specs.Held.{held, nodeAt, entityAt, placeAt, blankLink, linked}
+use Rattle.sources.specs.Pins.{blankLink, linked}
 use Rattle.sources.specs.Lookup.{linksOf}
-use Rattle.sources.specs.Firsts.{Come, come-none, come-here, come-more, come-over}
+use Rattle.ground.specs.Places.{Come, come-none, come-here, come-more, come-over}
 use Rattle.clusters.specs.Edition.{clustersAt, clustersOf, keepsAt, breach13}
 use Rattle.clusters.specs.Audio.{keeps, audio}
 use Rattle.clusters.proofs.check_clusters.Statement.{statement}

@@ -6,7 +6,7 @@ use Rattle.layout.specs.declared.Cluster.{Cluster}
 use Rattle.entities.specs.declared.Run.{Run}
 use Rattle.graph.specs.Rounds.{clusterRounds}
 use Rattle.sources.specs.declared.Link.{Link}
-use Rattle.sources.specs.Held.{linkedTo}
+use Rattle.sources.specs.Pins.{linkedTo}
 use Rattle.sources.specs.Lookup.{linksOf}
 use Rattle.clusters.specs.Edition.{noCluster, ruleAt, clustersOf}
 use Rattle.clusters.specs.Audio.{audio}

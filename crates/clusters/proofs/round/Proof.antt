@@ -7,10 +7,11 @@ use lib.ListN.{length, getD, set, replicate, length-replicate}
 use Rattle.layout.specs.declared.Cluster.{Cluster}
 use Rattle.layout.specs.declared.Entity.{Entity}
 use Rattle.entities.specs.declared.Run.{Run}
+use Rattle.entities.specs.Run.{entityAt}
 use Rattle.graph.specs.Tables.{Filled, filled-none, filled-more, filled-full}
 use Rattle.graph.specs.Rounds.{nextRound, clusterRound}
 use Rattle.sources.specs.declared.Link.{Link}
-use Rattle.sources.specs.Held.{entityAt, blankLink, linked, linkedTo}
+use Rattle.sources.specs.Pins.{blankLink, linked, linkedTo}
 use Rattle.clusters.specs.Edition.{noCluster, clustersAt, ruleAt}
 use Rattle.clusters.specs.Audio.{firstOf, giveOut, audio}
 use Rattle.clusters.proofs.round.Statement.{statement}

@@ -9,7 +9,7 @@ use Rattle.entities.specs.declared.Run.{Run}
 use Rattle.graph.specs.Clusters.{entering}
 use Rattle.graph.specs.Rounds.{AtRound, round-none, round-more, round-last}
 use Rattle.sources.specs.declared.Link.{Link}
-use Rattle.sources.specs.Held.{linkedTo}
+use Rattle.sources.specs.Pins.{linkedTo}
 use Rattle.clusters.specs.Edition.{noCluster, ruleAt}
 use Rattle.clusters.specs.Audio.{audio}
 use Rattle.clusters.proofs.rounds.Statement.{statement}

@@ -9,8 +9,8 @@ use native.Mathlib.Omega.{arith}
 use Rattle.ground.specs.declared.Place.the-variants.{Nowhere, At}
 use Rattle.entities.specs.declared.Node.{Node}
 use Rattle.entities.specs.declared.Run.{Run}
-use Rattle.sources.specs.Held.{held, nodeAt, placeAt}
-use Rattle.sources.specs.Firsts.{Come, come-none, come-here, come-more, come-over}
+use Rattle.entities.specs.Run.{held, nodeAt, placeAt}
+use Rattle.ground.specs.Places.{Come, come-none, come-here, come-more, come-over}
 use Rattle.ranks.specs.Rules.{settledIn, breach12}
 use Rattle.ranks.proofs.check_ranks.Statement.{statement}
 use Rattle.ranks.proofs.check_ranks.Tie as tie

@@ -9,7 +9,7 @@ use Rattle.graph.specs.Tables.{Filled, filled-none, filled-more, filled-full}
 use Rattle.graph.specs.Rounds.{nextRound, settlingRound}
 use Rattle.sources.specs.declared.Link.{Link}
 use Rattle.entities.specs.Run.{mostEntities}
-use Rattle.sources.specs.Held.{linkedTo}
+use Rattle.sources.specs.Pins.{linkedTo}
 use Rattle.ranks.specs.Rules.{allSettled}
 use Rattle.ranks.proofs.round.Statement.{statement}
 use Rattle.ranks.proofs.round.Tie as tie

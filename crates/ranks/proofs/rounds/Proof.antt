@@ -4,7 +4,7 @@ use Prim.Native.Nat.{_-_}
 use mathlib.Core.Bool.{false}
 use Rattle.graph.specs.Members.{all}
 use Rattle.graph.specs.Rounds.{AtRound, round-none, round-more, round-last}
-use Rattle.sources.specs.Held.{linkedTo}
+use Rattle.sources.specs.Pins.{linkedTo}
 use Rattle.ranks.proofs.rounds.Statement.{statement}
 use Rattle.ranks.proofs.rounds.Tie as tie
 

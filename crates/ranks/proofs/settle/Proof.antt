@@ -6,7 +6,7 @@ use mathlib.Core.Bool.{Bool}
 use mathlib.Core.List.{List}
 use lib.ListN.{getD, set}
 use Rattle.sources.specs.declared.Link.{Link}
-use Rattle.sources.specs.Held.{blankLink, linked, linkedTo}
+use Rattle.sources.specs.Pins.{blankLink, linked, linkedTo}
 use Rattle.ranks.specs.Rules.{allSettled}
 use Rattle.ranks.proofs.settle.Statement.{statement}
 use Rattle.ranks.proofs.settle.Tie as tie

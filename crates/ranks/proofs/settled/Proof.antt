@@ -6,7 +6,7 @@ use mathlib.Core.List.{List}
 use Rattle.entities.specs.declared.Run.{Run}
 use Rattle.graph.specs.Rounds.{settlingRounds}
 use Rattle.sources.specs.declared.Link.{Link}
-use Rattle.sources.specs.Held.{linkedTo}
+use Rattle.sources.specs.Pins.{linkedTo}
 use Rattle.sources.specs.Lookup.{linksOf}
 use Rattle.ranks.specs.Rules.{settledIn}
 use Rattle.ranks.proofs.settled.Statement.{statement}

@@ -4,7 +4,7 @@ use Prim.Native.Nat.{ℕ, _*_}
 use mathlib.Core.Path.{_≡_, refl}
 use lib.Dec.{leb}
 use Rattle.entities.specs.declared.Run.{Run}
-use Rattle.sources.specs.Held.{held}
+use Rattle.entities.specs.Run.{held}
 use Rattle.records.specs.Records.{roomFor}
 use Rattle.records.proofs.has_room.Statement.{statement}
 use Rattle.records.proofs.has_room.Tie as tie

@@ -15,7 +15,7 @@ use Rattle.ground.specs.Pick.{yes, no}
 use Rattle.layout.specs.declared.Cluster.{Cluster}
 use Rattle.entities.specs.declared.Node.{Node}
 use Rattle.entities.specs.declared.Run.{Run}
-use Rattle.sources.specs.Held.{held, nodeAt}
+use Rattle.entities.specs.Run.{held, nodeAt}
 use Rattle.records.specs.Records.{blankCluster, recordOf, recordsTo, roomFor, shownIn}
 use Rattle.records.proofs.show.Statement.{statement}
 use Rattle.records.proofs.show.Tie as tie

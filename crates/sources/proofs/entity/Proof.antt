@@ -4,7 +4,7 @@ use Prim.Native.Nat.{ℕ}
 use mathlib.Core.Path.{_≡_, ap}
 use Rattle.entities.specs.declared.Node.{Node}
 use Rattle.entities.specs.declared.Run.{Run}
-use Rattle.sources.specs.Held.{nodeAt, entityAt}
+use Rattle.entities.specs.Run.{nodeAt, entityAt}
 use Rattle.sources.proofs.entity.Statement.{statement}
 use Rattle.sources.proofs.entity.Tie as tie
 

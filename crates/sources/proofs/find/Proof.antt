@@ -3,8 +3,8 @@ use borrow.Author.Needs.{needs}
 use Prim.Native.Nat.{ℕ}
 use mathlib.Core.Path.{_≡_, ap, _∙_}
 use Rattle.entities.specs.declared.Run.{Run}
+use Rattle.entities.specs.Run.{held}
 use Rattle.sources.specs.declared.Found.{Found}
-use Rattle.sources.specs.Held.{held}
 use Rattle.sources.specs.Lookup.{lookupBelow, lookup}
 use Rattle.sources.proofs.find.Statement.{statement}
 use Rattle.sources.proofs.find.Tie as tie

@@ -8,9 +8,9 @@ use borrow.Author.Tests.{eq-eqb, ne-eqb}
 use Rattle.layout.specs.declared.Entity.{Entity}
 use Rattle.layout.specs.Layout.{idOf}
 use Rattle.entities.specs.declared.Run.{Run}
+use Rattle.entities.specs.Run.{entityAt, idAt}
 use Rattle.sources.specs.declared.Found.the-variants.{Nothing, At}
-use Rattle.sources.specs.Held.{entityAt, idAt}
-use Rattle.sources.specs.Firsts.{Come, come-none, come-here, come-more, come-over}
+use Rattle.ground.specs.Places.{Come, come-none, come-here, come-more, come-over}
 use Rattle.sources.specs.Lookup.{lookupBelow}
 use Rattle.sources.proofs.find_below.Statement.{statement}
 use Rattle.sources.proofs.find_below.Tie as tie

@@ -6,7 +6,7 @@ use mathlib.Core.Bool.{true, false}
 use Rattle.layout.specs.declared.Cluster.{Cluster}
 use Rattle.layout.specs.declared.Entity.{Entity}
 use Rattle.layout.specs.declared.Entity.the-variants.{Unknown, Input, Output, Mixer, Selector, Printed, Feature}
-use Rattle.sources.specs.Held.{isOutput}
+use Rattle.sources.specs.Pins.{isOutput}
 use Rattle.sources.proofs.is_output.Statement.{statement}
 use Rattle.sources.proofs.is_output.Tie as tie
 

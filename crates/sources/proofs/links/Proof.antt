@@ -6,9 +6,9 @@ use mathlib.Core.List.{List}
 use lib.ListN.{length, set, replicate, length-replicate}
 use Rattle.entities.specs.declared.Node.{Node}
 use Rattle.entities.specs.declared.Run.{Run}
+use Rattle.entities.specs.Run.{nodeAt}
 use Rattle.graph.specs.Tables.{Filled, filled-none, filled-more, filled-full}
 use Rattle.sources.specs.declared.Link.{Link}
-use Rattle.sources.specs.Held.{nodeAt}
 use Rattle.sources.specs.Lookup.{linkOf, linksOf}
 use Rattle.sources.proofs.links.Statement.{statement}
 use Rattle.sources.proofs.links.Tie as tie

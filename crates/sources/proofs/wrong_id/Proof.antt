@@ -7,9 +7,9 @@ use borrow.Author.Tests.{eq-eqb, ne-eqb}
 use Rattle.layout.specs.declared.Entity.{Entity}
 use Rattle.layout.specs.Layout.{idOf}
 use Rattle.entities.specs.declared.Run.{Run}
+use Rattle.entities.specs.Run.{entityAt, idAt}
 use Rattle.sources.specs.declared.Found.{Found}
 use Rattle.sources.specs.declared.Found.the-variants.{Nothing, At}
-use Rattle.sources.specs.Held.{entityAt, idAt}
 use Rattle.sources.specs.Lookup.{lookupBelow}
 use Rattle.sources.specs.Rules.{wrongId, isFound}
 use Rattle.sources.proofs.wrong_id.Statement.{statement}

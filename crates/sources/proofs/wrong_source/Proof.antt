@@ -6,9 +6,10 @@ use mathlib.Core.Bool.{Bool, true}
 use borrow.Author.Tests.{eq-eqb, ne-eqb}
 use Rattle.layout.specs.declared.Entity.{Entity}
 use Rattle.entities.specs.declared.Run.{Run}
+use Rattle.entities.specs.Run.{entityAt}
 use Rattle.sources.specs.declared.Found.{Found}
 use Rattle.sources.specs.declared.Found.the-variants.{Nothing, At}
-use Rattle.sources.specs.Held.{entityAt, isOutput}
+use Rattle.sources.specs.Pins.{isOutput}
 use Rattle.sources.specs.Lookup.{lookup}
 use Rattle.sources.specs.Rules.{wrongSource, noOutput}
 use Rattle.sources.proofs.wrong_source.Statement.{statement}

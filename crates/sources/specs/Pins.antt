@@ -1,38 +1,18 @@
--- What the rules say of the entities of a run, place by place. A run holds 32 places, of which as many as it counts are looked at.
---   held run       ==  how many places are looked at
---   nodeAt run i   ==  what stands at place i of the run, counted from 0
---   entityAt, idAt, placeAt  ==  its kind with that kind's numbers; its ID; its place, an offset from the first byte
+-- The pins of an entity: the source IDs that stand at them, and the places of the run that they go to.
 --   sourceIds s    ==  the source IDs, as many as the pins; sourcesAt run i: those of the entity at place i
 --   isOutput e     ==  e is an Output Terminal
 --   blankLink      ==  no pins
 --   linked l       ==  the places of the run that the pins l go to; linkedTo links i: those of place i
-use Prim.Native.Nat.{ℕ, min}
+use Prim.Native.Nat.{ℕ}
 use mathlib.Core.Bool.{Bool, true, false}
 use mathlib.Core.List.{List, []}
 use lib.ListN.{getD, take}
 use Rattle.layout.specs.declared.Entity.{Entity}
 use Rattle.layout.specs.declared.Entity.the-variants.{Unknown, Input, Output, Mixer, Selector, Printed, Feature}
 use Rattle.layout.specs.declared.Sources.{Sources}
-use Rattle.layout.specs.Layout.{idOf}
-use Rattle.entities.specs.declared.Node.{Node}
 use Rattle.entities.specs.declared.Run.{Run}
-use Rattle.entities.specs.Run.{mostEntities, blankNode}
+use Rattle.entities.specs.Run.{nodeAt}
 use Rattle.sources.specs.declared.Link.{Link}
-
-abbrev pub held : Run → ℕ
-held run = min (run .count) mostEntities
-
-abbrev pub nodeAt : Run → ℕ → Node
-nodeAt run i = getD (run .nodes) i blankNode
-
-abbrev pub entityAt : Run → ℕ → Entity
-entityAt run i = nodeAt run i .entity
-
-abbrev pub idAt : Run → ℕ → ℕ
-idAt run i = idOf (entityAt run i)
-
-abbrev pub placeAt : Run → ℕ → ℕ
-placeAt run i = nodeAt run i .place
 
 abbrev pub sourceIds : Sources → List ℕ
 sourceIds s = take (s .pins) (s .ids)

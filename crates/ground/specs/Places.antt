@@ -1,14 +1,15 @@
--- The first of n places that passes a test, and what a loop that looks for it knows. "First" is by place (document 01): the
--- entities of a run stand one after another, so the first that is wrong stands before every other that is.
+-- The first of n places that passes a test, and what a loop that looks for it knows. Places are counted from 0: those of a run, of a
+-- table. "First" is by place (document 01): what stands at them stands one after another, so that the first that is wrong stands
+-- before every other that is.
 --   firstIn t found none i k  ==  `found j` for the first j of i, i + 1, .. (k of them) that passes t; `none` where none does
 --   Come t found none n i     ==  the loop that looks at the places below n has come to i and found none before
 --   come-none, come-here, come-more, come-over  ==  its start, its two turns and its end
---   first-same                ==  tests that agree below n find the same
---   First t n i               ==  i is the first place below n that passes t
+--   FirstAt t n i             ==  i is the first place below n that passes t
 --   first-some, first-none    ==  what the search answers, from what the tests say
---   Told t found none n r     ==  what r says of the tests; told: the search's answer is told so
---   Breaks n place Wrong q    ==  q is the place of the first entity below n that is wrong
---   Sound n Wrong             ==  none below n is
+--   Finding t found none n r  ==  what r says of the tests; finding: the search's answer says so
+--   first-same                ==  tests that agree below n find the same
+--   NoneWrong n Wrong         ==  none below n is wrong
+--   FirstPlace n place Wrong q  ==  q is the place of the first below n that is wrong, where place gives each its place
 --   breach-nowhere, breach-at ==  the search's answer as a place is nowhere exactly where nothing is wrong, and at q exactly
 --                                 where q is the first offender's
 use Prim.Native.Nat.{ℕ, zero, suc, _+_, _-_, _≤_, _<_}
@@ -18,16 +19,16 @@ use mathlib.Core.Logic.{_⊎_, ⊎-elim, _↔_}
 use native.Mathlib.Numerals.{add-one}
 use native.Mathlib.Nat.{zero-add, eq-or-lt-of-le}
 use native.Mathlib.Omega.{arith}
 use Rattle.ground.specs.declared.Place.{Place}
 use Rattle.ground.specs.declared.Place.the-variants.{Nowhere, At}
 use lib.Dec.{ltb}
 use Rattle.ground.specs.Pick.{pick, yes, no, Reads, shows, refutes, decided, reads-lt, true≠false}
 
 unfoldable pub firstIn : {R : Type 0} → (ℕ → Bool) → (ℕ → R) → R → ℕ → ℕ → R
 firstIn t found none i zero = none
 firstIn t found none i (suc k) = pick (t i) (found i) (firstIn t found none (suc i) k)
 
-pub record First (t : ℕ → Bool) (n i : ℕ) : Type 0 where
+pub record FirstAt (t : ℕ → Bool) (n i : ℕ) : Type 0 where
   pub inside : i < n
   pub passes : t i ≡ true
   pub none-before : (j : ℕ) → j < i → t j ≡ false
@@ -56,82 +57,82 @@ module _ {R : Type 0} (t : ℕ → Bool) (found : ℕ → R) (none : R) where
           let q : n - i ≡ suc (n - suc i) = omega arith in
           record { low = omega arith; same = g .same ∙ rw (q, add-one) (no _ _ (sym e ∙ y)) }
 
-  pub data Told (n : ℕ) : R → Type 0 where
-    nothing : ((j : ℕ) → j < n → t j ≡ false) → Told n none
-    first : {i : ℕ} → First t n i → Told n (found i)
+  pub data Finding (n : ℕ) : R → Type 0 where
+    nothing : ((j : ℕ) → j < n → t j ≡ false) → Finding n none
+    first : {i : ℕ} → FirstAt t n i → Finding n (found i)
 
-  told-from : (k n : ℕ) → ((j : ℕ) → j < n → t j ≡ false) → Told (n + k) (firstIn t found none n k)
+  finding-from : (k n : ℕ) → ((j : ℕ) → j < n → t j ≡ false) → Finding (n + k) (firstIn t found none n k)
   unfolding firstIn
-  told-from zero n h = nothing (λ j l. h j (omega arith))
-  told-from (suc k) n h = go (t n) refl (λ m. let q : suc n + k ≡ n + suc k = omega arith in rw q at (told-from k (suc n) m))
+  finding-from zero n h = nothing (λ j l. h j (omega arith))
+  finding-from (suc k) n h = go (t n) refl (λ m. let q : suc n + k ≡ n + suc k = omega arith in rw q at (finding-from k (suc n) m))
     where
-      go : (b : Bool) → t n ≡ b → (((j : ℕ) → j < suc n → t j ≡ false) → Told (n + suc k) (firstIn t found none (suc n) k)) → Told (n + suc k) (pick b (found n) (firstIn t found none (suc n) k))
+      go : (b : Bool) → t n ≡ b → (((j : ℕ) → j < suc n → t j ≡ false) → Finding (n + suc k) (firstIn t found none (suc n) k)) → Finding (n + suc k) (pick b (found n) (firstIn t found none (suc n) k))
       go true e later = first {i = n} (record { inside = omega arith; passes = e; none-before = h })
       go false e later = later (λ j l. ⊎-elim (λ q. ap t q ∙ e) (λ m. h j m) (below j l))
         where
           below : (j : ℕ) → j < suc n → (j ≡ n) ⊎ (j < n)
           below j l = eq-or-lt-of-le (let m : j ≤ n = omega arith in m)
 
-  pub told : (n : ℕ) → Told n (firstIn t found none 0 n)
-  told n = rw zero-add at (told-from n 0 (λ j l. absurd (omega arith)))
+  pub finding : (n : ℕ) → Finding n (firstIn t found none 0 n)
+  finding n = rw zero-add at (finding-from n 0 (λ j l. absurd (omega arith)))
 
   pub first-none : (n : ℕ) → ((j : ℕ) → j < n → t j ≡ false) → firstIn t found none 0 n ≡ none
-  first-none n h = go (told n)
+  first-none n h = go (finding n)
     where
-      go : {r : R} → Told n r → r ≡ none
+      go : {r : R} → Finding n r → r ≡ none
       go (nothing k) = refl
       go (first f) = absurd (true≠false (sym (f .passes) ∙ h _ (f .inside)))
 
-  pub first-some : (n i : ℕ) → First t n i → firstIn t found none 0 n ≡ found i
-  first-some n i f = go (told n)
+  pub first-some : (n i : ℕ) → FirstAt t n i → firstIn t found none 0 n ≡ found i
+  first-some n i f = go (finding n)
     where
       -- two firsts are one
-      one : {j : ℕ} → First t n j → j ≡ i
+      one : {j : ℕ} → FirstAt t n j → j ≡ i
       one {j} g =
           ⊎-elim
           (λ (l : j < i). absurd (true≠false (sym (g .passes) ∙ f .none-before j l)))
           (λ (m : j < i → ⊥). ⊎-elim (λ (l : i < j). absurd (true≠false (sym (f .passes) ∙ g .none-before i l))) (λ (k : i < j → ⊥). let e : j ≡ i = omega arith in e) (decided (ltb i j) (reads-lt i j)))
           (decided (ltb j i) (reads-lt j i))
 
-      go : {r : R} → Told n r → r ≡ found i
+      go : {r : R} → Finding n r → r ≡ found i
       go (nothing k) = absurd (true≠false (sym (f .passes) ∙ k i (f .inside)))
       go (first g) = ap found (one g)
 
 pub first-same : {R : Type 0} (t u : ℕ → Bool) (found : ℕ → R) (none : R) (n : ℕ) → ((i : ℕ) → i < n → t i ≡ u i) → firstIn t found none 0 n ≡ firstIn u found none 0 n
-first-same {R} t u found none n h = go (told u found none n)
+first-same {R} t u found none n h = go (finding u found none n)
   where
-    go : {r : R} → Told u found none n r → firstIn t found none 0 n ≡ r
+    go : {r : R} → Finding u found none n r → firstIn t found none 0 n ≡ r
     go (nothing k) = first-none t found none n (λ j l. h j l ∙ k j l)
     go (first {i} f) =
         first-some t found none n i (record { inside = f .inside; passes = h i (f .inside) ∙ f .passes; none-before = λ j l. let m = f .inside in h j (omega arith) ∙ f .none-before j l })
 
 -- as a place: the first offender's
 module _ (n : ℕ) (place : ℕ → ℕ) (Wrong : ℕ → Type 0) where
-  abbrev pub Sound : Type 0
-  Sound = (i : ℕ) → i < n → Wrong i → ⊥
+  abbrev pub NoneWrong : Type 0
+  NoneWrong = (i : ℕ) → i < n → Wrong i → ⊥
 
-  pub record Breaks (q : ℕ) : Type 0 where
+  pub record FirstPlace (q : ℕ) : Type 0 where
     pub offender : ℕ
     pub inside : offender < n
     pub wrong : Wrong offender
     pub at : q ≡ place offender
     pub none-before : (j : ℕ) → j < offender → Wrong j → ⊥
 
-  abbrev pub searched : (ℕ → Bool) → Place
-  searched t = firstIn t (λ i. At (place i)) Nowhere 0 n
+  abbrev pub placeOfFirst : (ℕ → Bool) → Place
+  placeOfFirst t = firstIn t (λ i. At (place i)) Nowhere 0 n
 
   module _ (t : ℕ → Bool) (reads : (i : ℕ) → i < n → Reads (t i) (Wrong i)) where
-    pub breach-nowhere : (searched t ≡ Nowhere) ↔ Sound
-    breach-nowhere = (λ e. of (told t (λ i. At (place i)) Nowhere n) e, λ h. first-none t (λ i. At (place i)) Nowhere n (λ j l. refutes (reads j l) (h j l)))
+    pub breach-nowhere : (placeOfFirst t ≡ Nowhere) ↔ NoneWrong
+    breach-nowhere = (λ e. of (finding t (λ i. At (place i)) Nowhere n) e, λ h. first-none t (λ i. At (place i)) Nowhere n (λ j l. refutes (reads j l) (h j l)))
       where
-        of : {r : Place} → Told t (λ i. At (place i)) Nowhere n r → r ≡ Nowhere → Sound
+        of : {r : Place} → Finding t (λ i. At (place i)) Nowhere n r → r ≡ Nowhere → NoneWrong
         of (nothing h) e = λ i l. reads i l .denies (h i l)
         of (first f) e = let z : _≡_ {A = ℕ} 0 1 = cc in absurd (omega arith)
 
-    pub breach-at : (q : ℕ) → (searched t ≡ At q) ↔ Breaks q
-    breach-at q = (λ e. of (told t (λ i. At (place i)) Nowhere n) e, to)
+    pub breach-at : (q : ℕ) → (placeOfFirst t ≡ At q) ↔ FirstPlace q
+    breach-at q = (λ e. of (finding t (λ i. At (place i)) Nowhere n) e, to)
       where
-        of : {r : Place} → Told t (λ i. At (place i)) Nowhere n r → r ≡ At q → Breaks q
+        of : {r : Place} → Finding t (λ i. At (place i)) Nowhere n r → r ≡ At q → FirstPlace q
         of (nothing h) e = let z : _≡_ {A = ℕ} 0 1 = cc in absurd (omega arith)
         of (first {i} f) e =
             let z : q ≡ place i = cc in
@@ -143,7 +144,7 @@ module _ (n : ℕ) (place : ℕ → ℕ) (Wrong : ℕ → Type 0) where
               none-before = λ j l. let m = f .inside in reads j (omega arith) .denies (f .none-before j l);
             }
 
-        to : Breaks q → searched t ≡ At q
+        to : FirstPlace q → placeOfFirst t ≡ At q
         to b =
             first-some t (λ i. At (place i)) Nowhere n (b .offender) (record {
               inside = b .inside;
