@@ -34,7 +34,7 @@ fn is_unknown(d: &[u8]) -> bool
 }
 
 // The first descriptor from a place on whose layout is wrong.
-fn first_misfit(s: &[u8], from: usize) -> Place
+fn first_wrong_layout(s: &[u8], from: usize) -> Place
     ensures { λ r. ⌜ r ≡ searched (λ b d. isUnknown (entityOf d)) (now (s .entry)) from ⌝ }
 {
     let mut at = from;
@@ -66,8 +66,8 @@ fn judge_run(s: &[u8], from: usize, count: usize, header: usize) -> Refusal
             place: header,
         };
     }
-    let misfit = first_misfit(s, from);
-    match misfit {
+    let wrong = first_wrong_layout(s, from);
+    match wrong {
         Place::At(place) => Refusal { number: 9, place },
         Place::Nowhere => Refusal {
             number: 0,

@@ -1,4 +1,5 @@
-// The run of entities by value: where each stands, what it is, and its sources. The layer above decides by these.
+// The run of entities by value. What it promises to the layer above: how many descriptors stand one after another, and of the first 32
+// of them where each stands, what it is, and its sources, so that everything later is decided without the bytes.
 ghost use mathlib.Core.Path.{_≡_};
 ghost use lib.ListN.{set};
 ghost use Rattle.scan.specs.Cutting.{rest};

@@ -1,4 +1,5 @@
-// Groups and the header (document 01): what the rules 1 to 7 ask of a configuration, and where the AudioControl group's parts stand.
+// Groups and the header (document 01). What it promises to the layer above: the lowest number of the rules 1 to 7 that a configuration
+// breaks, with its place; and where the AudioControl group's parts stand, if it keeps them.
 ghost use mathlib.Core.Path.{_≡_};
 ghost use mathlib.Core.Bool.{_&&_, not};
 ghost use Prim.Native.Nat.{_+_};
@@ -24,6 +25,7 @@ use scan::is_audio;
 use scan::is_interface;
 use scan::word_at;
 
+// The most bytes that a configuration may have.
 pub const MOST_BYTES: usize = 4096;
 
 // Where the parts of the AudioControl group stand: its interface descriptor, the header, the run of entities, and the run's end.
@@ -124,6 +126,7 @@ fn wrong_interface(config: &[u8], at: usize, i: &[u8]) -> bool
     setting != 0
 }
 
+// The first interface descriptor that refusal 4 names.
 fn first_wrong_interface(config: &[u8]) -> Place
     ensures { λ r. ⌜ r ≡ searched wrongInterface (now (config .entry)) 0 ⌝ }
 {
@@ -155,6 +158,7 @@ fn check_interfaces(config: &[u8]) -> Place
     }
 }
 
+// The place that was found, or another where there is none.
 fn place_or(found: Place, otherwise: usize) -> usize
     ensures { λ r. ⌜ r ≡ placeOr found otherwise ⌝ }
 {
@@ -194,6 +198,7 @@ fn opens_header(h: &[u8]) -> bool
     check::same(stretch(h, 1, 5), b"\x24\x01\x00\x01")
 }
 
+// Whether a descriptor is a header: it opens as one, and is 8+n long, where byte 7 is n.
 fn is_header(h: &[u8]) -> bool
     ensures { λ r. ⌜ r ≡ isHeader (now (h .entry)) ⌝ }
 {

@@ -119,6 +119,7 @@ pub fn is_class(d: &[u8]) -> bool
     byte_at(d, 1) == 0x24
 }
 
+// A class descriptor, or one that opens a group.
 fn class_or_interface(d: &[u8]) -> bool
     ensures { λ r. ⌜ r ≡ isClass (now (d .entry)) || isInterface (now (d .entry)) ⌝ }
 {
@@ -128,6 +129,7 @@ fn class_or_interface(d: &[u8]) -> bool
     is_interface(d)
 }
 
+// Whether a search stops at a descriptor.
 fn wanted(d: &[u8], want: Want) -> bool
     ensures { λ r. ⌜ r ≡ wants want (now (d .entry)) ⌝ }
 {

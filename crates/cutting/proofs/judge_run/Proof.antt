@@ -27,13 +27,13 @@ module _ (s : List ℕ) (from count header : ℕ) where
     unfolding runRefused
     counted = refuse-on 8 _ (simp (le-leb 1 count h, le-leb count 32 k))
 
-    misfit : (p : ℕ) → m ≡ At p → record { number = 9; place = p } ≡ runRefused s from count header
-    misfit p f = sym (counted ∙ refuse-at 9 p none (sym e ∙ f))
+    wrong : (p : ℕ) → m ≡ At p → record { number = 9; place = p } ≡ runRefused s from count header
+    wrong p f = sym (counted ∙ refuse-at 9 p none (sym e ∙ f))
 
     all-fit : m ≡ Nowhere → none ≡ runRefused s from count header
     all-fit f = sym (counted ∙ refuse-on 9 none (sym e ∙ f))
 
-ruleset laws = (none-there, too-many, misfit, all-fit, needs)
+ruleset laws = (none-there, too-many, wrong, all-fit, needs)
 
 returns : tie.Need-returns
 returns c = search laws
@@ -41,11 +41,11 @@ returns c = search laws
 returns-2 : tie.Need-returns-2
 returns-2 c = search laws
 
-first-misfit-requires : tie.Need-first-misfit-requires
-first-misfit-requires c κs = search laws
+first-wrong-layout-requires : tie.Need-first-wrong-layout-requires
+first-wrong-layout-requires c κs = search laws
 
-enum-known-misfit : tie.Need-enum-known-misfit
-enum-known-misfit c = search laws
+enum-known-wrong : tie.Need-enum-known-wrong
+enum-known-wrong c = search laws
 
 enum-told : tie.Need-enum-told
 enum-told c = search laws
@@ -62,8 +62,8 @@ judge-run-spec =
     (tie.spec
     returns
     returns-2
-    first-misfit-requires
-    enum-known-misfit
+    first-wrong-layout-requires
+    enum-known-wrong
     enum-told
     returns-3
     returns-4)

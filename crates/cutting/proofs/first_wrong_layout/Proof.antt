@@ -10,23 +10,23 @@ use Rattle.ground.specs.Lists.{part}
 use Rattle.scan.specs.Cutting.{endAt}
 use Rattle.scan.specs.Search.{searched, Passed, start, stop, hit, miss, ordered, inside, falls}
 use Rattle.layout.specs.Layout.{entityOf, isUnknown}
-use Rattle.cutting.proofs.first_misfit.Statement.{statement}
-use Rattle.cutting.proofs.first_misfit.Tie as tie
+use Rattle.cutting.proofs.first_wrong_layout.Statement.{statement}
+use Rattle.cutting.proofs.first_wrong_layout.Tie as tie
 
-abbrev misfit : List (List ℕ) → List ℕ → Bool
-misfit b d = isUnknown (entityOf d)
+abbrev wrong : List (List ℕ) → List ℕ → Bool
+wrong b d = isUnknown (entityOf d)
 
-module _ (s : List ℕ) (from at e : ℕ) (g : Passed misfit s from at) (f : e ≡ endAt s at) (h : e ≡ at → ⊥) (r : Bool) (t : r ≡ isUnknown (entityOf (part s at e))) where
-  found : r ≡ true → At at ≡ searched misfit s from
-  found y = hit misfit s from at e g f h (sym t ∙ y)
+module _ (s : List ℕ) (from at e : ℕ) (g : Passed wrong s from at) (f : e ≡ endAt s at) (h : e ≡ at → ⊥) (r : Bool) (t : r ≡ isUnknown (entityOf (part s at e))) where
+  found : r ≡ true → At at ≡ searched wrong s from
+  found y = hit wrong s from at e g f h (sym t ∙ y)
 
-  on : r ≡ false → Passed misfit s from e
-  on y = miss misfit s from at e g f h (sym t ∙ y)
+  on : r ≡ false → Passed wrong s from e
+  on y = miss wrong s from at e g f h (sym t ∙ y)
 
 ruleset laws = (start, stop, found, on, ordered, inside, falls, needs)
 
 abbrev Inv-loop : tie.InvT-loop
-Inv-loop s from at₀ at = Passed misfit s from at
+Inv-loop s from at₀ at = Passed wrong s from at
 
 abbrev μ-loop : tie.MeasureT-loop
 μ-loop s from at₀ at = length s - at
@@ -61,8 +61,8 @@ loop-less c = search laws
 loop-again : tie.Need-loop-again Inv-loop μ-loop
 loop-again c = search laws
 
-pub first-misfit-spec : {M : Type 1} → statement M
-first-misfit-spec =
+pub first-wrong-layout-spec : {M : Type 1} → statement M
+first-wrong-layout-spec =
     tie.close
     (tie.spec
     Inv-loop
