@@ -12,8 +12,7 @@ use native.Mathlib.Omega.{arith}
 use lib.Dec.{eqb, ltb}
 use lib.ListN.{length}
 use borrow.Author.Tests.{eqb-true, ltb-false, not-false}
-use Rattle.ground.specs.Pick.{pick, true≠false, reads-and}
-use Rattle.setting.specs.Legal.{reads-itself}
+use Rattle.ground.specs.Pick.{pick, true≠false, reads-true, reads-and}
 use Rattle.setting.specs.Setting.{fitsOf, legalOf}
 use Rattle.setting.specs.declared.Sort.{Sort}
 use Rattle.setting.specs.declared.Range.{Range}
@@ -72,7 +71,7 @@ module _ (t : Table) (u ch s : ℕ) (range : Range) (w : ℕ) (v : Table) (q : s
   range-taken r k e =
       ⊎-elim
       (λ h.
-      let both = reads-and (legalOf r range) (fitsOf r w) (reads-itself _) (reads-itself _) .says (h .0) in
+      let both = reads-and (legalOf r range) (fitsOf r w) (reads-true _) (reads-true _) .says (h .0) in
       record { sound = q; place = p; there = f; sort = r; sense = k; legal = both .0; fits = both .1; table = sym (done-one (h .1)) })
       (λ h. no-done (h .1))
       (picked (legalOf r range && fitsOf r w) _ _ (done v) e)
