@@ -10,6 +10,7 @@
 use Prim.Native.Nat.{ℕ}
 use mathlib.Core.Bool.{Bool, false, not, _&&_, _||_}
 use lib.Dec.{eqb, leb}
+use Rattle.layout.specs.Layout.{mostPins}
 use Rattle.setting.specs.Setting.{fitsOf, legalOf, availableOf}
 use Rattle.setting.specs.declared.Sort.{Sort}
 use Rattle.table.specs.declared.Control.{Control}
@@ -18,7 +19,7 @@ use Rattle.table.specs.declared.Sense.{Sense}
 use Rattle.table.specs.declared.Sense.the-variants.{Unknown, YesNo, Ranged, Pin}
 use Rattle.table.specs.declared.Found.{Found}
 use Rattle.table.specs.declared.Found.the-variants.{Nothing, At}
-use Rattle.table.specs.Controls.{mostControls, mostPins, at, senseOf, rangeOf}
+use Rattle.table.specs.Controls.{mostControls, at, senseOf, rangeOf}
 use Rattle.table.specs.First.{firstFrom, isSome, foundIn}
 
 unfoldable pub narrowOf : Control → Bool
