@@ -15,19 +15,19 @@ use mathlib.Core.Path.{_≡_, refl, sym, ap, _∙_, subst}
 use mathlib.Core.List.{List, [], _∷_, _++_, append-assoc, List·Memᴰ}
 use mathlib.Core.Logic.{_⊎_, inl, inr, ⊎-elim, _↔_}
 use lib.ListN.{length, getD, take, drop, length-append}
-use lib.Seq.{getD-take, take-at, drop-at, take-append-seam}
+use lib.Seq.{getD-take, take-at, drop-at}
 use lib.Dec.{eqb, ltb}
 use native.Mathlib.Omega.{arith}
 use native.Mathlib.Nat.{add-zero, add-assoc, le-of-suc-le-suc}
 use borrow.Author.Tests.{eq-eqb, ne-eqb}
 use Rattle.ground.specs.Pick.{yes, no, decided, reads-eq, reads-lt, shows}
 use Rattle.ground.specs.Numbers.{byte}
-use Rattle.ground.specs.Lists.{total, pad-at}
+use Rattle.ground.specs.Lists.{total, pad-length, pad-at, pad-front}
 use Rattle.layout.specs.declared.Cluster.{Cluster}
-use Rattle.layout.specs.Layout.{entityOf, idOf}
+use Rattle.layout.specs.Layout.{mostPins, noCluster, entityOf, idOf}
 use Rattle.layout.specs.LayoutLaws.{id-told}
-use Rattle.layout.specs.Sources.{sourceList, padded, sourcesIn, sourcesOf}
-use Rattle.layout.specs.SourcesLaws.{padded-length, sources-few}
+use Rattle.layout.specs.Sources.{sourceList, sourcesIn, sourcesOf}
+use Rattle.layout.specs.SourcesLaws.{sources-few}
 use Rattle.entities.specs.declared.Node.{Node}
 use Rattle.entities.specs.declared.Run.{Run}
 use Rattle.entities.specs.Run.{mostEntities, nodeOf, nodesFrom, blankNode, runIn}
@@ -45,7 +45,7 @@ use Rattle.controls.specs.Controls.{controlsOf}
 use Rattle.controls.specs.Growth.{tableOf}
 use Rattle.controls.specs.Standing.{Stands, control-stands}
 use Rattle.controls.specs.Order.{Pairs, member-at, Before, controls-ordered}
-use Rattle.records.specs.Records.{recordSize, blankCluster, headOf, recordOf, recordsTo, shownIn}
+use Rattle.records.specs.Records.{recordSize, headOf, recordOf, recordsTo, shownIn}
 use Rattle.topology.specs.declared.Reading.{Reading}
 use Rattle.topology.specs.Reading.{clustersAt, verdictOf, refusedReading, takenReading, readingOf, sheetOf}
 use Rattle.demands.specs.Surveyed.{placeOfRun, entitiesOf, keptSurvey, survey-kept}
@@ -100,7 +100,7 @@ nodes-at p (d ∷ ds) (suc i) h =
 
 record-long : (p : ℕ) (d : List ℕ) (c : Cluster) → length (recordOf (nodeOf p d) c) ≡ recordSize
 unfolding recordOf headOf nodeOf sourcesOf sourcesIn
-record-long p d c = let e = padded-length (sourceList (entityOf d) d) (sources-few d) in omega arith
+record-long p d c = let e = pad-length 0 mostPins (sourceList (entityOf d) d) in omega arith
 
 below-last : (i m : ℕ) → i < suc m → (i ≡ m → ⊥) → i < m
 below-last i m l n = ⊎-elim (λ (h : i < m). h) (λ (h : i < m → ⊥). absurd (n (let e : i ≡ m = omega arith in e))) (decided (ltb i m) (reads-lt i m))
@@ -137,8 +137,8 @@ module _ (s : List ℕ) (t : Configuration s) where
   unfolding recordsTo
   records-cut r cs n zero h = refl
   records-cut r cs n (suc m) h =
-      ap (λ (l : List ℕ). l ++ recordOf (nodeAt r m) (getD cs m blankCluster)) (records-cut r cs n m (omega arith))
-      ∙ ap (λ (c : Cluster). recordsTo m r (take n cs) ++ recordOf (nodeAt r m) c) (sym (getD-take n cs m blankCluster h))
+      ap (λ (l : List ℕ). l ++ recordOf (nodeAt r m) (getD cs m noCluster)) (records-cut r cs n m (omega arith))
+      ∙ ap (λ (c : Cluster). recordsTo m r (take n cs) ++ recordOf (nodeAt r m) c) (sym (getD-take n cs m noCluster h))
 
   shown-is : (d : List ℕ) → Rule16 run (length d) → shownIn entities (clustersOf audio entities) d ≡ recordsTo (length run) entities clusters ++ drop (length run * recordSize) d
   unfolding shownIn
@@ -173,15 +173,15 @@ module _ (s : List ℕ) (t : Configuration s) where
   id-shows i h = ap (λ (n : Node). idOf (n .entity)) (entity-shows i h) ∙ id-told (getD run i []) (t .kept .rule9 (getD run i []) (member-at [] run i h))
 
   pub sources-show : (i : ℕ) → i < length run → sourcesAt entities i ≡ sourceList (entityOf (getD run i [])) (getD run i [])
-  unfolding nodeOf sourcesOf sourcesIn padded
+  unfolding nodeOf sourcesOf sourcesIn
   sources-show i h =
-      ap (λ (n : Node). sourceIds (n .sources)) (entity-shows i h) ∙ take-append-seam (sourceList (entityOf (getD run i [])) (getD run i [])) _
+      ap (λ (n : Node). sourceIds (n .sources)) (entity-shows i h) ∙ pad-front 0 mostPins (sourceList (entityOf (getD run i [])) (getD run i [])) (sources-few (getD run i []))
 
-  pub cluster-shows : (i : ℕ) → i < length run → getD clusters i blankCluster ≡ t .connected .cluster (idAt entities i)
+  pub cluster-shows : (i : ℕ) → i < length run → getD clusters i noCluster ≡ t .connected .cluster (idAt entities i)
   cluster-shows i h =
       let e = held-all s (t .kept) in
-      ap (λ (l : List Cluster). getD l i blankCluster) (sym (clusters-run s (t .kept) (t .connected)))
-      ∙ getD-take (length run) (clustersOf audio entities) i blankCluster h
+      ap (λ (l : List Cluster). getD l i noCluster) (sym (clusters-run s (t .kept) (t .connected)))
+      ∙ getD-take (length run) (clustersOf audio entities) i noCluster h
       ∙ sym (settled-topology audio entities (t .connected .rule10) (t .connected .rule11) .held-by-array (sensible entities (t .connected)) i (omega arith))
 
   record-sixteen : (i : ℕ) → i < length run → (c : Cluster) → length (recordOf (nodeAt entities i) c) ≡ recordSize
@@ -192,30 +192,30 @@ module _ (s : List ℕ) (t : Configuration s) where
   records-long zero h = refl
   records-long (suc m) h =
       let a = records-long m (omega arith) in
-      let b = record-sixteen m h (getD clusters m blankCluster) in
-      length-append (recordsTo m entities clusters) (recordOf (nodeAt entities m) (getD clusters m blankCluster)) ∙ omega arith
+      let b = record-sixteen m h (getD clusters m noCluster) in
+      length-append (recordsTo m entities clusters) (recordOf (nodeAt entities m) (getD clusters m noCluster)) ∙ omega arith
 
-  record-in : (n : ℕ) → n ≤ length run → (i : ℕ) → i < n → (y : List ℕ) → take recordSize (drop (i * recordSize) (recordsTo n entities clusters ++ y)) ≡ recordOf (nodeAt entities i) (getD clusters i blankCluster)
+  record-in : (n : ℕ) → n ≤ length run → (i : ℕ) → i < n → (y : List ℕ) → take recordSize (drop (i * recordSize) (recordsTo n entities clusters ++ y)) ≡ recordOf (nodeAt entities i) (getD clusters i noCluster)
   unfolding recordsTo
   record-in zero h i l y = absurd (omega arith)
   record-in (suc m) h i l y = go (decided (eqb i m) (reads-eq i m)) (λ j. record-in m (omega arith) i j)
     where
-      joined : recordsTo (suc m) entities clusters ++ y ≡ recordsTo m entities clusters ++ (recordOf (nodeAt entities m) (getD clusters m blankCluster) ++ y)
-      joined = append-assoc (recordsTo m entities clusters) (recordOf (nodeAt entities m) (getD clusters m blankCluster)) y
+      joined : recordsTo (suc m) entities clusters ++ y ≡ recordsTo m entities clusters ++ (recordOf (nodeAt entities m) (getD clusters m noCluster) ++ y)
+      joined = append-assoc (recordsTo m entities clusters) (recordOf (nodeAt entities m) (getD clusters m noCluster)) y
 
-      go : (i ≡ m) ⊎ (i ≡ m → ⊥) → (i < m → (z : List ℕ) → take recordSize (drop (i * recordSize) (recordsTo m entities clusters ++ z)) ≡ recordOf (nodeAt entities i) (getD clusters i blankCluster)) → take recordSize (drop (i * recordSize) (recordsTo (suc m) entities clusters ++ y)) ≡ recordOf (nodeAt entities i) (getD clusters i blankCluster)
+      go : (i ≡ m) ⊎ (i ≡ m → ⊥) → (i < m → (z : List ℕ) → take recordSize (drop (i * recordSize) (recordsTo m entities clusters ++ z)) ≡ recordOf (nodeAt entities i) (getD clusters i noCluster)) → take recordSize (drop (i * recordSize) (recordsTo (suc m) entities clusters ++ y)) ≡ recordOf (nodeAt entities i) (getD clusters i noCluster)
       go (inl e) ih =
           ap (λ (j : ℕ). take recordSize (drop (j * recordSize) (recordsTo (suc m) entities clusters ++ y))) e
           ∙ ap (λ (l : List ℕ). take recordSize (drop (m * recordSize) l)) joined
-          ∙ ap (take recordSize) (drop-at (recordsTo m entities clusters) (recordOf (nodeAt entities m) (getD clusters m blankCluster) ++ y) (m * recordSize) (records-long m (omega arith)))
-          ∙ take-at (recordOf (nodeAt entities m) (getD clusters m blankCluster)) y recordSize (record-sixteen m h (getD clusters m blankCluster))
-          ∙ ap (λ (j : ℕ). recordOf (nodeAt entities j) (getD clusters j blankCluster)) (sym e)
-      go (inr n) ih = ap (λ (l : List ℕ). take recordSize (drop (i * recordSize) l)) joined ∙ ih (below-last i m l n) (recordOf (nodeAt entities m) (getD clusters m blankCluster) ++ y)
+          ∙ ap (take recordSize) (drop-at (recordsTo m entities clusters) (recordOf (nodeAt entities m) (getD clusters m noCluster) ++ y) (m * recordSize) (records-long m (omega arith)))
+          ∙ take-at (recordOf (nodeAt entities m) (getD clusters m noCluster)) y recordSize (record-sixteen m h (getD clusters m noCluster))
+          ∙ ap (λ (j : ℕ). recordOf (nodeAt entities j) (getD clusters j noCluster)) (sym e)
+      go (inr n) ih = ap (λ (l : List ℕ). take recordSize (drop (i * recordSize) l)) joined ∙ ih (below-last i m l n) (recordOf (nodeAt entities m) (getD clusters m noCluster) ++ y)
 
   pub record-shows : (d : List ℕ) → Rule16 run (length d) → (i : ℕ) → i < length run
       → take recordSize (drop (i * recordSize) (sheetOf s d)) ≡ recordOf (nodeOf (placeOfRun (t .kept) + total (take i run)) (getD run i [])) (t .connected .cluster (byte (getD run i []) 3))
   record-shows d h i l =
       ap (λ (x : List ℕ). take recordSize (drop (i * recordSize) x)) (sheet-shows d h)
       ∙ record-in (length run) (omega arith) i l (drop (length run * recordSize) d)
-      ∙ ap (λ (n : Node). recordOf n (getD clusters i blankCluster)) (entity-shows i l)
+      ∙ ap (λ (n : Node). recordOf n (getD clusters i noCluster)) (entity-shows i l)
       ∙ ap (recordOf (nodeOf (placeOfRun (t .kept) + total (take i run)) (getD run i []))) (cluster-shows i l ∙ ap (t .connected .cluster) (id-shows i l))
