@@ -4,11 +4,11 @@
 --   legal-reads           ==  legalOf decides them
 --   legal-means           ==  legalOf decides Legal
 use Prim.Native.Nat.{ℕ, _+_, _≤_, _<_}
-use mathlib.Core.Path.{_≡_, refl, _∙_, sym, ap}
-use mathlib.Core.Bool.{Bool, true, false}
+use mathlib.Core.Path.{_≡_, refl, sym, ap}
+use mathlib.Core.Bool.{true}
 use mathlib.Core.Logic.{⊎-elim}
 use native.Mathlib.Omega.{arith}
-use lib.IntN.{ℤ, pos, negℤ}
+use lib.IntN.{pos, negℤ}
 use lib.Signed.{_≤ℤ_}
 use borrow.Author.Tests.{eqb-true, le-leb}
 use Rattle.ground.specs.Pick.{Reads, reads-true, reads-and, reads-not, reads-le, reads-lt, true≠false}
