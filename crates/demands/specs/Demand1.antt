@@ -24,7 +24,7 @@ use Rattle.request.specs.Outcome.{Outcome, numberOf}
 use Rattle.request.specs.Outcome.Outcome.{refused}
 use Rattle.request.specs.Load.{loadOf}
 use Rattle.request.specs.Request.{requestOf}
-use Rattle.runs.specs.Rows.{firstRow, requestRows, loadRows}
+use Rattle.runs.specs.Rows.{requestRows, loadRows}
 use Rattle.runs.proofs.Rows.{request-rows, load-rows}
 use Rattle.runs.proofs.Refusals.{Keeps, LoadNumber, RequestNumber, Numbered, load-numbers, request-numbers}
 use Rattle.topology.specs.declared.Reading.{Reading}
@@ -77,8 +77,8 @@ pub request-refuses : (t : Table) (b : List ℕ) (i : ℕ) (setup «data» : Lis
 unfolding Numbered
 request-refuses t b i setup «data» n e = record { named = request-numbers t i setup «data» (length b) n e; keeps = rw e (record { table = refl; reply = refl }) }
 
-pub load-number : (t : Table) (u c v : ℕ) (range : Range) (w : ℕ) → numberOf (loadOf t u c v range w) ≡ firstRow (loadRows t u c v range w)
+pub load-number : (t : Table) (u c v : ℕ) (range : Range) (w : ℕ) → loadRows t u c v range w (numberOf (loadOf t u c v range w))
 load-number = load-rows
 
-pub request-number : (t : Table) (i : ℕ) (setup «data» : List ℕ) (room : ℕ) → numberOf (requestOf t i setup «data» room) ≡ firstRow (requestRows t i setup «data» room)
+pub request-number : (t : Table) (i : ℕ) (setup «data» : List ℕ) (room : ℕ) → requestRows t i setup «data» room (numberOf (requestOf t i setup «data» room))
 request-number = request-rows

@@ -3,8 +3,10 @@
 --                               byte" the unit, "wValue is selector (high) and channel (low)"
 --   askedBy g a b           ==  what type a and request b ask of it: 21/01 a Set, A1/81 to A1/84 a Get of CUR, MIN, MAX, RES
 --   askedOf s               ==  31: "setup not 8 bytes, or type and request not 21/01, A1/81, A1/82, A1/83 or A1/84"
---   addressedIn t n g       ==  32: "wIndex low byte is not the AudioControl number"; 33: "wIndex high byte is no unit with
---                               controls"; 34: "no such control"
+--   placeOf l               ==  the place that a lookup found, or its number: 33: "wIndex high byte is no unit with controls"; 34: "no
+--                               such control" (lookupNumber, of crate table)
+--   addressedIn t n g       ==  32: "wIndex low byte is not the AudioControl number"; else what the lookup of unit, channel and
+--                               selector says
 --   lacking k part          ==  35: "MIN, MAX, RES of an unranged control"
 --   unready k c             ==  36: "ranged control not loaded"
 --   valueIn d               ==  the number that the data of a Set is
@@ -25,10 +27,10 @@ use Rattle.table.specs.declared.Control.{Control}
 use Rattle.table.specs.declared.Table.{Table}
 use Rattle.table.specs.declared.Sense.{Sense}
 use Rattle.table.specs.declared.Sense.the-variants.{Unknown, YesNo, Ranged, Pin}
-use Rattle.table.specs.declared.Found.{Found}
-use Rattle.table.specs.declared.Found.the-variants as found
+use Rattle.table.specs.declared.Lookup.{Lookup}
+use Rattle.table.specs.declared.Lookup.the-variants as lookup
 use Rattle.table.specs.Controls.{at, senseOf, sizeOf, rangeOf}
-use Rattle.table.specs.First.{foundIn, unitIn}
+use Rattle.table.specs.First.{lookedUp, lookupNumber}
 use Rattle.table.specs.Sound.{soundOf}
 use Rattle.request.specs.declared.Target.{Target}
 use Rattle.request.specs.declared.Part.{Part}
@@ -62,15 +64,14 @@ askedBy g a b =
 unfoldable pub askedOf : List ℕ → Asked
 askedOf s = pick (eqb (length s) 8) (askedBy (targetOf s) (byte s 0) (byte s 1)) asks.Unknown
 
-unfoldable pub placeOf : Found → Addressed
-placeOf found.Nothing = Refused 34
-placeOf (found.At p) = At p
+unfoldable pub placeOf : Lookup → Addressed
+placeOf lookup.NoUnit = Refused (lookupNumber lookup.NoUnit)
+placeOf lookup.NoControl = Refused (lookupNumber lookup.NoControl)
+placeOf (lookup.At p) = At p
 
 unfoldable pub addressedIn : Table → ℕ → Target → Addressed
 addressedIn t n g =
-    pick (eqb (g .interface) n)
-    (pick (unitIn t (g .unit)) (placeOf (foundIn t (g .unit) (g .channel) (g .selector))) (Refused 33))
-    (Refused 32)
+    pick (eqb (g .interface) n) (placeOf (lookedUp t (g .unit) (g .channel) (g .selector))) (Refused 32)
 
 abbrev pub isRanged : Sense → Bool
 isRanged Unknown = false

@@ -22,7 +22,7 @@ use Rattle.table.specs.declared.Sense.the-variants.{Unknown, YesNo, Ranged, Pin
 use Rattle.table.specs.declared.Found.{Found}
 use Rattle.table.specs.declared.Found.the-variants as found
 use Rattle.table.specs.Controls.{at, placed, senseOf, sizeOf}
-use Rattle.table.specs.First.{foundIn, unitIn}
+use Rattle.table.specs.First.{foundIn, unitIn, lookupBy, lookedUp}
 use Rattle.table.specs.Sound.{soundOf}
 use Rattle.request.specs.declared.Target.{Target}
 use Rattle.request.specs.declared.Part.{Part}
@@ -100,21 +100,18 @@ load-taken t u ch s range w v e =
 no-place : {P : Type 0} {m p : ℕ} → Refused m ≡ At p → P
 no-place e = absurd (let z : _≡_ {A = ℕ} 0 1 = cc in omega arith)
 
-place-taken : (f : Found) (p : ℕ) → placeOf f ≡ At p → f ≡ found.At p
+place-taken : (f : Found) (b : Bool) (p : ℕ) → placeOf (lookupBy f b) ≡ At p → f ≡ found.At p
 unfolding placeOf
-place-taken found.Nothing p e = no-place e
-place-taken (found.At q) p e = let i : q ≡ p = cc in ap found.At i
+place-taken found.Nothing true p e = no-place e
+place-taken found.Nothing false p e = no-place e
+place-taken (found.At q) b p e = let i : q ≡ p = cc in ap found.At i
 
 -- where a request's control stands
 address-taken : (t : Table) (n : ℕ) (g : Target) (p : ℕ) → addressedIn t n g ≡ At p → foundIn t (g .unit) (g .channel) (g .selector) ≡ found.At p
-unfolding addressedIn
+unfolding addressedIn lookedUp
 address-taken t n g p e =
     ⊎-elim
-    (λ h.
-    ⊎-elim
-    (λ k. place-taken (foundIn t (g .unit) (g .channel) (g .selector)) p (k .1))
-    (λ k. no-place (k .1))
-    (picked (unitIn t (g .unit)) _ _ (At p) (h .1)))
+    (λ h. place-taken (foundIn t (g .unit) (g .channel) (g .selector)) (unitIn t (g .unit)) p (h .1))
     (λ h. no-place (h .1))
     (picked (eqb (g .interface) n) _ _ (At p) e)
 

@@ -53,7 +53,7 @@ pub enum Lookup {
 }
 
 // A spare place.
-pub fn blank() -> Control
+fn blank() -> Control
     ensures { λ r. ⌜ r ≡ blankControl ⌝ }
 {
     Control {
