@@ -1,6 +1,9 @@
 -- Descriptors that the papers print, computed: the printed Selectors of the telephone example (source document 004, tables C-11 to
 -- C-13), whose pad is no source, and document 01's case A.
 --   telephone i a b ==  the telephone's Selector with ID i and sources a and b, as printed: no field at offset 5
+--   telephone-printed ==  it is a printed Selector; telephone-sources-7, telephone-sources-8, telephone-sources-9: the three and their sources
+--   tabled-sources    ==  the sources of the same Selector as the tables of 000 lay it out
+--   input-case, feature-case, output-case ==  case A's three entities; feature-sources: the sources of its Feature Unit
 use Prim.Native.Nat.{ℕ}
 use mathlib.Core.Path.{_≡_, refl}
 use mathlib.Core.List.{List, [], _∷_}

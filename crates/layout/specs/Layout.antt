@@ -3,7 +3,7 @@
 --   Pins p                   ==  p is 1 to 8
 --   LaidOut d                ==  d has one of the six layouts (the printed Selector is a Selector's second)
 --   entityOf d               ==  what the reader makes of d: its kind's own numbers, or Unknown
---   inputOf d .. featureOf d ==  the same of a d that is of the kind in the name
+--   inputOf d, outputOf d, mixerOf d, selectorOf d, featureOf d ==  the same of a d that is of the kind in the name
 --   printedKind              ==  15 hex, the printed Selector's number on the sheet (document 01, "The sheet")
 --   kindOf e                 ==  the number of its kind: byte 2, but printedKind for the printed Selector; 0 for Unknown
 --   idOf e                   ==  the ID that an entity bears

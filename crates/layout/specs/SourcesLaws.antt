@@ -3,7 +3,8 @@
 --   sources-inside  ==  the sources of what a descriptor is end inside it
 --   pins-few        ==  at most eight pins
 --   sources-few     ==  so at most eight sources
---   sources-length  ==  as many sources as pins; sources-input .. sources-feature: for each layout
+--   sources-length  ==  as many sources as pins
+--   sources-input, sources-output, sources-mixer, sources-selector, sources-printed, sources-feature  ==  for each layout
 --   source-below    ==  a source is a byte
 use Prim.Native.Nat.{ℕ, suc, _+_, _-_, _≤_, _<_}
 use mathlib.Core.Path.{_≡_, refl, ap, _∙_}

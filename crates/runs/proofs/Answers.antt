@@ -10,6 +10,7 @@
 --                              its accepted loads since and ns the numbers of its accepted loads and Sets since
 --   Answers t run s bytes  ==  the setup s is a Get, the control that it addresses stands in the table t, and the bytes are, low
 --                              first, the number that Means asks
+--   run-found              ==  every control is found where it was
 --   get-answers            ==  every Get that is answered after a run is answered so
 use Prim.Native.Nat.{ℕ, _<_}
 use mathlib.Core.Path.{_≡_, refl, sym, ap, _∙_}

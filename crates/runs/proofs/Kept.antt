@@ -2,6 +2,8 @@
 --   load-same, set-same    ==  the control that is stored is the same control
 --   load-sound, set-sound  ==  30 has nothing against it
 --   place-below, place-inside  ==  a control that is found stands below the count, and in the array
+--   place-answers          ==  and is the one that was sought
+--   between-only           ==  what a Set of a yes/no or a pin stores is what was asked, within its bounds
 --   sent-fits              ==  the data of a Set are not too wide for the control
 use Prim.Native.Nat.{ℕ, _+_, _*_, _≤_, _<_, min}
 use mathlib.Core.Path.{_≡_, refl}

@@ -1,4 +1,7 @@
 -- What a refusal leaves, which numbers there are, and what an answer depends on.
+--   Keeps t b o      ==  the outcome o leaves the table t and the reply b as they stood
+--   Numbered P o     ==  if o is a refusal, its number has P; Turned a: so it is for an address that is refused
+--   Agree b a c e    ==  two replies, as they were and as they are, agree in what was written
 --   refused-keeps    ==  "All leave table and reply as they stood": a step whose number is not 0 changes neither
 --   LoadNumber, RequestNumber  ==  the numbers that the paper has for a load and for a request
 --   load-numbers, request-numbers, accepted-is-0  ==  every step gets 0 or a number of the paper, and 0 exactly where it is accepted: never both

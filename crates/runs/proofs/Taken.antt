@@ -3,6 +3,7 @@
 --   SetTaken   ==  a Set that was taken
 --   GetTaken   ==  a Get that was answered
 --   load-taken, set-taken, get-taken  ==  every acceptance is one of these
+--   load-not-got  ==  no load is answered with bytes
 use Prim.Native.Nat.{ℕ, _≤_}
 use mathlib.Core.Path.{_≡_, refl, sym, ap}
 use mathlib.Core.List.{List}

@@ -2,7 +2,9 @@
 --   available-reads  ==  availableOf decides: silence, or a number that fits and whose height is a point of the grid
 --   available-means  ==  of a legal range it decides: silence, or an available setting
 --   available-heard  ==  of a legal range no available setting is silence
---   Placed           ==  the height of an available setting, and that it is a point
+--   PointOf s range h ==  h is a point of the range's grid of heights
+--   Placed, placed   ==  the height of an available setting, and that it is a point; point-available: the way back
+--   heights          ==  what a legal range's heights are
 use Prim.Native.Nat.{ℕ, _+_, _*_, _<_}
 use mathlib.Core.Path.{_≡_, refl, _∙_, sym, ap, subst}
 use mathlib.Core.Bool.{true}

@@ -1,4 +1,5 @@
 -- Silence: "For volume −32768 means silence". It is the lowest value that a volume control can hold.
+--   tone-differs, delay-differs  ==  neither is volume
 --   silence-means   ==  silenceOf decides Silence
 --   silence-fits    ==  silence is not too wide
 --   silence-lowest  ==  of volume the number of height 0 is silence

@@ -4,7 +4,8 @@
 --   value-order  ==  heights are ordered as the values are
 --   value-apart  ==  and lie as far from each other
 --   value-one    ==  two numbers of one value are one
---   res-value    ==  a legal RES means itself, also where the control is signed
+--   res-room, res-fits, res-value  ==  a legal RES is not too wide and means itself, also where the control is signed
+--   res-from-value, res-to-value   ==  and a number whose value is a legal RES is one
 use Prim.Native.Nat.{ℕ, _+_, _-_, _≤_, _<_}
 use mathlib.Core.Path.{_≡_, refl, _∙_, sym, ap}
 use mathlib.Core.Logic.{⊎-elim}

@@ -2,6 +2,7 @@
 // Each public function takes every input; of the run, the first count of its 32 places are looked at.
 ghost use mathlib.Core.Path.{_≡_};
 ghost use Prim.Native.Nat.{_<_};
+ghost use mathlib.Core.List.{[], _∷_};
 ghost use lib.ListN.{take};
 ghost use Rattle.ground.specs.Numbers.{triple};
 ghost use Rattle.streaming.specs.Terminals.{bearerIn, bearerOf, terminalsIn, terminalsOf};
@@ -22,6 +23,19 @@ pub enum Bearer {
     Terminal { kind: u16, channels: u8 },
 }
 
+// A Terminal, if the ID that it bears is this one.
+fn borne(own: u8, terminal: u16, channels: u8, id: u8) -> Bearer
+    ensures { λ r. ⌜ r ≡ bearerIn id (record { id = own; kind = terminal; channels = channels } ∷ []) ⌝ }
+{
+    if own == id {
+        return Bearer::Terminal {
+            kind: terminal,
+            channels,
+        };
+    }
+    Bearer::Nothing
+}
+
 // An entity with these channels, if it is the Terminal that bears the ID.
 fn bearer_of(entity: Entity, channels: u8, id: u8) -> Bearer
     ensures { λ r. ⌜ r ≡ bearerOf id entity channels ⌝ }
@@ -32,30 +46,12 @@ fn bearer_of(entity: Entity, channels: u8, id: u8) -> Bearer
             id: own,
             terminal,
             ..
-        } => {
-            if own == id {
-                Bearer::Terminal {
-                    kind: terminal,
-                    channels,
-                }
-            } else {
-                Bearer::Nothing
-            }
-        }
+        } => borne(own, terminal, channels, id),
         Entity::Output {
             id: own,
             terminal,
             ..
-        } => {
-            if own == id {
-                Bearer::Terminal {
-                    kind: terminal,
-                    channels,
-                }
-            } else {
-                Bearer::Nothing
-            }
-        }
+        } => borne(own, terminal, channels, id),
         Entity::Mixer { .. } => Bearer::Nothing,
         Entity::Selector { .. } => Bearer::Nothing,
         Entity::Printed { .. } => Bearer::Nothing,

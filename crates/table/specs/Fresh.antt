@@ -1,7 +1,7 @@
 -- A table as it is made, before any load: "spare places, and numbers not yet loaded or that a control does not use, are zero.
 -- Yes/no .. at first 0 .. A Selector's value is a pin, at first 1." Refusal 30 has nothing against such a table.
 --   Unused c      ==  nothing is loaded, and MIN, MAX and RES are zero
---   FreshYesNo c, FreshRanged c, FreshPin c ==  a yes/no, a ranged and a Selector's control, as they are made
+--   FreshZero c, FreshPin c ==  a yes/no or a ranged control, and a Selector's, as they are made
 --   FreshAs k c   ==  a control that holds k, as it is made
 --   Fresh t       ==  a table whose controls are as they are made, no more than 128 and none twice, and whose other places are spare
 --   fresh-sound   ==  30 has nothing against it
@@ -26,17 +26,11 @@ pub record Unused (c : Control) : Type 0 where
   pub max : c .max ≡ 0
   pub res : c .res ≡ 0
 
-pub record FreshYesNo (c : Control) : Type 0 where
+pub record FreshZero (c : Control) : Type 0 where
   pub channel : c .channel ≤ 16
   pub pins : c .pins ≡ 0
   pub unused : Unused c
-  pub off : c .cur ≡ 0
-
-pub record FreshRanged (c : Control) : Type 0 where
-  pub channel : c .channel ≤ 16
-  pub pins : c .pins ≡ 0
-  pub unused : Unused c
-  pub zero : c .cur ≡ 0
+  pub first : c .cur ≡ 0
 
 pub record FreshPin (c : Control) : Type 0 where
   pub channel : c .channel ≡ 0
@@ -46,8 +40,8 @@ pub record FreshPin (c : Control) : Type 0 where
 
 abbrev pub FreshAs : Sense → Control → Type 0
 FreshAs Unknown c = ⊥
-FreshAs YesNo c = FreshYesNo c
-FreshAs (Ranged s) c = FreshRanged c
+FreshAs YesNo c = FreshZero c
+FreshAs (Ranged s) c = FreshZero c
 FreshAs Pin c = FreshPin c
 
 pub record Fresh (t : Table) : Type 0 where
@@ -66,7 +60,7 @@ unused-narrow c u h =
 fresh-as : (k : Sense) (c : Control) → FreshAs k c → SoundAs k c
 fresh-as Unknown c h = h
 fresh-as YesNo c h =
-    let e = h .off in
+    let e = h .first in
     record { channel = h .channel; narrow = unused-narrow c (h .unused) (omega arith); setting = omega arith }
 fresh-as (Ranged s) c h = record { channel = h .channel; loaded = λ e. absurd (true≠false (sym e ∙ h .unused .unloaded)) }
 fresh-as Pin c h =

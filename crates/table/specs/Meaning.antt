@@ -15,7 +15,6 @@
 --   sound-control   ==  the test of one control decides what it asks of that control
 --   sound-reads     ==  the test holds exactly there
 --   sound-empty     ==  the empty table is one
---   found-unit      ==  the unit of a control that is found is a unit with controls
 --   sound-counted   ==  each control of such a table stands in the array
 use Prim.Native.Nat.{ℕ, _-_, _≤_, _<_, min}
 use mathlib.Core.Path.{_≡_, refl, sym, ap, _∙_}
@@ -234,21 +233,3 @@ sound-counted t h p l = ⊎-elim (λ (k : length (t .controls) ≤ p). absurd (p
         let s : SoundPin blankControl = rw e at (h .each p l) in
         let n = s .pins .0 in
         omega arith
-
--- the unit of a control that is found has a control
-pub found-unit : (t : Table) (u ch s p : ℕ) → foundIn t u ch s ≡ At p → unitIn t u ≡ true
-unfolding foundIn unitIn answersTo
-found-unit t u ch s p e = go (firstFrom owned (places t) 0) refl
-  where
-    owned : ℕ → Bool
-    owned q = eqb (at t q .unit) u
-
-    a : FirstAt (λ q. answersTo u ch s (at t q)) (places t) 0 p
-    a = first-at _ (places t) 0 p e
-
-    mine : owned p ≡ true
-    mine = reads-and (eqb (at t p .unit) u) _ (reads-true _) (reads-true _) .says (a .holds) .0
-
-    go : (x : Found) → firstFrom owned (places t) 0 ≡ x → isSome (firstFrom owned (places t) 0) ≡ true
-    go (At q) h = ap isSome h
-    go Nothing h = absurd (true≠false (sym mine ∙ first-none owned (places t) 0 h p (a .from) (a .inside)))

@@ -3,7 +3,9 @@
 --   soundYesNo c        ==  30 has nothing against the yes/no control c by itself
 --   soundPin c          ==  nor against the Selector's control c
 --   soundRanged s c     ==  nor against the ranged control c of sort s
+--   soundBy k c         ==  nor against the control c, which holds k
 --   soundControl c      ==  nor against the control c, whatever it holds
+--   isAt p f            ==  the search found place p
 --   firstThere t p c    ==  the control c, at place p, stands at no earlier place
 --   soundPlace t p      ==  30 has nothing against the control at place p
 --   soundOf t           ==  30 has nothing against the table

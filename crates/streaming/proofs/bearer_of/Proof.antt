@@ -2,12 +2,12 @@
 use borrow.Author.Needs.{needs}
 use Prim.Native.Nat.{ℕ}
 use mathlib.Core.Path.{_≡_, sym, ap, _∙_}
-use borrow.Author.Tests.{eq-eqb, ne-eqb}
-use Rattle.ground.specs.Pick.{yes, no}
+use mathlib.Core.List.{[], _∷_}
 use Rattle.layout.specs.declared.Cluster.{Cluster}
 use Rattle.layout.specs.declared.Entity.{Entity}
 use Rattle.layout.specs.declared.Entity.the-variants.{Unknown, Input, Output, Mixer, Selector, Printed, Feature}
-use Rattle.streaming.specs.declared.Bearer.the-variants.{Nothing, Terminal}
+use Rattle.streaming.specs.declared.Bearer.{Bearer}
+use Rattle.streaming.specs.declared.Bearer.the-variants.{Nothing}
 use Rattle.streaming.specs.Terminals.{terminalOf, bearerIn, bearerOf}
 use Rattle.streaming.proofs.bearer_of.Statement.{statement}
 use Rattle.streaming.proofs.bearer_of.Tie as tie
@@ -17,21 +17,13 @@ module _ (id c : ℕ) (e : Entity) where
   unfolding bearerIn terminalOf
   to-unknown h = sym (ap (λ (x : Entity). bearerOf id x c) h)
 
-  to-input : (i t : ℕ) (k : Cluster) → e ≡ Input i t k → i ≡ id → Terminal t c ≡ bearerOf id e c
-  unfolding bearerIn terminalOf
-  to-input i t k h f = sym (ap (λ (x : Entity). bearerOf id x c) h ∙ yes _ _ (eq-eqb i id f))
+  to-input : (i t : ℕ) (k : Cluster) → e ≡ Input i t k → (r : Bearer) → r ≡ bearerIn id (record { id = i; kind = t; channels = c } ∷ []) → r ≡ bearerOf id e c
+  unfolding terminalOf
+  to-input i t k h r f = f ∙ sym (ap (λ (x : Entity). bearerOf id x c) h)
 
-  past-input : (i t : ℕ) (k : Cluster) → e ≡ Input i t k → (i ≡ id → ⊥) → Nothing ≡ bearerOf id e c
-  unfolding bearerIn terminalOf
-  past-input i t k h f = sym (ap (λ (x : Entity). bearerOf id x c) h ∙ no _ _ (ne-eqb i id f))
-
-  to-output : (i t s : ℕ) → e ≡ Output i t s → i ≡ id → Terminal t c ≡ bearerOf id e c
-  unfolding bearerIn terminalOf
-  to-output i t s h f = sym (ap (λ (x : Entity). bearerOf id x c) h ∙ yes _ _ (eq-eqb i id f))
-
-  past-output : (i t s : ℕ) → e ≡ Output i t s → (i ≡ id → ⊥) → Nothing ≡ bearerOf id e c
-  unfolding bearerIn terminalOf
-  past-output i t s h f = sym (ap (λ (x : Entity). bearerOf id x c) h ∙ no _ _ (ne-eqb i id f))
+  to-output : (i t s : ℕ) → e ≡ Output i t s → (r : Bearer) → r ≡ bearerIn id (record { id = i; kind = t; channels = c } ∷ []) → r ≡ bearerOf id e c
+  unfolding terminalOf
+  to-output i t s h r f = f ∙ sym (ap (λ (x : Entity). bearerOf id x c) h)
 
   to-mixer : (i p l : ℕ) (k : Cluster) → e ≡ Mixer i p k l → Nothing ≡ bearerOf id e c
   unfolding bearerIn terminalOf
@@ -49,7 +41,7 @@ module _ (id c : ℕ) (e : Entity) where
   unfolding bearerIn terminalOf
   to-feature i s n l h = sym (ap (λ (x : Entity). bearerOf id x c) h)
 
-ruleset laws = (to-unknown, to-input, past-input, to-output, past-output, to-mixer, to-selector, to-printed, to-feature, needs)
+ruleset laws = (to-unknown, to-input, to-output, to-mixer, to-selector, to-printed, to-feature, needs)
 
 enum-told : tie.Need-enum-told
 enum-told c = search laws
@@ -57,8 +49,14 @@ enum-told c = search laws
 enum-known-entity : tie.Need-enum-known-entity
 enum-known-entity c = search laws
 
+borne-requires : tie.Need-borne-requires
+borne-requires c κs = search laws
+
 enum-known-entity-2 : tie.Need-enum-known-entity-2
 enum-known-entity-2 c = search laws
+
+borne-requires-2 : tie.Need-borne-requires-2
+borne-requires-2 c κs = search laws
 
 enum-told-2 : tie.Need-enum-told-2
 enum-told-2 c = search laws
@@ -93,19 +91,15 @@ returns-6 c = search laws
 returns-7 : tie.Need-returns-7
 returns-7 c = search laws
 
-returns-8 : tie.Need-returns-8
-returns-8 c = search laws
-
-returns-9 : tie.Need-returns-9
-returns-9 c = search laws
-
 pub bearer-of-spec : {M : Type 1} → statement M
 bearer-of-spec =
     tie.close
     (tie.spec
     enum-told
     enum-known-entity
+    borne-requires
     enum-known-entity-2
+    borne-requires-2
     enum-told-2
     enum-told-3
     enum-told-4
@@ -116,6 +110,4 @@ bearer-of-spec =
     returns-4
     returns-5
     returns-6
-    returns-7
-    returns-8
-    returns-9)
+    returns-7)
