@@ -1,5 +1,8 @@
 -- Document 01's cases of clusters, computed: 5 channels, locations 0x0051, index 254 kept and 255 broken; 4, 0x0107, index 0 kept
 -- and 1 broken.
+--   cluster c b i  ==  the cluster of c channels, locations b and name index i
+--   FourClusters, four-clusters  ==  the four, by what the reader computes
+--   kept-254, broken-255, kept-0, broken-1  ==  the same as the rule says it
 use Prim.Native.Nat.{ℕ}
 use mathlib.Core.Path.{_≡_, refl}
 use mathlib.Core.Bool.{true, false}

@@ -6,7 +6,7 @@ ghost use Rattle.channels.specs.Declared.{namesKept, clusterKept};
 use layout::Cluster;
 
 // The most channels that a cluster may have.
-pub const MOST_CHANNELS: u8 = 16;
+const MOST_CHANNELS: u8 = 16;
 
 // Bits 12 to 15 of the locations are 0 below this.
 const LOCATIONS: u16 = 4096;

@@ -26,7 +26,8 @@ use Rattle.layout.specs.declared.Entity.{Entity}
 use Rattle.layout.specs.declared.Entity.the-variants.{Unknown, Input, Output, Mixer, Selector, Printed, Feature}
 use Rattle.graph.specs.Members.{_∈_, all, reads-all}
 use Rattle.channels.specs.Declared.{ClusterKept, clusterKept, reads-cluster}
-use Rattle.clusters.specs.Edition.{noCluster, Edition}
+use Rattle.layout.specs.Layout.{noCluster}
+use Rattle.clusters.specs.Edition.{Edition}
 
 unfoldable pub firstOf : List Cluster → Cluster
 firstOf cs = getD cs 0 noCluster

@@ -1,7 +1,6 @@
 -- An edition is a value: which rule gives an entity's cluster, and which test it must pass, each from what enters the entity.
 -- What is said here, and the theorem on it, does not know which edition it is. Clusters are on entities, named by their IDs, and what
 -- is asked of them is asked at each place of the run, of its own source IDs.
---   noCluster       ==  a cluster of no channels, which stands where none was given out
 --   Edition         ==  the rule, the test as a statement and as what the reader computes, and that these agree
 --   enteringAt run cluster i  ==  the clusters that enter the entity at place i, pin by pin
 --   GivenOut ed run cluster   ==  each entity's cluster is what its rule makes of those that enter it
@@ -24,6 +23,7 @@ use Rattle.ground.specs.declared.Place.the-variants.{Nowhere, At}
 use Rattle.ground.specs.Pick.{Reads}
 use Rattle.layout.specs.declared.Cluster.{Cluster}
 use Rattle.layout.specs.declared.Entity.{Entity}
+use Rattle.layout.specs.Layout.{noCluster}
 use Rattle.entities.specs.declared.Run.{Run}
 use Rattle.entities.specs.Run.{mostEntities, held, entityAt, idAt, placeAt}
 use Rattle.graph.specs.Rounds.{clusterRounds}
@@ -32,9 +32,6 @@ use Rattle.ground.specs.Places.{firstIn}
 use Rattle.sources.specs.Lookup.{linksOf}
 use Rattle.sources.specs.Rules.{Rule10, Rule11}
 use Rattle.ranks.specs.Rules.{mostSteps, Ranking}
-
-abbrev pub noCluster : Cluster
-noCluster = record { channels = 0; locations = 0; names = 0 }
 
 pub record Edition : Type 1 where
   pub rule : Entity → List Cluster → Cluster

@@ -34,7 +34,8 @@ use Rattle.sources.specs.Rules.{Rule10, Rule11}
 use Rattle.sources.specs.GraphLaws.{id-in, ids-few, entity-own, sources-own, each-own, closed-links, names-links}
 use Rattle.ranks.specs.Rules.{mostSteps, Rule12, breach12}
 use Rattle.ranks.specs.RuleLaws.{closed-ids, rule12-nowhere, rule12-ranks, ranked-ids, all-settled}
-use Rattle.clusters.specs.Edition.{noCluster, Edition, enteringAt, GivenOut, Fits, Rule13, Broken, Connected, clustersAt, ruleAt, clustersOf, keepsAt, breach13}
+use Rattle.layout.specs.Layout.{noCluster}
+use Rattle.clusters.specs.Edition.{Edition, enteringAt, GivenOut, Fits, Rule13, Broken, Connected, clustersAt, ruleAt, clustersOf, keepsAt, breach13}
 
 module _ (ed : Edition) (run : Run) (rule10 : Rule10 run) (rule11 : Rule11 run) where
   -- rule and test for the entity with an ID

@@ -9,7 +9,7 @@ use lib.Count.{ones, onesIn}
 use Rattle.ground.specs.Refuse.{none, refuse}
 use Rattle.ground.specs.Lists.{any, pad}
 use Rattle.layout.specs.Layout.{entityOf, inputOf, outputOf, mixerOf, selectorOf, featureOf, idOf}
-use Rattle.layout.specs.Sources.{sourceList, sourcesOf, sourcesIn, padded}
+use Rattle.layout.specs.Sources.{sourceList, sourcesOf, sourcesIn}
 use Rattle.entities.specs.declared.Run.{Run}
 use Rattle.entities.specs.Run.{nodeOf, nodesFrom, blankNode, runIn}
 use Rattle.graph.specs.Members.{all}
@@ -49,5 +49,5 @@ pub record Cases : Type 0 where
   pub forward-source : judged forward none ≡ none
 
 pub cases : Cases
-unfolding judged refuse any pad entityOf inputOf outputOf mixerOf selectorOf featureOf idOf sourceList sourcesOf sourcesIn padded nodeOf nodesFrom blankNode runIn all tabulateFrom nextRound roundsOf isOutput firstIn lookupBelow indexOf placeOf linkOf linksOf wrongId breach10 noOutput wrongSource wrongSources breach11 settledIn breach12 clusterKept namesKept ones onesIn clustersAt clustersOf keepsAt breach13 firstOf channelsIn giveOut featureLength featureKept keeps
+unfolding judged refuse any pad entityOf inputOf outputOf mixerOf selectorOf featureOf idOf sourceList sourcesOf sourcesIn nodeOf nodesFrom blankNode runIn all tabulateFrom nextRound roundsOf isOutput firstIn lookupBelow indexOf placeOf linkOf linksOf wrongId breach10 noOutput wrongSource wrongSources breach11 settledIn breach12 clusterKept namesKept ones onesIn clustersAt clustersOf keepsAt breach13 firstOf channelsIn giveOut featureLength featureKept keeps
 cases = record { case-a = refl; id-one = refl; source-three = refl; source-itself = refl; forward-source = refl }

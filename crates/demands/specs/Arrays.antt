@@ -23,7 +23,7 @@ use Rattle.graph.specs.Tables.{below, below-lt}
 use Rattle.graph.specs.Places.{named-list}
 use Rattle.graph.specs.Rounds.{length-roundsOf}
 use Rattle.ranks.specs.Rules.{mostSteps}
-use Rattle.clusters.specs.Edition.{noCluster, Connected, clustersOf}
+use Rattle.clusters.specs.Edition.{Connected, clustersOf}
 use Rattle.clusters.specs.Audio.{audio}
 use Rattle.clusters.specs.Topology.{settled-topology}
 use Rattle.streaming.specs.Terminals.{Terminal, OneEach, terminalOf, terminalsIn, terminalsOf}
@@ -31,7 +31,7 @@ use Rattle.streaming.specs.Distinct.{one-each-run, terminals-run}
 use Rattle.table.specs.declared.Control.{Control}
 use Rattle.controls.specs.Controls.{entityControls, controlsOf, controlsOfRun}
 use Rattle.controls.specs.Reader.{controls-run}
-use Rattle.layout.specs.Layout.{entityOf}
+use Rattle.layout.specs.Layout.{entityOf, noCluster}
 use Rattle.records.specs.Records.{recordSize, roomFor}
 use Rattle.demands.specs.Surveyed.{placeOfRun, entitiesOf, run-stands, run-cut}
 use Rattle.demands.specs.Configuration.{clustersBy, Rule16}

@@ -21,7 +21,7 @@ use Rattle.scan.specs.Cutting.{endAt, restFrom, rest, reach, breach3}
 use Rattle.scan.specs.Search.{searched}
 use Rattle.scan.specs.Want.{isInterface, isClass, isAudio, isSetting, isMember, wants, foundFrom}
 use Rattle.layout.specs.Layout.{inputOf, outputOf, mixerOf, selectorOf, featureOf, entityOf, kindOf, idOf, isUnknown}
-use Rattle.layout.specs.Sources.{sourceList, pinsOf, padded, sourcesIn, sourcesOf}
+use Rattle.layout.specs.Sources.{sourceList, pinsOf, sourcesIn, sourcesOf}
 use Rattle.entities.specs.Run.{nodeOf, nodesFrom, blankNode, runIn}
 use Rattle.groups.specs.Reading.{breach1, breach2, wrongInterface, breach4, runEnd, frameFrom, frameOf, opens, isHeader, breach5, straysFrom, breach6, isDistinct, allKnown, unlisted, collects, breach7, groupJudged}
 use Rattle.groups.specs.Reading as groups
@@ -40,8 +40,8 @@ use Rattle.clusters.specs.Audio.{firstOf, channelsIn, giveOut, mixerLength, fea
 use Rattle.channels.specs.Declared.{clusterKept, namesKept}
 use Rattle.channels.specs.Cases.{cluster}
 use Rattle.connections.specs.Judgement.{judged}
-use Rattle.streaming.specs.Terminals.{terminalOf, terminalsIn, terminalsOf, linkedTo}
-use Rattle.streaming.specs.Tests.{opensAs, isGeneral, isFormat, samplesRight, ratesRight, isTypeOne, formatRight, linkRight, describedBy, holdsClass, broken, wrongStream, breach14}
+use Rattle.streaming.specs.Terminals.{terminalOf, terminalsIn, terminalsOf, bearerIn}
+use Rattle.streaming.specs.Tests.{opensAs, isGeneral, isFormat, samplesRight, ratesRight, isTypeOne, formatRight, bearerRight, describedBy, holdsClass, broken, wrongStream, breach14}
 use Rattle.controls.specs.Controls.{bitCarries, bitSet, bitControls, bitsFrom, maskControls, channelsFrom, featureControls, entityControls, nodeControls, controlsIn, controlsOfRun, breach15}
 use Rattle.controls.specs.Growth.{tableOf}
 use Rattle.records.specs.Records.{headOf, recordOf, recordsTo, roomFor, shownIn}
@@ -120,7 +120,7 @@ record Computed : Type 0 where
   other : AnswerB
 
 computed : Computed
-unfolding caseA caseB refuse placeOr firstFrom isBefore total any pad endAt restFrom rest reach breach3 searched isInterface isClass isAudio isSetting isMember wants foundFrom inputOf outputOf mixerOf selectorOf featureOf entityOf kindOf idOf isUnknown sourceList pinsOf padded sourcesIn sourcesOf nodeOf nodesFrom blankNode runIn breach1 breach2 wrongInterface breach4 runEnd frameFrom frameOf opens isHeader breach5 straysFrom breach6 isDistinct allKnown unlisted collects breach7 groupJudged groups.judged runOf breach8 breach9 verdictThen verdict cutting.runJudged refusedSurvey surveyed surveyOf all nextRound roundsOf tabulateFrom isOutput firstIn lookupBelow indexOf placeOf linkOf linksOf wrongId breach10 noOutput wrongSource wrongSources breach11 settledIn breach12 clustersAt clustersOf keepsAt breach13 firstOf channelsIn giveOut mixerLength featureLength alike alikeIn mixerKept featureKept keeps clusterKept namesKept ones onesIn judged terminalOf terminalsIn terminalsOf linkedTo opensAs isGeneral isFormat samplesRight ratesRight isTypeOne formatRight linkRight describedBy holdsClass broken wrongStream breach14 bitSet bitControls bitsFrom maskControls channelsFrom featureControls entityControls nodeControls controlsIn controlsOfRun breach15 tableOf headOf recordOf recordsTo roomFor shownIn restJudged runJudged surveyJudged verdictOf refusedReading takenReading readingOf sheetOf bitCarries
+unfolding caseA caseB refuse placeOr firstFrom isBefore total any pad endAt restFrom rest reach breach3 searched isInterface isClass isAudio isSetting isMember wants foundFrom inputOf outputOf mixerOf selectorOf featureOf entityOf kindOf idOf isUnknown sourceList pinsOf sourcesIn sourcesOf nodeOf nodesFrom blankNode runIn breach1 breach2 wrongInterface breach4 runEnd frameFrom frameOf opens isHeader breach5 straysFrom breach6 isDistinct allKnown unlisted collects breach7 groupJudged groups.judged runOf breach8 breach9 verdictThen verdict cutting.runJudged refusedSurvey surveyed surveyOf all nextRound roundsOf tabulateFrom isOutput firstIn lookupBelow indexOf placeOf linkOf linksOf wrongId breach10 noOutput wrongSource wrongSources breach11 settledIn breach12 clustersAt clustersOf keepsAt breach13 firstOf channelsIn giveOut mixerLength featureLength alike alikeIn mixerKept featureKept keeps clusterKept namesKept ones onesIn judged terminalOf terminalsIn terminalsOf bearerIn opensAs isGeneral isFormat samplesRight ratesRight isTypeOne formatRight bearerRight describedBy holdsClass broken wrongStream breach14 bitSet bitControls bitsFrom maskControls channelsFrom featureControls entityControls nodeControls controlsIn controlsOfRun breach15 tableOf headOf recordOf recordsTo roomFor shownIn restJudged runJudged surveyJudged verdictOf refusedReading takenReading readingOf sheetOf bitCarries
 computed = record {
   configurations = record { accepted = refl; length-wrong = refl; eight-bytes = refl; sources-itself = refl; same-id = refl; sources-output = refl };
   printed = record { answer = refl; sheet = refl };

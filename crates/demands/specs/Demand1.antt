@@ -26,7 +26,7 @@ use Rattle.request.specs.Outcome.{Outcome, numberOf, answerOf, Answered}
 use Rattle.request.specs.Outcome.Outcome.{refused, got, done}
 use Rattle.request.specs.Load.{loadOf}
 use Rattle.request.specs.Request.{requestOf}
-use Rattle.runs.specs.Rows.{firstRow, requestRows, loadRows}
+use Rattle.runs.specs.Rows.{requestRows, loadRows}
 use Rattle.runs.proofs.Rows.{request-rows, load-rows}
 use Rattle.runs.proofs.Refusals.{refused-keeps, LoadNumber, RequestNumber, Numbered, load-numbers, request-numbers}
 use Rattle.topology.specs.declared.Reading.{Reading}
@@ -91,8 +91,8 @@ request-refuses t i setup «data» b r a k h =
       k .lent ∙ refused-keeps t b o (λ e. h (ap (λ (x : Answer). x .number) (k .result) ∙ e)) .reply,
     )
 
-pub load-number : (t : Table) (u c v : ℕ) (range : Range) (w : ℕ) → numberOf (loadOf t u c v range w) ≡ firstRow (loadRows t u c v range w)
+pub load-number : (t : Table) (u c v : ℕ) (range : Range) (w : ℕ) → loadRows t u c v range w (numberOf (loadOf t u c v range w))
 load-number = load-rows
 
-pub request-number : (t : Table) (i : ℕ) (setup «data» : List ℕ) (room : ℕ) → numberOf (requestOf t i setup «data» room) ≡ firstRow (requestRows t i setup «data» room)
+pub request-number : (t : Table) (i : ℕ) (setup «data» : List ℕ) (room : ℕ) → requestRows t i setup «data» room (numberOf (requestOf t i setup «data» room))
 request-number = request-rows

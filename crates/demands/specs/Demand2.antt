@@ -16,6 +16,7 @@ use native.Mathlib.Omega.{arith}
 use Rattle.layout.specs.declared.Cluster.{Cluster}
 use Rattle.layout.specs.declared.Entity.{Entity}
 use Rattle.layout.specs.declared.Entity.the-variants.{Unknown, Input, Output, Mixer, Selector, Printed, Feature}
+use Rattle.layout.specs.Layout.{noCluster}
 use Rattle.entities.specs.declared.Run.{Run}
 use Rattle.entities.specs.Run.{held, entityAt, idAt}
 use Rattle.graph.specs.Members.{_∈_}
@@ -27,11 +28,9 @@ use Rattle.clusters.specs.Edition.{Connected, enteringAt}
 use Rattle.clusters.specs.Audio.{firstOf, giveOut, Keeps, audio}
 use Rattle.table.specs.declared.Table.{Table}
 use Rattle.table.specs.declared.Found.the-variants as found
-use Rattle.table.specs.Controls.{emptyTable}
-use Rattle.table.specs.Meaning.{Sound}
+use Rattle.table.specs.Meaning.{Sound, sound-empty}
 use Rattle.controls.specs.Growth.{tableOf}
 use Rattle.controls.specs.Reader.{reader-sound}
-use Rattle.records.specs.Records.{blankCluster}
 use Rattle.request.specs.Outcome.Outcome.{got}
 use Rattle.request.specs.Request.{requestOf}
 use Rattle.runs.specs.Runs.{Key, whereIs, Step, tableNext, after, stepKey, rangesIn, numbersIn, told, Wired}
@@ -79,20 +78,17 @@ module _ (r : Run) (c : Connected audio r) where
 
 configuration-table : (s : List ℕ) (t : Configuration s) → Sound (tableOf (controls s t))
 configuration-table s t =
-    reader-sound (run s t) (clusters s t) (t .kept .rule9) (distinct-ids s (t .kept) (t .connected)) (t .rule15) blankCluster
+    reader-sound (run s t) (clusters s t) (t .kept .rule9) (distinct-ids s (t .kept) (t .connected)) (t .rule15) noCluster
     (λ i h. let e = held-all s (t .kept) in
     subst (λ (k : Cluster). k .channels ≤ mostChannels) (sym (cluster-shows s t i h))
     (few-channels (entitiesOf (t .kept)) (t .connected) i (omega arith)))
-
-empty-sound : Sound emptyTable
-empty-sound = record { few = zero-le; once = λ p q l h. absurd (omega arith); each = λ p h. absurd (omega arith) }
 
 pub reader-table : (s d : List ℕ) → Sound (readingOf s (length d) .table)
 reader-table s d = go (reader-answers s d)
   where
     go : ((readingOf s (length d) .number ≡ 0) × Shown s (length d)) ⊎ RefusedReading s d → Sound (readingOf s (length d) .table)
     go (inl (e, (t, room))) = subst Sound (sym (ap (λ (x : Reading). x .table) (answer-shows s t (length d) room))) (configuration-table s t)
-    go (inr k) = subst Sound (sym (k .no-table)) empty-sound
+    go (inr k) = subst Sound (sym (k .no-table)) sound-empty
 
 pub record ReaderRun (t : Table) (steps : List Step) : Type 0 where
   pub sound : Sound (after t steps)

@@ -21,12 +21,11 @@ use native.Mathlib.Omega.{arith}
 use borrow.Author.Tests.{eq-eqb, ne-eqb}
 use Rattle.ground.specs.Pick.{yes, no, decided, reads-eq, reads-lt, shows}
 use Rattle.ground.specs.Numbers.{byte}
-use Rattle.ground.specs.Lists.{total}
+use Rattle.ground.specs.Lists.{total, pad-length}
 use Rattle.layout.specs.declared.Cluster.{Cluster}
-use Rattle.layout.specs.Layout.{entityOf}
+use Rattle.layout.specs.Layout.{mostPins, noCluster, entityOf}
 use Rattle.layout.specs.LayoutLaws.{id-told}
 use Rattle.layout.specs.Sources.{sourceList, sourcesIn, sourcesOf}
-use Rattle.layout.specs.SourcesLaws.{padded-length, sources-few}
 use Rattle.entities.specs.declared.Node.{Node}
 use Rattle.entities.specs.declared.Run.{Run}
 use Rattle.entities.specs.Run.{nodeOf, runIn, held, nodeAt, idAt}
@@ -45,7 +44,7 @@ use Rattle.table.specs.Controls.{at}
 use Rattle.controls.specs.Standing.{Stands}
 use Rattle.controls.specs.Order.{member-at, Before}
 use Rattle.controls.specs.Reader.{InTable, table-stands, table-ordered}
-use Rattle.records.specs.Records.{recordSize, blankCluster, headOf, recordOf, recordsTo, shownIn}
+use Rattle.records.specs.Records.{recordSize, headOf, recordOf, recordsTo, shownIn}
 use Rattle.topology.specs.declared.Reading.{Reading}
 use Rattle.topology.specs.Reading.{clustersAt, verdictOf, refusedReading, takenReading, readingOf, sheetOf}
 use Rattle.demands.specs.Surveyed.{placeOfRun, entitiesOf, keptSurvey, survey-kept}
@@ -91,7 +90,7 @@ module _ (s : List ℕ) where
 
 record-long : (p : ℕ) (d : List ℕ) (c : Cluster) → length (recordOf (nodeOf p d) c) ≡ recordSize
 unfolding recordOf headOf nodeOf sourcesOf sourcesIn
-record-long p d c = let e = padded-length (sourceList (entityOf d) d) (sources-few d) in omega arith
+record-long p d c = let e = pad-length 0 mostPins (sourceList (entityOf d) d) in omega arith
 
 below-last : (i m : ℕ) → i < suc m → (i ≡ m → ⊥) → i < m
 below-last i m l n = ⊎-elim (λ (h : i < m). h) (λ (h : i < m → ⊥). absurd (n (let e : i ≡ m = omega arith in e))) (decided (ltb i m) (reads-lt i m))
@@ -128,8 +127,8 @@ module _ (s : List ℕ) (t : Configuration s) where
   unfolding recordsTo
   records-cut r cs n zero h = refl
   records-cut r cs n (suc m) h =
-      ap (λ (l : List ℕ). l ++ recordOf (nodeAt r m) (getD cs m blankCluster)) (records-cut r cs n m (omega arith))
-      ∙ ap (λ (c : Cluster). recordsTo m r (take n cs) ++ recordOf (nodeAt r m) c) (sym (getD-take n cs m blankCluster h))
+      ap (λ (l : List ℕ). l ++ recordOf (nodeAt r m) (getD cs m noCluster)) (records-cut r cs n m (omega arith))
+      ∙ ap (λ (c : Cluster). recordsTo m r (take n cs) ++ recordOf (nodeAt r m) c) (sym (getD-take n cs m noCluster h))
 
   shown-is : (d : List ℕ) → Rule16 run (length d) → shownIn entities (clustersOf audio entities) d ≡ recordsTo (length run) entities clusters ++ drop (length run * recordSize) d
   unfolding shownIn
@@ -166,11 +165,11 @@ module _ (s : List ℕ) (t : Configuration s) where
   pub sources-show : (i : ℕ) → i < length run → sourcesAt entities i ≡ sourceList (entityOf (getD run i [])) (getD run i [])
   sources-show = sources-read (placeOfRun (t .kept)) run (t .kept .rule8 .1)
 
-  pub cluster-shows : (i : ℕ) → i < length run → getD clusters i blankCluster ≡ t .connected .cluster (idAt entities i)
+  pub cluster-shows : (i : ℕ) → i < length run → getD clusters i noCluster ≡ t .connected .cluster (idAt entities i)
   cluster-shows i h =
       let e = held-all s (t .kept) in
-      ap (λ (l : List Cluster). getD l i blankCluster) (sym (clusters-run s (t .kept) (t .connected)))
-      ∙ getD-take (length run) (clustersOf audio entities) i blankCluster h
+      ap (λ (l : List Cluster). getD l i noCluster) (sym (clusters-run s (t .kept) (t .connected)))
+      ∙ getD-take (length run) (clustersOf audio entities) i noCluster h
       ∙ sym (settled-topology audio entities (t .connected .rule10) (t .connected .rule11) .held-by-array (t .connected) i (omega arith))
 
   record-sixteen : (i : ℕ) → i < length run → (c : Cluster) → length (recordOf (nodeAt entities i) c) ≡ recordSize
@@ -181,30 +180,30 @@ module _ (s : List ℕ) (t : Configuration s) where
   records-long zero h = refl
   records-long (suc m) h =
       let a = records-long m (omega arith) in
-      let b = record-sixteen m h (getD clusters m blankCluster) in
-      length-append (recordsTo m entities clusters) (recordOf (nodeAt entities m) (getD clusters m blankCluster)) ∙ omega arith
+      let b = record-sixteen m h (getD clusters m noCluster) in
+      length-append (recordsTo m entities clusters) (recordOf (nodeAt entities m) (getD clusters m noCluster)) ∙ omega arith
 
-  record-in : (n : ℕ) → n ≤ length run → (i : ℕ) → i < n → (y : List ℕ) → take recordSize (drop (i * recordSize) (recordsTo n entities clusters ++ y)) ≡ recordOf (nodeAt entities i) (getD clusters i blankCluster)
+  record-in : (n : ℕ) → n ≤ length run → (i : ℕ) → i < n → (y : List ℕ) → take recordSize (drop (i * recordSize) (recordsTo n entities clusters ++ y)) ≡ recordOf (nodeAt entities i) (getD clusters i noCluster)
   unfolding recordsTo
   record-in zero h i l y = absurd (omega arith)
   record-in (suc m) h i l y = go (decided (eqb i m) (reads-eq i m)) (λ j. record-in m (omega arith) i j)
     where
-      joined : recordsTo (suc m) entities clusters ++ y ≡ recordsTo m entities clusters ++ (recordOf (nodeAt entities m) (getD clusters m blankCluster) ++ y)
-      joined = append-assoc (recordsTo m entities clusters) (recordOf (nodeAt entities m) (getD clusters m blankCluster)) y
+      joined : recordsTo (suc m) entities clusters ++ y ≡ recordsTo m entities clusters ++ (recordOf (nodeAt entities m) (getD clusters m noCluster) ++ y)
+      joined = append-assoc (recordsTo m entities clusters) (recordOf (nodeAt entities m) (getD clusters m noCluster)) y
 
-      go : (i ≡ m) ⊎ (i ≡ m → ⊥) → (i < m → (z : List ℕ) → take recordSize (drop (i * recordSize) (recordsTo m entities clusters ++ z)) ≡ recordOf (nodeAt entities i) (getD clusters i blankCluster)) → take recordSize (drop (i * recordSize) (recordsTo (suc m) entities clusters ++ y)) ≡ recordOf (nodeAt entities i) (getD clusters i blankCluster)
+      go : (i ≡ m) ⊎ (i ≡ m → ⊥) → (i < m → (z : List ℕ) → take recordSize (drop (i * recordSize) (recordsTo m entities clusters ++ z)) ≡ recordOf (nodeAt entities i) (getD clusters i noCluster)) → take recordSize (drop (i * recordSize) (recordsTo (suc m) entities clusters ++ y)) ≡ recordOf (nodeAt entities i) (getD clusters i noCluster)
       go (inl e) ih =
           ap (λ (j : ℕ). take recordSize (drop (j * recordSize) (recordsTo (suc m) entities clusters ++ y))) e
           ∙ ap (λ (l : List ℕ). take recordSize (drop (m * recordSize) l)) joined
-          ∙ ap (take recordSize) (drop-at (recordsTo m entities clusters) (recordOf (nodeAt entities m) (getD clusters m blankCluster) ++ y) (m * recordSize) (records-long m (omega arith)))
-          ∙ take-at (recordOf (nodeAt entities m) (getD clusters m blankCluster)) y recordSize (record-sixteen m h (getD clusters m blankCluster))
-          ∙ ap (λ (j : ℕ). recordOf (nodeAt entities j) (getD clusters j blankCluster)) (sym e)
-      go (inr n) ih = ap (λ (l : List ℕ). take recordSize (drop (i * recordSize) l)) joined ∙ ih (below-last i m l n) (recordOf (nodeAt entities m) (getD clusters m blankCluster) ++ y)
+          ∙ ap (take recordSize) (drop-at (recordsTo m entities clusters) (recordOf (nodeAt entities m) (getD clusters m noCluster) ++ y) (m * recordSize) (records-long m (omega arith)))
+          ∙ take-at (recordOf (nodeAt entities m) (getD clusters m noCluster)) y recordSize (record-sixteen m h (getD clusters m noCluster))
+          ∙ ap (λ (j : ℕ). recordOf (nodeAt entities j) (getD clusters j noCluster)) (sym e)
+      go (inr n) ih = ap (λ (l : List ℕ). take recordSize (drop (i * recordSize) l)) joined ∙ ih (below-last i m l n) (recordOf (nodeAt entities m) (getD clusters m noCluster) ++ y)
 
   pub record-shows : (d : List ℕ) → Rule16 run (length d) → (i : ℕ) → i < length run
       → take recordSize (drop (i * recordSize) (sheetOf s d)) ≡ recordOf (nodeOf (placeOfRun (t .kept) + total (take i run)) (getD run i [])) (t .connected .cluster (byte (getD run i []) 3))
   record-shows d h i l =
       ap (λ (x : List ℕ). take recordSize (drop (i * recordSize) x)) (sheet-shows d h)
       ∙ record-in (length run) (omega arith) i l (drop (length run * recordSize) d)
-      ∙ ap (λ (n : Node). recordOf n (getD clusters i blankCluster)) (entity-shows i l)
+      ∙ ap (λ (n : Node). recordOf n (getD clusters i noCluster)) (entity-shows i l)
       ∙ ap (recordOf (nodeOf (placeOfRun (t .kept) + total (take i run)) (getD run i []))) (cluster-shows i l ∙ ap (t .connected .cluster) (id-shows i l))

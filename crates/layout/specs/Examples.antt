@@ -1,12 +1,16 @@
 -- Descriptors that the papers print, computed: the printed Selectors of the telephone example (source document 004, tables C-11 to
 -- C-13), whose pad is no source, and document 01's case A.
 --   telephone i a b ==  the telephone's Selector with ID i and sources a and b, as printed: no field at offset 5
+--   telephone-printed ==  it is a printed Selector; telephone-sources-7, telephone-sources-8, telephone-sources-9: the three and their sources
+--   tabled-sources    ==  the sources of the same Selector as the tables of 000 lay it out
+--   input-case, feature-case, output-case ==  case A's three entities; feature-sources: the sources of its Feature Unit
 use Prim.Native.Nat.{ℕ}
 use mathlib.Core.Path.{_≡_, refl}
 use mathlib.Core.List.{List, [], _∷_}
+use Rattle.ground.specs.Lists.{pad}
 use Rattle.layout.specs.declared.Entity.the-variants.{Input, Output, Printed, Feature}
 use Rattle.layout.specs.Layout.{entityOf, inputOf, outputOf, selectorOf, featureOf}
-use Rattle.layout.specs.Sources.{sourceList, sourcesOf, sourcesIn, padded}
+use Rattle.layout.specs.Sources.{sourceList, sourcesOf, sourcesIn}
 
 abbrev telephone : ℕ → ℕ → ℕ → List ℕ
 telephone i a b = 9 ∷ 36 ∷ 5 ∷ i ∷ 2 ∷ 0 ∷ a ∷ b ∷ 0 ∷ []
@@ -17,15 +21,15 @@ telephone-printed i a b = refl
 
 -- table C-11: from the Handset and from USB; C-12: from the Phone Line and from USB; C-13: from the Phone Line and from the Handset
 pub telephone-sources-7 : sourcesOf (telephone 7 2 3) ≡ record { pins = 2; ids = 2 ∷ 3 ∷ 0 ∷ 0 ∷ 0 ∷ 0 ∷ 0 ∷ 0 ∷ [] }
-unfolding sourcesOf sourcesIn padded sourceList entityOf selectorOf
+unfolding sourcesOf sourcesIn pad sourceList entityOf selectorOf
 telephone-sources-7 = refl
 
 pub telephone-sources-8 : sourcesOf (telephone 8 1 3) ≡ record { pins = 2; ids = 1 ∷ 3 ∷ 0 ∷ 0 ∷ 0 ∷ 0 ∷ 0 ∷ 0 ∷ [] }
-unfolding sourcesOf sourcesIn padded sourceList entityOf selectorOf
+unfolding sourcesOf sourcesIn pad sourceList entityOf selectorOf
 telephone-sources-8 = refl
 
 pub telephone-sources-9 : sourcesOf (telephone 9 1 2) ≡ record { pins = 2; ids = 1 ∷ 2 ∷ 0 ∷ 0 ∷ 0 ∷ 0 ∷ 0 ∷ 0 ∷ [] }
-unfolding sourcesOf sourcesIn padded sourceList entityOf selectorOf
+unfolding sourcesOf sourcesIn pad sourceList entityOf selectorOf
 telephone-sources-9 = refl
 
 -- the same Selector as the tables of 000 lay it out: length 8, no pad
@@ -52,7 +56,7 @@ unfolding entityOf featureOf
 feature-case = refl
 
 pub feature-sources : sourcesOf featureA ≡ record { pins = 1; ids = 1 ∷ 0 ∷ 0 ∷ 0 ∷ 0 ∷ 0 ∷ 0 ∷ 0 ∷ [] }
-unfolding sourcesOf sourcesIn padded sourceList entityOf featureOf
+unfolding sourcesOf sourcesIn pad sourceList entityOf featureOf
 feature-sources = refl
 
 pub output-case : entityOf outputA ≡ Output 3 257 2

@@ -3,10 +3,11 @@
 --   Pins p                   ==  p is 1 to 8
 --   LaidOut d                ==  d has one of the six layouts (the printed Selector is a Selector's second)
 --   entityOf d               ==  what the reader makes of d: its kind's own numbers, or Unknown
---   inputOf d .. featureOf d ==  the same of a d that is of the kind in the name
+--   inputOf d, outputOf d, mixerOf d, selectorOf d, featureOf d ==  the same of a d that is of the kind in the name
 --   printedKind              ==  15 hex, the printed Selector's number on the sheet (document 01, "The sheet")
 --   kindOf e                 ==  the number of its kind: byte 2, but printedKind for the printed Selector; 0 for Unknown
 --   idOf e                   ==  the ID that an entity bears
+--   noCluster                ==  a cluster of no channels, all zeros: what stands where none was given out
 --   clusterAt d k            ==  the cluster declared at offsets k..k+3: channels, locations (2), name index
 --   isUnknown e              ==  the layout was wrong
 -- Offsets, 02 Input Terminal: length 12; terminal type at 4, cluster at 7..10. 03 Output Terminal: length 9; type at 4, source at 7.
@@ -37,6 +38,9 @@ pub data LaidOut (d : List ℕ) : Type 0 where
   selector : byte d 2 ≡ 5 → Pins (byte d 4) → length d ≡ 6 + byte d 4 → LaidOut d
   printed : byte d 2 ≡ 5 → Pins (byte d 4) → length d ≡ 7 + byte d 4 → byte d 5 ≡ 0 → LaidOut d
   feature : byte d 2 ≡ 6 → (1 ≤ byte d 5) × (byte d 5 ≤ 4) → 7 ≤ length d → LaidOut d
+
+abbrev pub noCluster : Cluster
+noCluster = record { channels = 0; locations = 0; names = 0 }
 
 abbrev pub clusterAt : List ℕ → ℕ → Cluster
 clusterAt d k = record { channels = byte d k; locations = word d (k + 1); names = byte d (k + 3) }

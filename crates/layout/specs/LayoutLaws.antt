@@ -3,7 +3,11 @@
 --   told, told-only ==  what the reader computes is told by the layouts, and nothing else is
 --   laid-out      ==  a descriptor has a layout or it has none
 --   reads-unknown ==  the reader's "wrong layout" is the rule's: d has none of the layouts (refusal 9)
---   entity-input .. entity-feature ==  one equation for each layout; entity-unknown where there is none
+--   input-right, input-wrong, output-right, output-wrong, mixer-right, mixer-wrong, selector-right, printed-right, selector-wrong,
+--   feature-right, feature-wrong  ==  what a kind's own reader makes of its layout, and of any other
+--   kind-input, kind-output, kind-mixer, kind-selector, kind-feature, kind-other ==  byte 2 says which kind's reader it is
+--   entity-input, entity-output, entity-mixer, entity-selector, entity-printed, entity-feature, entity-unknown ==  one equation for each layout,
+--                     and where there is none
 --   kind-told     ==  byte 2 is the kind, in every layout but the printed Selector's
 --   id-told       ==  byte 3 is the ID, in every layout
 use Prim.Native.Nat.{ℕ, _+_, _≤_}

@@ -2,12 +2,12 @@
 --   sourceList e d ==  their IDs: none for an Input Terminal, one for an Output Terminal and a Feature Unit, p of them from offset 5
 --                      for a Mixer and a Selector, from 6 for the printed Selector
 --   pinsOf e       ==  how many there are: the pins
---   padded l       ==  eight places: the IDs l, then 00
---   sourcesIn l    ==  how many IDs l are, and the eight places
+--   sourcesIn l    ==  how many IDs l are, and eight places: the IDs, then 00
 --   sourcesOf d    ==  what the reader hands on: how many there are, and the eight places
 use Prim.Native.Nat.{ℕ}
-use mathlib.Core.List.{List, [], _∷_, _++_}
-use lib.ListN.{length, take, drop, replicate}
+use mathlib.Core.List.{List, [], _∷_}
+use lib.ListN.{length, take, drop}
+use Rattle.ground.specs.Lists.{pad}
 use Rattle.layout.specs.declared.Entity.{Entity}
 use Rattle.layout.specs.declared.Entity.the-variants.{Unknown, Input, Output, Mixer, Selector, Printed, Feature}
 use Rattle.layout.specs.declared.Sources.{Sources}
@@ -31,11 +31,8 @@ pinsOf (Selector i p) = p
 pinsOf (Printed i p) = p
 pinsOf (Feature i s n l) = 1
 
-unfoldable pub padded : List ℕ → List ℕ
-padded l = l ++ drop (length l) (replicate mostPins 0)
-
 unfoldable pub sourcesIn : List ℕ → Sources
-sourcesIn l = record { pins = length l; ids = padded l }
+sourcesIn l = record { pins = length l; ids = pad 0 mostPins l }
 
 unfoldable pub sourcesOf : List ℕ → Sources
 sourcesOf d = sourcesIn (sourceList (entityOf d) d)

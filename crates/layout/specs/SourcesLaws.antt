@@ -2,23 +2,23 @@
 --   sourcesEnd e    ==  the offset behind the last source of a Mixer or a Selector
 --   sources-inside  ==  the sources of what a descriptor is end inside it
 --   pins-few        ==  at most eight pins
---   sources-length  ==  as many sources as pins; sources-input .. sources-feature: for each layout
+--   sources-few     ==  so at most eight sources
+--   sources-length  ==  as many sources as pins
+--   sources-input, sources-output, sources-mixer, sources-selector, sources-printed, sources-feature  ==  for each layout
 --   source-below    ==  a source is a byte
---   padded-length, padded-at ==  the eight places hold the sources, 00 behind them
-use Prim.Native.Nat.{ℕ, suc, _+_, _-_, _≤_, _<_}
-use mathlib.Core.Path.{_≡_, refl, sym, ap, _∙_}
+use Prim.Native.Nat.{ℕ, suc, _+_, _≤_, _<_}
+use mathlib.Core.Path.{_≡_, refl, ap, _∙_}
 use mathlib.Core.Logic.{⊎-elim}
-use mathlib.Core.List.{List, [], _∷_, _++_, List·Memᴰ, List·Memᴰ·not-nil, List·Memᴰ·cases-cons}
-use lib.ListN.{length, take, drop, replicate, length-take, length-drop, length-append, length-replicate, getD-replicate, List·getD-eq-default, List·getD-append}
-use lib.Seq.{getD-take, getD-drop, getD-append-add}
+use mathlib.Core.List.{List, [], _∷_, List·Memᴰ, List·Memᴰ·not-nil, List·Memᴰ·cases-cons}
+use lib.ListN.{length, take, drop, length-take, length-drop}
+use lib.Seq.{getD-take, getD-drop}
 use native.Mathlib.Omega.{arith}
-use Rattle.ground.specs.Pick.{decided, reads-lt}
 use Rattle.ground.specs.Numbers.{byte}
 use Rattle.layout.specs.declared.Entity.{Entity}
 use Rattle.layout.specs.declared.Entity.the-variants.{Unknown, Input, Output, Mixer, Selector, Printed, Feature}
 use Rattle.layout.specs.Layout.{mostPins, Pins, entityOf}
 use Rattle.layout.specs.LayoutLaws.{Told, told, unknown, input, output, mixer, selector, printed, feature, entity-input, entity-output, entity-mixer, entity-selector, entity-printed, entity-feature}
-use Rattle.layout.specs.Sources.{sourceList, pinsOf, padded}
+use Rattle.layout.specs.Sources.{sourceList, pinsOf}
 
 unfoldable pub sourcesEnd : Entity → ℕ
 sourcesEnd Unknown = 0
@@ -136,30 +136,3 @@ module _ (d : List ℕ) (bytes : (k : ℕ) → byte d k < 256) where
       of (selector k q l) = bytes-stretch 5 (byte d 4)
       of (printed k q l z) = bytes-stretch 6 (byte d 4)
       of (feature k q l) = bytes-one _ (bytes 4)
-
-pub padded-length : (l : List ℕ) → length l ≤ mostPins → length (padded l) ≡ mostPins
-unfolding padded
-padded-length l h = simp (length-append, length-drop) (omega arith)
-
-zeros : (n i : ℕ) → byte (replicate n 0) i ≡ 0
-zeros n i = ⊎-elim (λ h. getD-replicate n i 0 0 h) past (decided _ (reads-lt i n))
-  where
-    past : (i < n → ⊥) → byte (replicate n 0) i ≡ 0
-    past g = List·getD-eq-default (replicate n 0) 0 (simp length-replicate (omega arith))
-
-pub padded-at : (l : List ℕ) (i : ℕ) → byte (padded l) i ≡ byte l i
-unfolding padded
-padded-at l i = ⊎-elim (λ h. List·getD-append l rest 0 i h) past (decided _ (reads-lt i (length l)))
-  where
-    rest : List ℕ
-    rest = drop (length l) (replicate mostPins 0)
-
-    past : (i < length l → ⊥) → byte (l ++ rest) i ≡ byte l i
-    past g =
-        let k : ℕ = i - length l in
-        let e : i ≡ length l + k = omega arith in
-        ap (byte (l ++ rest)) e
-        ∙ getD-append-add l rest k 0
-        ∙ getD-drop (length l) (replicate mostPins 0) k 0
-        ∙ zeros mostPins (length l + k)
-        ∙ sym (List·getD-eq-default l 0 (omega arith))

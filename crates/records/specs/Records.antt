@@ -13,17 +13,13 @@ use lib.ListN.{length, getD, drop}
 use lib.Dec.{leb}
 use Rattle.ground.specs.Pick.{pick}
 use Rattle.layout.specs.declared.Cluster.{Cluster}
-use Rattle.layout.specs.Layout.{idOf, kindOf}
+use Rattle.layout.specs.Layout.{noCluster, idOf, kindOf}
 use Rattle.entities.specs.declared.Node.{Node}
 use Rattle.entities.specs.declared.Run.{Run}
 use Rattle.entities.specs.Run.{held, nodeAt}
 
 abbrev pub recordSize : ℕ
 recordSize = 16
-
--- a spare place
-abbrev pub blankCluster : Cluster
-blankCluster = record { channels = 0; locations = 0; names = 0 }
 
 unfoldable pub headOf : Node → Cluster → List ℕ
 headOf n c = idOf (n .entity) ∷ kindOf (n .entity) ∷ c .channels ∷ c .locations % 256 ∷ c .locations / 256 ∷ c .names ∷ n .sources .pins ∷ 0 ∷ []
@@ -33,7 +29,7 @@ recordOf n c = headOf n c ++ n .sources .ids
 
 unfoldable pub recordsTo : ℕ → Run → List Cluster → List ℕ
 recordsTo zero run cs = []
-recordsTo (suc k) run cs = recordsTo k run cs ++ recordOf (nodeAt run k) (getD cs k blankCluster)
+recordsTo (suc k) run cs = recordsTo k run cs ++ recordOf (nodeAt run k) (getD cs k noCluster)
 
 unfoldable pub roomFor : Run → ℕ → Bool
 roomFor run room = leb (held run * recordSize) room

@@ -1,4 +1,7 @@
 -- What a function's result has to be, from what its outcome is.
+--   refusal t n            ==  the answer of refusal n
+--   refuses, hands-on      ==  a refusal's, and a callee's answer handed on
+--   refuses-all, hands-all-on, gives-all  ==  the same with the reply, and what a Get writes
 use Prim.Native.Nat.{ℕ}
 use mathlib.Core.Path.{_≡_, sym, ap, _∙_}
 use mathlib.Core.List.{List}

@@ -2,16 +2,24 @@
 --   targetOf s              ==  what a setup's wIndex, wValue and wLength name: "wIndex low byte" the interface, "wIndex high
 --                               byte" the unit, "wValue is selector (high) and channel (low)"
 --   askedBy g a b           ==  what type a and request b ask of it: 21/01 a Set, A1/81 to A1/84 a Get of CUR, MIN, MAX, RES
+--   getAsked b g            ==  the Gets of them
 --   askedOf s               ==  31: "setup not 8 bytes, or type and request not 21/01, A1/81, A1/82, A1/83 or A1/84"
---   addressedIn t n g       ==  32: "wIndex low byte is not the AudioControl number"; 33: "wIndex high byte is no unit with
---                               controls"; 34: "no such control"
+--   placeOf l               ==  the place that a lookup found, or its number: 33: "wIndex high byte is no unit with controls"; 34: "no
+--                               such control" (lookupNumber, of crate table)
+--   addressedIn t n g       ==  32: "wIndex low byte is not the AudioControl number"; else what the lookup of unit, channel and
+--                               selector says
+--   isRanged k, ofRange part, partOf part c  ==  k is a range's; the part is MIN, MAX or RES; the number that the part of c is
 --   lacking k part          ==  35: "MIN, MAX, RES of an unranged control"
 --   unready k c             ==  36: "ranged control not loaded"
 --   valueIn d               ==  the number that the data of a Set is
+--   settledBetween a b x    ==  x is stored as it is from a to b, and else no setting
 --   settledOf k c x         ==  38: "Set of a yes/no to other than 0, 1, or of a Selector outside its pins"; what is stored else
+--   withCur x c             ==  the control c with x for its CUR; setTo t p x: it is stored, or 38
 --   setAt t p n d           ==  a Set of the control at place p, with wLength n: 36, 37, 38
 --   getAt t p part n room   ==  a Get of it: 35; 36; 37: "wLength is not the control's
 --                               size"; 39: "reply buffer too short"
+--   setBy, getBy            ==  the same by what the control holds; setFrom, getFrom: by the place or the number of an address
+--   setOf, getOf            ==  a Set and a Get of what a target names; answerAsked: of whatever a setup asks
 --   requestOf t n s d room  ==  the whole request; room is the reply's length
 use Prim.Native.Nat.{ℕ, _+_, _*_}
 use mathlib.Core.List.{List}
@@ -25,10 +33,10 @@ use Rattle.table.specs.declared.Control.{Control}
 use Rattle.table.specs.declared.Table.{Table}
 use Rattle.table.specs.declared.Sense.{Sense}
 use Rattle.table.specs.declared.Sense.the-variants.{Unknown, YesNo, Ranged, Pin}
-use Rattle.table.specs.declared.Found.{Found}
-use Rattle.table.specs.declared.Found.the-variants as found
+use Rattle.table.specs.declared.Lookup.{Lookup}
+use Rattle.table.specs.declared.Lookup.the-variants as lookup
 use Rattle.table.specs.Controls.{at, senseOf, sizeOf, rangeOf}
-use Rattle.table.specs.First.{foundIn, unitIn}
+use Rattle.table.specs.First.{lookedUp, lookupNumber}
 use Rattle.table.specs.Sound.{soundOf}
 use Rattle.request.specs.declared.Target.{Target}
 use Rattle.request.specs.declared.Part.{Part}
@@ -62,15 +70,14 @@ askedBy g a b =
 unfoldable pub askedOf : List ℕ → Asked
 askedOf s = pick (eqb (length s) 8) (askedBy (targetOf s) (byte s 0) (byte s 1)) asks.Unknown
 
-unfoldable pub placeOf : Found → Addressed
-placeOf found.Nothing = Refused 34
-placeOf (found.At p) = At p
+unfoldable pub placeOf : Lookup → Addressed
+placeOf lookup.NoUnit = Refused (lookupNumber lookup.NoUnit)
+placeOf lookup.NoControl = Refused (lookupNumber lookup.NoControl)
+placeOf (lookup.At p) = At p
 
 unfoldable pub addressedIn : Table → ℕ → Target → Addressed
 addressedIn t n g =
-    pick (eqb (g .interface) n)
-    (pick (unitIn t (g .unit)) (placeOf (foundIn t (g .unit) (g .channel) (g .selector))) (Refused 33))
-    (Refused 32)
+    pick (eqb (g .interface) n) (placeOf (lookedUp t (g .unit) (g .channel) (g .selector))) (Refused 32)
 
 abbrev pub isRanged : Sense → Bool
 isRanged Unknown = false

@@ -2,21 +2,26 @@
 -- addressed control: CUR is the closest setting to the last accepted Set or load of that control, or its first value where
 -- there was none; MIN, MAX and RES are those of its last accepted load; a yes/no and a pin are what the last accepted Set made
 -- them.
+--   Settles s range x v    ==  of a ranged control of sort s with that range, which is legal, v is stored where x, not too wide, is wanted
+--                              (Stored, of crate setting, says so over the integers); settles-one: no other number is
 --   CurMeans k range x v   ==  v is what CUR must be where the control holds k, has that range and x was asked last: of a ranged
---                              control the closest setting (Stored, of crate setting, says so over the integers), of another x
+--                              control the closest setting (Settles), of another x
 --   Means k part c rs ns v ==  v is what a Get of that part must give, where c is the control at the start, rs are the ranges of
 --                              its accepted loads since and ns the numbers of its accepted loads and Sets since
 --   Answers t run s bytes  ==  the setup s is a Get, the control that it addresses stands in the table t, and the bytes are, low
 --                              first, the number that Means asks
+--   run-found              ==  every control is found where it was
 --   get-answers            ==  every Get that is answered after a run is answered so
-use Prim.Native.Nat.{ℕ}
+use Prim.Native.Nat.{ℕ, _<_}
 use mathlib.Core.Path.{_≡_, refl, sym, ap, _∙_}
 use mathlib.Core.List.{List, [], _∷_}
-use mathlib.Core.Bool.{true, false}
+use mathlib.Core.Bool.{false}
 use borrow.Author.Tests.{not-false}
-use Rattle.setting.specs.Setting.{fitsOf, closestTo}
-use Rattle.setting.specs.Meaning.{value, Stored}
-use Rattle.setting.specs.Closest.{closest-self, closest-means}
+use Rattle.ground.specs.Pick.{shows}
+use Rattle.setting.specs.Setting.{spanOf}
+use Rattle.setting.specs.Meaning.{value, Legal, Stored}
+use Rattle.setting.specs.Legal.{fits-reads, legal-means}
+use Rattle.setting.specs.Closest.{closest-self, closest-means, closest-only}
 use Rattle.setting.specs.declared.Sort.{Sort}
 use Rattle.setting.specs.declared.Range.{Range}
 use Rattle.table.specs.declared.Control.{Control}
@@ -25,7 +30,7 @@ use Rattle.table.specs.declared.Sense.{Sense}
 use Rattle.table.specs.declared.Sense.the-variants.{Unknown, YesNo, Ranged, Pin}
 use Rattle.table.specs.declared.Found.the-variants as found
 use Rattle.table.specs.Controls.{at, senseOf, sizeOf, rangeOf}
-use Rattle.table.specs.Meaning.{SoundAs, Sound}
+use Rattle.table.specs.Meaning.{SoundAs, Sound, loaded-legal, loaded-fits, loaded-setting}
 use Rattle.table.specs.Placed.{kept-found}
 use Rattle.request.specs.declared.Part.{Part}
 use Rattle.request.specs.declared.Part.the-variants.{Cur, Min, Max, Res}
@@ -41,9 +46,17 @@ use Rattle.runs.proofs.Moved.{Moved, whole-run, sense-at}
 use Rattle.runs.proofs.Alone.{alone}
 
 pub record Settles (s : Sort) (range : Range) (x v : ℕ) : Type 0 where
-  pub fits : fitsOf s v ≡ true
-  pub is : v ≡ closestTo s range x
+  pub legal : Legal s range
+  pub asked : x < spanOf s
+  pub fits : v < spanOf s
   pub means : Stored s range (value s x) (value s v)
+
+-- so there is one such number
+pub settles-one : (s : Sort) (range : Range) (x v w : ℕ) → Settles s range x v → Settles s range x w → v ≡ w
+settles-one s range x v w a b =
+    let l = shows (legal-means s range) (a .legal) in
+    let f = shows (fits-reads s x) (a .asked) in
+    closest-only s range l x f v (a .fits) (a .means) ∙ sym (closest-only s range l x f w (b .fits) (b .means))
 
 abbrev pub CurMeans : Sense → Range → ℕ → ℕ → Type 0
 CurMeans Unknown range x v = v ≡ x
@@ -80,7 +93,7 @@ run-found t (st ∷ run) k =
 stands-first : (k : Sense) (c : Control) → SoundAs k c → StandsFor k c (c .cur)
 stands-first Unknown c h = refl
 stands-first YesNo c h = refl
-stands-first (Ranged s) c h = λ l. let a = h .loaded l in record { fits = a .fits; closest = sym (closest-self s (rangeOf c) (c .cur) (a .setting)) }
+stands-first (Ranged s) c h = λ l. let a = h .loaded l in record { fits = loaded-fits s c a; closest = sym (closest-self s (rangeOf c) (c .cur) (loaded-setting s c a)) }
 stands-first Pin c h = refl
 
 -- what stands for a number means that number
@@ -92,9 +105,10 @@ stands-means (Ranged s) c x h r e =
     let l = not-false (c .loaded) r in
     let a = e l in
     record {
+      legal = h .loaded l .legal;
+      asked = fits-reads s x .says (a .fits);
       fits = h .loaded l .fits;
-      is = a .closest;
-      means = rw (a .closest) (closest-means s (rangeOf c) (h .loaded l .legal) x (a .fits));
+      means = rw (a .closest) (closest-means s (rangeOf c) (loaded-legal s c (h .loaded l)) x (a .fits));
     }
 stands-means Pin c x h r e = e
 

@@ -2,6 +2,8 @@
 --   load-same, set-same    ==  the control that is stored is the same control
 --   load-sound, set-sound  ==  30 has nothing against it
 --   place-below, place-inside  ==  a control that is found stands below the count, and in the array
+--   place-answers          ==  and is the one that was sought
+--   between-only           ==  what a Set of a yes/no or a pin stores is what was asked, within its bounds
 --   sent-fits              ==  the data of a Set are not too wide for the control
 use Prim.Native.Nat.{ℕ, _+_, _*_, _≤_, _<_, min}
 use mathlib.Core.Path.{_≡_, refl}
@@ -26,7 +28,7 @@ use Rattle.table.specs.declared.Found.the-variants as found
 use Rattle.table.specs.Controls.{at, senseOf, sizeOf, rangeOf, answersTo}
 use Rattle.table.specs.First.{places, foundIn}
 use Rattle.table.specs.FirstLaws.{first-at}
-use Rattle.table.specs.Meaning.{Same, SoundAs, SoundRanged, SoundLoaded, Sound, sound-counted}
+use Rattle.table.specs.Meaning.{Same, SoundAs, SoundRanged, SoundLoaded, Sound, loaded-legal, loaded-tested, sound-counted}
 use Rattle.request.specs.declared.Settled.the-variants.{NoSetting, To}
 use Rattle.request.specs.Load.{loadedWith}
 use Rattle.request.specs.Request.{unready, valueIn, settledBetween, settledOf, withCur}
@@ -74,11 +76,7 @@ sent-fits Delay d h l = shows (fits-reads Delay (valueIn d)) (two-bytes d h l)
 -- a loaded control is a setting's again, whatever is wanted of it
 settled-loaded : (s : Sort) (c : Control) (range : Range) (w : ℕ) → rangeOf c ≡ range → c .cur ≡ closestTo s range w → legalOf s range ≡ true
     → fitsOf s w ≡ true → SoundLoaded s c
-settled-loaded s c range w e f l h = record {
-  legal = rw e l;
-  fits = rw f (closest-fits s range w h);
-  setting = rw (e, f) (closest-available s range l w h);
-}
+settled-loaded s c range w e f l h = loaded-tested s c (rw e l) (rw f (closest-fits s range w h)) (rw (e, f) (closest-available s range l w h))
 
 pub load-sound : (s : Sort) (range : Range) (w : ℕ) (c : Control) → senseOf (c .selector) ≡ Ranged s → SoundAs (senseOf (c .selector)) c
     → legalOf s range ≡ true → fitsOf s w ≡ true → SoundAs (senseOf (loadedWith s range w c .selector)) (loadedWith s range w c)
@@ -109,7 +107,7 @@ set-by-sound YesNo c d x h r b l e =
     }
 set-by-sound (Ranged s) c d x h r b l e =
     let f : x ≡ closestTo s (rangeOf c) (valueIn d) = cc in
-    record { channel = h .channel; loaded = λ z. settled-loaded s (withCur x c) (rangeOf c) (valueIn d) refl f (h .loaded z .legal) (sent-fits s d b l) }
+    record { channel = h .channel; loaded = λ z. settled-loaded s (withCur x c) (rangeOf c) (valueIn d) refl f (loaded-legal s c (h .loaded z)) (sent-fits s d b l) }
 set-by-sound Pin c d x h r b l e =
     let q = between-only 1 (c .pins) (valueIn d) x e in
     let n = h .narrow in

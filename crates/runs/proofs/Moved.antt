@@ -3,6 +3,8 @@
 --                            this order: it stands where it stood, with as many pins; it is loaded if it was or was given a
 --                            range; its range is the last of rs; its CUR is what is stored where the last of ns is wanted;
 --                            it is as it was where ns is empty; and 30 has nothing against the table
+--   still, moved-then    ==  nothing told moves nothing; one such move and then another
+--   sense-at             ==  the control that is found holds what its key's selector says
 --   one-step             ==  so does every step, with what it tells k if it is accepted
 --   whole-run            ==  and every run
 use Prim.Native.Nat.{ℕ}

@@ -1,4 +1,7 @@
 -- What a refusal leaves, which numbers there are, and what an answer depends on.
+--   Keeps t b o      ==  the outcome o leaves the table t and the reply b as they stood
+--   Numbered P o     ==  if o is a refusal, its number has P; Turned a: so it is for an address that is refused
+--   Agree b a c e    ==  two replies, as they were and as they are, agree in what was written
 --   refused-keeps    ==  "All leave table and reply as they stood": a step whose number is not 0 changes neither
 --   LoadNumber, RequestNumber  ==  the numbers that the paper has for a load and for a request
 --   load-numbers, request-numbers, accepted-is-0  ==  every step gets 0 or a number of the paper, and 0 exactly where it is accepted: never both
@@ -22,7 +25,9 @@ use Rattle.table.specs.declared.Sense.the-variants.{Unknown, YesNo, Ranged, Pin
 use Rattle.table.specs.declared.Found.{Found}
 use Rattle.table.specs.declared.Found.the-variants as found
 use Rattle.table.specs.Controls.{at, senseOf, sizeOf}
-use Rattle.table.specs.First.{foundIn, unitIn}
+use Rattle.table.specs.declared.Lookup.{Lookup}
+use Rattle.table.specs.declared.Lookup.the-variants as lookup
+use Rattle.table.specs.First.{foundIn, lookedUp}
 use Rattle.table.specs.Sound.{soundOf}
 use Rattle.request.specs.declared.Answer.{Answer}
 use Rattle.request.specs.declared.Target.{Target}
@@ -131,10 +136,11 @@ turned : (n : ℕ) → 30 ≤ n → n ≤ 39 → Turned (Refused n)
 unfolding Turned
 turned n h k m e = let i : n ≡ m = cc in record { from = omega arith; to = omega arith }
 
-place-turned : (f : Found) → Turned (placeOf f)
+place-turned : (l : Lookup) → Turned (placeOf l)
 unfolding placeOf Turned
-place-turned found.Nothing = turned 34 (omega arith) (omega arith)
-place-turned (found.At p) = λ n e. absurd (let z : _≡_ {A = ℕ} 0 1 = cc in omega arith)
+place-turned lookup.NoUnit = turned 33 (omega arith) (omega arith)
+place-turned lookup.NoControl = turned 34 (omega arith) (omega arith)
+place-turned (lookup.At p) = λ n e. absurd (let z : _≡_ {A = ℕ} 0 1 = cc in omega arith)
 
 either-turned : (b : Bool) (x y : Addressed) → Turned x → Turned y → Turned (pick b x y)
 either-turned true x y p q = p
@@ -143,9 +149,7 @@ either-turned false x y p q = q
 address-turned : (t : Table) (n : ℕ) (g : Target) → Turned (addressedIn t n g)
 unfolding addressedIn
 address-turned t n g =
-    either-turned (eqb (g .interface) n) _ _
-    (either-turned (unitIn t (g .unit)) _ _ (place-turned (foundIn t (g .unit) (g .channel) (g .selector))) (turned 33 (omega arith) (omega arith)))
-    (turned 32 (omega arith) (omega arith))
+    either-turned (eqb (g .interface) n) _ _ (place-turned (lookedUp t (g .unit) (g .channel) (g .selector))) (turned 32 (omega arith) (omega arith))
 
 set-from-numbers : (t : Table) (a : Addressed) → Turned a → (n : ℕ) (d : List ℕ) → Numbered RequestNumber (setFrom t a n d)
 unfolding setFrom Turned

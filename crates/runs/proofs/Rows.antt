@@ -1,179 +1,280 @@
 -- Each refusal exactly where the paper gives it: the number of a load or a request is that of the first row of the paper's table
--- that applies, and 0 where none does.
-use Prim.Native.Nat.{ℕ, _≤_}
+-- that is given, and 0 where none is; and no other number is.
+--   named-one                  ==  in a table that 30 does not turn away a control stands once
+--   request-rows, load-rows    ==  the number that is answered is the one that the rows say
+--   request-row-one, load-row-one ==  the rows say one number
+use Prim.Native.Nat.{ℕ, _≤_, _<_}
 use mathlib.Core.Path.{_≡_, refl, sym, ap, _∙_}
 use mathlib.Core.List.{List}
-use mathlib.Core.Bool.{Bool, true, false, not, _&&_, _||_, or-false}
-use mathlib.Core.Logic.{_⊎_, ⊎-elim}
+use mathlib.Core.Bool.{Bool, true, false, not, _&&_}
+use mathlib.Core.Logic.{_⊎_, inl, inr, ⊎-elim}
 use native.Mathlib.Omega.{arith}
-use lib.Dec.{eqb, leb, ltb, leb·zero}
+use lib.Dec.{eqb, leb, ltb}
 use lib.ListN.{length}
-use borrow.Author.Tests.{ne-eqb}
-use Rattle.ground.specs.Pick.{pick, yes, no, decided, refutes, reads-eq, reads-le, reads-and}
+use Rattle.ground.specs.Pick.{pick, true≠false, Reads, decided, reads-same, reads-true, reads-eq, reads-lt, reads-le, reads-and, reads-or, reads-not, reads-within}
 use Rattle.ground.specs.Numbers.{byte, word}
 use Rattle.setting.specs.Setting.{fitsOf, legalOf}
+use Rattle.setting.specs.Legal.{fits-reads, legal-means}
 use Rattle.setting.specs.declared.Range.{Range}
+use Rattle.setting.specs.declared.Sort.{Sort}
 use Rattle.table.specs.declared.Control.{Control}
 use Rattle.table.specs.declared.Table.{Table}
 use Rattle.table.specs.declared.Sense.{Sense}
 use Rattle.table.specs.declared.Sense.the-variants.{Unknown, YesNo, Ranged, Pin}
 use Rattle.table.specs.declared.Found.{Found}
 use Rattle.table.specs.declared.Found.the-variants as found
-use Rattle.table.specs.Controls.{at, senseOf, sizeOf}
-use Rattle.table.specs.First.{isSome, foundIn, unitIn}
+use Rattle.table.specs.Controls.{at, senseOf, sizeOf, answersTo}
+use Rattle.table.specs.First.{firstFrom, isSome, places, foundIn, unitIn, lookupBy, lookedUp}
+use Rattle.table.specs.FirstLaws.{first-at, first-none}
 use Rattle.table.specs.Sound.{soundOf}
-use Rattle.request.specs.declared.Target.{Target}
+use Rattle.table.specs.Meaning.{SoundAs, Sound, sound-reads}
 use Rattle.request.specs.declared.Part.{Part}
 use Rattle.request.specs.declared.Part.the-variants.{Cur, Min, Max, Res}
+use Rattle.request.specs.declared.Asked.{Asked}
 use Rattle.request.specs.declared.Asked.the-variants as asks
 use Rattle.request.specs.declared.Addressed.{Addressed}
 use Rattle.request.specs.declared.Addressed.the-variants.{Refused, At}
 use Rattle.request.specs.declared.Settled.the-variants.{NoSetting, To}
-use Rattle.request.specs.Outcome.{Outcome, numberOf, lowFirst}
-use Rattle.request.specs.Outcome.Outcome.{refused, got}
+use Rattle.request.specs.Outcome.{Outcome, numberOf}
+use Rattle.request.specs.Outcome.Outcome.{refused}
 use Rattle.request.specs.Load.{loadRange, loadBy, loadAt, loadOf}
-use Rattle.request.specs.Request.{targetOf, getAsked, askedBy, askedOf, placeOf, addressedIn, isRanged, ofRange, partOf, lacking, unready, valueIn, settledBetween, settledOf, setTo, setBy, setFrom, getBy, getFrom, answerAsked, requestOf}
-use Rattle.runs.specs.Rows.{firstRow, isSet, isGet, wellAsked, rangePart, named, takes, inRange, controlRows, placeRows, requestRows, loadRows}
+use Rattle.request.specs.Request.{targetOf, getAsked, askedBy, askedOf, placeOf, addressedIn, isRanged, ofRange, lacking, unready, valueIn, settledBetween, settledOf, setTo, setBy, setFrom, getBy, getFrom, answerAsked, requestOf}
+use Rattle.runs.specs.Rows.{Row, given, passed, NoRow, AsksSet, AsksGet, WellAsked, Owned, Named, RangedThere, Unready, Outside, InRange, lastRows, controlRows, unitRows, askedRows, requestRows, loadRows}
 
-number-pick : (b : Bool) (x y : Outcome) → numberOf (pick b x y) ≡ pick b (numberOf x) (numberOf y)
-number-pick true x y = refl
-number-pick false x y = refl
+-- a refusal that is given where a test holds, and one that is given where it does not
+module _ {rest : ℕ → Type 0} where
+  by-row : {When : Type 0} (k : ℕ) (b : Bool) (o : Outcome) → Reads b When → (b ≡ false → rest (numberOf o)) → Row k When rest (numberOf (pick b (refused k) o))
+  by-row k true o r h = given (r .says refl) refl
+  by-row k false o r h = passed (r .denies refl) (h refl)
 
--- what the setup's two first bytes ask
-data Reading (g : Target) (a b : ℕ) : Type 0 where
-  none : (eqb a 33 && eqb b 1) ≡ false → (eqb a 161 && (leb 129 b && leb b 132)) ≡ false → askedBy g a b ≡ asks.Unknown → Reading g a b
-  sets : (eqb a 33 && eqb b 1) ≡ true → (eqb a 161 && (leb 129 b && leb b 132)) ≡ false → askedBy g a b ≡ asks.Set g → Reading g a b
-  gets : (part : Part) → (eqb a 33 && eqb b 1) ≡ false → (eqb a 161 && (leb 129 b && leb b 132)) ≡ true → leb 130 b ≡ ofRange part
-      → askedBy g a b ≡ asks.Get part g → Reading g a b
+  by-kept : {P : Type 0} (k : ℕ) (b : Bool) (o : Outcome) → Reads b P → (b ≡ true → rest (numberOf o)) → Row k (P → ⊥) rest (numberOf (pick b o (refused k)))
+  by-kept k true o r h = passed (λ n. n (r .says refl)) (h refl)
+  by-kept k false o r h = given (r .denies refl) refl
 
-read-set : (g : Target) (b : ℕ) → Reading g 33 b
-unfolding askedBy
-read-set g b = go (eqb b 1) refl
+  row-one : {n : ℕ} {When : Type 0} → ((a b : ℕ) → rest a → rest b → a ≡ b) → (a b : ℕ) → Row n When rest a → Row n When rest b → a ≡ b
+  row-one h a b (given w e) (given v f) = e ∙ sym f
+  row-one h a b (given w e) (passed n r) = absurd (n w)
+  row-one h a b (passed n r) (given w e) = absurd (n w)
+  row-one h a b (passed n r) (passed m q) = h a b r q
+
+no-row-one : (a b : ℕ) → NoRow a → NoRow b → a ≡ b
+no-row-one a b e f = e ∙ sym f
+
+reads-false : (b : Bool) → Reads (not b) (b ≡ false)
+reads-false true = record { says = λ e. absurd (true≠false (sym e)); denies = λ e f. true≠false f }
+reads-false false = record { says = λ e. refl; denies = λ e. absurd (true≠false e) }
+
+-- what the setup asks
+data Asking (s : List ℕ) : Asked → Type 0 where
+  none : (WellAsked s → ⊥) → Asking s asks.Unknown
+  sets : length s ≡ 8 → AsksSet s → Asking s (asks.Set (targetOf s))
+  gets : (part : Part) → length s ≡ 8 → AsksGet s → Reads (ofRange part) (0x82 ≤ byte s 1) → Asking s (asks.Get part (targetOf s))
+
+set-no-get : (s : List ℕ) → AsksSet s → AsksGet s → ⊥
+set-no-get s a b = let e = a .0 in let f = b .0 in omega arith
+
+module _ (s : List ℕ) (long : length s ≡ 8) where
+  asked-get : byte s 0 ≡ 0xA1 → (part : Part) (b : ℕ) → byte s 1 ≡ b → leb 129 b ≡ true → leb b 132 ≡ true → leb 130 b ≡ ofRange part → Asking s (asks.Get part (targetOf s))
+  asked-get a part b e l m o =
+      gets part long (a, (rw e (reads-le 129 b .says l), rw e (reads-le b 132 .says m))) (rw (e, ← o) (reads-le 130 b))
+
+  asking-get : byte s 0 ≡ 0xA1 → Asking s (getAsked (byte s 1) (targetOf s))
+  unfolding getAsked
+  asking-get a = cur (eqb (byte s 1) 129) (reads-eq (byte s 1) 129)
+    where
+      other : (byte s 1 ≡ 129 → ⊥) → (byte s 1 ≡ 130 → ⊥) → (byte s 1 ≡ 131 → ⊥) → (byte s 1 ≡ 132 → ⊥) → Asking s asks.Unknown
+      other i j k m = none (λ w. ⊎-elim (λ (x : AsksSet s). let e = x .0 in omega arith) (λ (x : AsksGet s). let l = x .1 .0 in let u = x .1 .1 in omega arith) (w .1))
+
+      res : (x : Bool) → Reads x (byte s 1 ≡ 132) → (byte s 1 ≡ 129 → ⊥) → (byte s 1 ≡ 130 → ⊥) → (byte s 1 ≡ 131 → ⊥) → Asking s (pick x (asks.Get Res (targetOf s)) asks.Unknown)
+      res true r i j k = asked-get a Res 132 (r .says refl) refl refl refl
+      res false r i j k = other i j k (r .denies refl)
+
+      max : (x : Bool) → Reads x (byte s 1 ≡ 131) → (byte s 1 ≡ 129 → ⊥) → (byte s 1 ≡ 130 → ⊥) → Asking s (pick x (asks.Get Max (targetOf s)) (pick (eqb (byte s 1) 132) (asks.Get Res (targetOf s)) asks.Unknown))
+      max true r i j = asked-get a Max 131 (r .says refl) refl refl refl
+      max false r i j = res (eqb (byte s 1) 132) (reads-eq (byte s 1) 132) i j (r .denies refl)
+
+      min : (x : Bool) → Reads x (byte s 1 ≡ 130) → (byte s 1 ≡ 129 → ⊥) → Asking s (pick x (asks.Get Min (targetOf s)) (pick (eqb (byte s 1) 131) (asks.Get Max (targetOf s)) (pick (eqb (byte s 1) 132) (asks.Get Res (targetOf s)) asks.Unknown)))
+      min true r i = asked-get a Min 130 (r .says refl) refl refl refl
+      min false r i = max (eqb (byte s 1) 131) (reads-eq (byte s 1) 131) i (r .denies refl)
+
+      cur : (x : Bool) → Reads x (byte s 1 ≡ 129) → Asking s (pick x (asks.Get Cur (targetOf s)) (pick (eqb (byte s 1) 130) (asks.Get Min (targetOf s)) (pick (eqb (byte s 1) 131) (asks.Get Max (targetOf s)) (pick (eqb (byte s 1) 132) (asks.Get Res (targetOf s)) asks.Unknown))))
+      cur true r = asked-get a Cur 129 (r .says refl) refl refl refl
+      cur false r = min (eqb (byte s 1) 130) (reads-eq (byte s 1) 130) (r .denies refl)
+
+  asking-by : Asking s (askedBy (targetOf s) (byte s 0) (byte s 1))
+  unfolding askedBy
+  asking-by = go (eqb (byte s 0) 33) (reads-eq (byte s 0) 33)
+    where
+      set : byte s 0 ≡ 33 → (x : Bool) → Reads x (byte s 1 ≡ 1) → Asking s (pick x (asks.Set (targetOf s)) asks.Unknown)
+      set a true r = sets long (a, r .says refl)
+      set a false r = none (λ w. ⊎-elim (λ (x : AsksSet s). r .denies refl (x .1)) (λ (x : AsksGet s). let e = x .0 in omega arith) (w .1))
+
+      get : (byte s 0 ≡ 33 → ⊥) → (x : Bool) → Reads x (byte s 0 ≡ 161) → Asking s (pick x (getAsked (byte s 1) (targetOf s)) asks.Unknown)
+      get n true r = asking-get (r .says refl)
+      get n false r = none (λ w. ⊎-elim (λ (x : AsksSet s). n (x .0)) (λ (x : AsksGet s). r .denies refl (x .0)) (w .1))
+
+      go : (x : Bool) → Reads x (byte s 0 ≡ 33) → Asking s (pick x (pick (eqb (byte s 1) 1) (asks.Set (targetOf s)) asks.Unknown) (pick (eqb (byte s 0) 161) (getAsked (byte s 1) (targetOf s)) asks.Unknown))
+      go true r = set (r .says refl) (eqb (byte s 1) 1) (reads-eq (byte s 1) 1)
+      go false r = get (r .denies refl) (eqb (byte s 0) 161) (reads-eq (byte s 0) 161)
+
+asking : (s : List ℕ) → Asking s (askedOf s)
+unfolding askedOf
+asking s = go (eqb (length s) 8) (reads-eq (length s) 8)
   where
-    go : (x : Bool) → eqb b 1 ≡ x → Reading g 33 b
-    go true e = sets e refl (yes _ _ e)
-    go false e = none e refl (no _ _ e)
+    go : (x : Bool) → Reads x (length s ≡ 8) → Asking s (pick x (askedBy (targetOf s) (byte s 0) (byte s 1)) asks.Unknown)
+    go true r = asking-by s (r .says refl)
+    go false r = none (λ w. r .denies refl (w .0))
 
-none-between : (b : ℕ) → 129 ≤ b → b ≤ 132 → (b ≡ 129 → ⊥) → (b ≡ 130 → ⊥) → (b ≡ 131 → ⊥) → (b ≡ 132 → ⊥) → ⊥
-none-between b l m h i j k = omega arith
+-- what stands in a table that 30 does not turn away
+module _ (t : Table) (sound : Sound t) where
+  owned-reads : (u : ℕ) → Reads (unitIn t u) (Owned t u)
+  unfolding unitIn
+  owned-reads u = record { says = λ e. there (firstFrom owns (places t) 0) refl e; denies = λ e o. nowhere (firstFrom owns (places t) 0) refl e o }
+    where
+      owns : ℕ → Bool
+      owns q = eqb (at t q .unit) u
 
-no-get : (g : Target) (b : ℕ) → (b ≡ 129 → ⊥) → (b ≡ 130 → ⊥) → (b ≡ 131 → ⊥) → (b ≡ 132 → ⊥) → Reading g 161 b
-unfolding askedBy getAsked
-no-get g b h i j k =
-    none refl
-    (refutes (reads-and (leb 129 b) (leb b 132) (reads-le 129 b) (reads-le b 132)) (λ l. none-between b (l .0) (l .1) h i j k))
-    (no _ _ (ne-eqb _ _ h) ∙ no _ _ (ne-eqb _ _ i) ∙ no _ _ (ne-eqb _ _ j) ∙ no _ _ (ne-eqb _ _ k))
+      there : (f : Found) → firstFrom owns (places t) 0 ≡ f → isSome f ≡ true → Owned t u
+      there found.Nothing h e = absurd (true≠false (sym e))
+      there (found.At q) h e =
+          let a = first-at owns (places t) 0 q h in
+          let i = a .inside in
+          record { place = q; inside = omega arith; unit = reads-eq (at t q .unit) u .says (a .holds) }
 
-read-get : (g : Target) (b : ℕ) → Reading g 161 b
-unfolding askedBy getAsked
-read-get g b =
-    ⊎-elim (λ (e : b ≡ 129). rw e (gets Cur refl refl refl refl))
-    (λ (h : b ≡ 129 → ⊥).
-    ⊎-elim (λ (e : b ≡ 130). rw e (gets Min refl refl refl refl))
-    (λ (i : b ≡ 130 → ⊥).
-    ⊎-elim (λ (e : b ≡ 131). rw e (gets Max refl refl refl refl))
-    (λ (j : b ≡ 131 → ⊥).
-    ⊎-elim (λ (e : b ≡ 132). rw e (gets Res refl refl refl refl))
-    (λ (k : b ≡ 132 → ⊥). no-get g b h i j k)
-    (decided (eqb b 132) (reads-eq b 132)))
-    (decided (eqb b 131) (reads-eq b 131)))
-    (decided (eqb b 130) (reads-eq b 130)))
-    (decided (eqb b 129) (reads-eq b 129))
+      nowhere : (f : Found) → firstFrom owns (places t) 0 ≡ f → isSome f ≡ false → Owned t u → ⊥
+      nowhere (found.At q) h e o = true≠false e
+      nowhere found.Nothing h e o =
+          let few = sound .few in
+          let i = o .inside in
+          reads-eq (at t (o .place) .unit) u .denies (first-none owns (places t) 0 h (o .place) (omega arith) (omega arith)) (o .unit)
 
-reading : (g : Target) (a b : ℕ) → Reading g a b
-unfolding askedBy
-reading g a b =
-    ⊎-elim (λ (e : a ≡ 33). rw e (read-set g b))
-    (λ (h : a ≡ 33 → ⊥).
-    ⊎-elim (λ (e : a ≡ 161). rw e (read-get g b))
-    (λ (i : a ≡ 161 → ⊥).
-    none (simp (ne-eqb a 33 h)) (simp (ne-eqb a 161 i)) (no _ _ (ne-eqb a 33 h) ∙ no _ _ (ne-eqb a 161 i)))
-    (decided (eqb a 161) (reads-eq a 161)))
-    (decided (eqb a 33) (reads-eq a 33))
+  module _ (u ch s : ℕ) where
+    answers-reads : (c : Control) → Reads (answersTo u ch s c) ((c .unit ≡ u) × ((c .channel ≡ ch) × (c .selector ≡ s)))
+    unfolding answersTo
+    answers-reads c = reads-and _ _ (reads-eq (c .unit) u) (reads-and _ _ (reads-eq (c .channel) ch) (reads-eq (c .selector) s))
 
--- two choices on one test agree where their parts do
-same-choice : (b : Bool) {x y z w : ℕ} → x ≡ z → y ≡ w → pick b x y ≡ pick b z w
-same-choice true e f = e
-same-choice false e f = f
+    found-named : (p : ℕ) → foundIn t u ch s ≡ found.At p → Named t u ch s (at t p)
+    unfolding foundIn
+    found-named p e =
+        let a = first-at (λ q. answersTo u ch s (at t q)) (places t) 0 p e in
+        let i = a .inside in
+        let k = answers-reads (at t p) .says (a .holds) in
+        record { place = p; inside = omega arith; is = refl; unit = k .0; channel = k .1 .0; selector = k .1 .1 }
 
--- a row that applies where a test fails
-row-choice : (b : Bool) {x y z w : ℕ} → x ≡ w → y ≡ z → pick b x y ≡ pick (not b) z w
-row-choice true e f = e
-row-choice false e f = f
+    found-none : foundIn t u ch s ≡ found.Nothing → (c : Control) → Named t u ch s c → ⊥
+    unfolding foundIn
+    found-none e c m =
+        let few = sound .few in
+        let i = m .inside in
+        let n : answersTo u ch s (at t (m .place)) ≡ false = first-none (λ q. answersTo u ch s (at t q)) (places t) 0 e (m .place) (omega arith) (omega arith) in
+        answers-reads c .denies (rw (m .is) at n) (m .unit, (m .channel, m .selector))
 
-settled-number : (t : Table) (p x : ℕ) (b : Bool) → numberOf (setTo t p (pick b (To x) NoSetting)) ≡ pick (not b) 38 0
-unfolding setTo
-settled-number t p x true = refl
-settled-number t p x false = refl
+    -- a control stands at one place
+    pub named-one : (a b : Control) → Named t u ch s a → Named t u ch s b → a ≡ b
+    named-one a b m n = go (decided (eqb (m .place) (n .place)) (reads-eq _ _)) (decided (ltb (m .place) (n .place)) (reads-lt _ _))
+      where
+        apart : (c d : Control) (k : Named t u ch s c) (l : Named t u ch s d) → k .place < l .place → ⊥
+        apart c d k l h =
+            sound .once (k .place) (l .place) h (l .inside)
+            (rw (k .is, l .is) (record { unit = k .unit ∙ sym (l .unit); channel = k .channel ∙ sym (l .channel); selector = k .selector ∙ sym (l .selector) }))
 
-set-to-number : (t : Table) (p : ℕ) (k : Sense) (c : Control) (x : ℕ) → numberOf (setTo t p (settledOf k c x)) ≡ pick (not (takes k c x)) 38 0
-unfolding setTo settledOf settledBetween
-set-to-number t p Unknown c x = refl
-set-to-number t p YesNo c x =
-    settled-number t p x (leb 0 x && leb x 1) ∙ ap (λ (b : Bool). pick (not (b && leb x 1)) 38 0) (leb·zero x)
-set-to-number t p (Ranged s) c x = refl
-set-to-number t p Pin c x = settled-number t p x (leb 1 x && leb x (c .pins))
+        go : (m .place ≡ n .place) ⊎ (m .place ≡ n .place → ⊥) → (m .place < n .place) ⊎ (m .place < n .place → ⊥) → a ≡ b
+        go (inl e) h = sym (m .is) ∙ ap (at t) e ∙ n .is
+        go (inr e) (inl h) = absurd (apart a b m n h)
+        go (inr e) (inr h) = absurd (apart b a n m (let l : n .place < m .place = omega arith in l))
 
-set-rows : (t : Table) (p : ℕ) (k : Sense) (w : ℕ) (d : List ℕ) (room : ℕ) (part : Bool)
-    → numberOf (setBy t p k w d) ≡ firstRow (controlRows true false part k (at t p) w d room)
-unfolding setBy unready
-set-rows t p k w d room part =
-    number-pick (isRanged k && not (at t p .loaded)) (refused 36) _
-    ∙ same-choice (isRanged k && not (at t p .loaded)) refl
-    (number-pick (not (eqb w (sizeOf k)) || not (eqb (length d) (sizeOf k))) (refused 37) _
-    ∙ same-choice (not (eqb w (sizeOf k)) || not (eqb (length d) (sizeOf k))) refl (set-to-number t p k (at t p) (valueIn d)))
+-- rows 35 to 39, of the control at place p
+module _ (t : Table) (sound : Sound t) (s d : List ℕ) (room : ℕ) (p : ℕ) (m : Named t (byte s 5) (byte s 2) (byte s 3) (at t p)) where
+  abbrev held : Sense
+  held = senseOf (byte s 3)
 
-get-rows : (t : Table) (p : ℕ) (k : Sense) (part : Part) (w : ℕ) (d : List ℕ) (room : ℕ)
-    → numberOf (getBy t p k part w room) ≡ firstRow (controlRows false true (ofRange part) k (at t p) w d room)
-unfolding getBy unready lacking
-get-rows t p k part w d room =
-    number-pick (ofRange part && not (isRanged k)) (refused 35) _
-    ∙ same-choice (ofRange part && not (isRanged k)) refl
-    (number-pick (isRanged k && not (at t p .loaded)) (refused 36) _
-    ∙ same-choice (isRanged k && not (at t p .loaded)) refl
-    (number-pick (not (eqb w (sizeOf k))) (refused 37) _
-    ∙ ap (λ (b : Bool). pick b 37 (numberOf (pick (ltb room (sizeOf k)) (refused 39) (got (lowFirst (sizeOf k) (partOf part (at t p))))))) (sym (or-false (not (eqb w (sizeOf k)))))
-    ∙ same-choice (not (eqb w (sizeOf k)) || false) refl (number-pick (ltb room (sizeOf k)) (refused 39) _)))
+  the-one : (c : Control) → Named t (byte s 5) (byte s 2) (byte s 3) c → c ≡ at t p
+  the-one c n = named-one t sound (byte s 5) (byte s 2) (byte s 3) c (at t p) n m
 
--- rows 32 to 39, for a request whose rows 34 to 39 are those of its place
-address-rows : (t : Table) (n : ℕ) (g : Target) (answer : Addressed → Outcome) (rows : Found → ℕ) → ((m : ℕ) → numberOf (answer (Refused m)) ≡ m)
-    → ((f : Found) → numberOf (answer (placeOf f)) ≡ rows f)
-    → numberOf (answer (addressedIn t n g))
-    ≡ pick (not (eqb (g .interface) n)) 32 (pick (not (unitIn t (g .unit))) 33 (rows (foundIn t (g .unit) (g .channel) (g .selector))))
-unfolding addressedIn
-address-rows t n g answer rows h k = go (eqb (g .interface) n)
-  where
-    unit : (b : Bool)
-        → numberOf (answer (pick b (placeOf (foundIn t (g .unit) (g .channel) (g .selector))) (Refused 33)))
-        ≡ pick (not b) 33 (rows (foundIn t (g .unit) (g .channel) (g .selector)))
-    unit true = k (foundIn t (g .unit) (g .channel) (g .selector))
-    unit false = h 33
+  unready-reads : Reads (unready held (at t p)) (Unready t (byte s 5) (byte s 2) (byte s 3))
+  unfolding unready
+  unready-reads =
+      reads-same (reads-and _ _ (reads-true (isRanged held)) (reads-false (at t p .loaded)))
+      (λ h. record { control = at t p; named = m; of-range = h .0; unloaded = h .1 })
+      (λ h. (h .of-range, ap (λ (c : Control). c .loaded) (sym (the-one (h .control) (h .named))) ∙ h .unloaded))
 
-    go : (b : Bool)
-        → numberOf (answer (pick b (pick (unitIn t (g .unit)) (placeOf (foundIn t (g .unit) (g .channel) (g .selector))) (Refused 33)) (Refused 32)))
-        ≡ pick (not b) 32 (pick (not (unitIn t (g .unit))) 33 (rows (foundIn t (g .unit) (g .channel) (g .selector))))
-    go true = unit (unitIn t (g .unit))
-    go false = h 32
+  module _ (a : AsksSet s) where
+    no-get : {Q : Type 0} → AsksGet s × Q → ⊥
+    no-get h = set-no-get s a (h .0)
 
-set-place-rows : (t : Table) (w : ℕ) (d : List ℕ) (room : ℕ) (part : Bool) (f : Found)
-    → numberOf (setFrom t (placeOf f) w d) ≡ firstRow (placeRows true false part t f w d room)
-unfolding setFrom placeOf
-set-place-rows t w d room part found.Nothing = refl
-set-place-rows t w d room part (found.At p) = set-rows t p (senseOf (at t p .selector)) w d room part
+    -- where the number is one that the control takes, and where it is not
+    settled-row : (b : Bool) → (b ≡ true → Outside held (at t p) (valueIn d) → ⊥) → (b ≡ false → Outside held (at t p) (valueIn d)) → lastRows t s d room (numberOf (setTo t p (pick b (To (valueIn d)) NoSetting)))
+    unfolding setTo
+    settled-row true h k = passed (λ x. h refl (rw (← (the-one (x .1 .control) (x .1 .named))) (x .1 .outside))) (passed no-get refl)
+    settled-row false h k = given (a, record { control = at t p; named = m; outside = k refl }) refl
 
-get-place-rows : (t : Table) (part : Part) (w : ℕ) (d : List ℕ) (room : ℕ) (f : Found)
-    → numberOf (getFrom t (placeOf f) part w room) ≡ firstRow (placeRows false true (ofRange part) t f w d room)
-unfolding getFrom placeOf
-get-place-rows t part w d room found.Nothing = refl
-get-place-rows t part w d room (found.At p) = get-rows t p (senseOf (at t p .selector)) part w d room
+    settled-rows : (k : Sense) → held ≡ k → lastRows t s d room (numberOf (setTo t p (settledOf k (at t p) (valueIn d))))
+    unfolding setTo settledOf settledBetween
+    settled-rows Unknown e =
+        let z : SoundAs held (at t p) = rw (← (m .selector)) (rw (m .is) at (sound .each (m .place) (m .inside))) in
+        absurd (rw e at z)
+    settled-rows YesNo e =
+        settled-row (leb 0 (valueIn d) && leb (valueIn d) 1)
+        (λ h o. let l = reads-within 0 (valueIn d) 1 .says h in let q : 1 < valueIn d = rw e at o in omega arith)
+        (λ h. rw e (let n = reads-within 0 (valueIn d) 1 .denies h in more n))
+      where
+        more : ((0 ≤ valueIn d) × (valueIn d ≤ 1) → ⊥) → 1 < valueIn d
+        more n = ⊎-elim (λ (l : 1 < valueIn d). l) (λ (l : 1 < valueIn d → ⊥). absurd (n (omega arith, omega arith))) (decided (ltb 1 (valueIn d)) (reads-lt _ _))
+    settled-rows (Ranged k) e = passed (λ x. let o : Outside (Ranged k) (x .1 .control) (valueIn d) = rw e at (x .1 .outside) in o) (passed no-get refl)
+    settled-rows Pin e =
+        settled-row (leb 1 (valueIn d) && leb (valueIn d) (at t p .pins))
+        (λ h o. let l = reads-within 1 (valueIn d) (at t p .pins) .says h in ⊎-elim (λ (q : valueIn d < 1). omega arith) (λ (q : at t p .pins < valueIn d). omega arith) (rw e at o))
+        (λ h. rw e (let n = reads-within 1 (valueIn d) (at t p .pins) .denies h in out n))
+      where
+        out : ((1 ≤ valueIn d) × (valueIn d ≤ at t p .pins) → ⊥) → (valueIn d < 1) ⊎ (at t p .pins < valueIn d)
+        out n =
+            ⊎-elim (λ (l : valueIn d < 1). inl l)
+            (λ (l : valueIn d < 1 → ⊥). ⊎-elim (λ (q : at t p .pins < valueIn d). inr q) (λ (q : at t p .pins < valueIn d → ⊥). absurd (n (omega arith, omega arith))) (decided (ltb (at t p .pins) (valueIn d)) (reads-lt _ _)))
+            (decided (ltb (valueIn d) 1) (reads-lt _ _))
 
--- rows 31 to 39, with what the setup's first two bytes say
-abbrev askedRows : Bool → Bool → Bool → Table → ℕ → Target → List ℕ → ℕ → ℕ
-askedRows set get part t n g d room =
-    pick (not (set || get)) 31
-    (pick (not (eqb (g .interface) n)) 32
-    (pick (not (unitIn t (g .unit))) 33
-    (firstRow (placeRows set get part t (foundIn t (g .unit) (g .channel) (g .selector)) (g .length) d room))))
+    set-rows : controlRows t s d room (numberOf (setBy t p held (word s 6) d))
+    unfolding setBy
+    set-rows =
+        passed no-get
+        (by-row 36 (unready held (at t p)) _ unready-reads (λ _.
+        by-row 37 _ _
+        (reads-same (reads-or _ _ (reads-not _ (reads-eq (word s 6) (sizeOf held))) (reads-not _ (reads-eq (length d) (sizeOf held))))
+        (⊎-elim inl (λ n. inr (a, n)))
+        (⊎-elim inl (λ n. inr (n .1))))
+        (λ _. settled-rows held refl)))
+
+  module _ (a : AsksGet s) (part : Part) (r : Reads (ofRange part) (0x82 ≤ byte s 1)) where
+    no-set : {Q : Type 0} → AsksSet s × Q → ⊥
+    no-set h = set-no-get s (h .0) a
+
+    get-rows : controlRows t s d room (numberOf (getBy t p held part (word s 6) room))
+    unfolding getBy lacking
+    get-rows =
+        by-row 35 _ _
+        (reads-same (reads-and _ _ r (reads-not _ (reads-true (isRanged held)))) (λ h. (a, h)) (λ h. h .1))
+        (λ _.
+        by-row 36 (unready held (at t p)) _ unready-reads (λ _.
+        by-row 37 _ _
+        (reads-same (reads-not _ (reads-eq (word s 6) (sizeOf held))) inl (⊎-elim (λ n. n) (λ n. absurd (no-set n))))
+        (λ _. passed no-set (by-row 39 _ _ (reads-same (reads-lt room (sizeOf held)) (λ l. (a, l)) (λ h. h .1)) (λ _. refl)))))
+
+-- rows 32 to 34, for what is answered to a place
+module _ (t : Table) (sound : Sound t) (n : ℕ) (s : List ℕ) (answer : Addressed → Outcome) (turned : (k : ℕ) → numberOf (answer (Refused k)) ≡ k) (rows : ℕ → Type 0) (answered : (p : ℕ) → Named t (byte s 5) (byte s 2) (byte s 3) (at t p) → rows (numberOf (answer (At p)))) where
+  lookup-rows : (f : Found) → foundIn t (byte s 5) (byte s 2) (byte s 3) ≡ f → (b : Bool) → unitIn t (byte s 5) ≡ b → unitRows t s rows (numberOf (answer (placeOf (lookupBy f b))))
+  unfolding placeOf
+  lookup-rows (found.At p) e b h =
+      let m = found-named t sound (byte s 5) (byte s 2) (byte s 3) p e in
+      passed (λ k. k (record { place = m .place; inside = m .inside; unit = ap (λ (c : Control). c .unit) (m .is) ∙ m .unit })) (passed (λ k. k (at t p) m) (answered p m))
+  lookup-rows found.Nothing e true h = passed (λ k. k (owned-reads t sound (byte s 5) .says h)) (given (found-none t sound (byte s 5) (byte s 2) (byte s 3) e) (turned 34))
+  lookup-rows found.Nothing e false h = given (owned-reads t sound (byte s 5) .denies h) (turned 33)
+
+  address-rows : Row 32 (byte s 4 ≡ n → ⊥) (unitRows t s rows) (numberOf (answer (addressedIn t n (targetOf s))))
+  unfolding addressedIn lookedUp
+  address-rows = go (eqb (byte s 4) n) (reads-eq (byte s 4) n)
+    where
+      go : (b : Bool) → Reads b (byte s 4 ≡ n) → Row 32 (byte s 4 ≡ n → ⊥) (unitRows t s rows) (numberOf (answer (pick b (placeOf (lookupBy (foundIn t (byte s 5) (byte s 2) (byte s 3)) (unitIn t (byte s 5)))) (Refused 32))))
+      go true r = passed (λ k. k (r .says refl)) (lookup-rows (foundIn t (byte s 5) (byte s 2) (byte s 3)) refl (unitIn t (byte s 5)) refl)
+      go false r = given (r .denies refl) (turned 32)
 
 set-from-refused : (t : Table) (w : ℕ) (d : List ℕ) (m : ℕ) → numberOf (setFrom t (Refused m) w d) ≡ m
 unfolding setFrom
@@ -183,61 +284,58 @@ get-from-refused : (t : Table) (part : Part) (w room m : ℕ) → numberOf (getF
 unfolding getFrom
 get-from-refused t part w room m = refl
 
-asked-rows : (t : Table) (n : ℕ) (g : Target) (a b : ℕ) (d : List ℕ) (room : ℕ) → Reading g a b
-    → numberOf (answerAsked t n (askedBy g a b) d room)
-    ≡ askedRows (eqb a 33 && eqb b 1) (eqb a 161 && (leb 129 b && leb b 132)) (leb 130 b) t n g d room
-unfolding answerAsked
-asked-rows t n g a b d room (none e f h) = rw (h, e, f)
-asked-rows t n g a b d room (sets e f h) =
-    rw (h, e, f)
-    (address-rows t n g (λ x. setFrom t x (g .length) d) (λ x. firstRow (placeRows true false (leb 130 b) t x (g .length) d room))
-    (set-from-refused t (g .length) d)
-    (set-place-rows t (g .length) d room (leb 130 b)))
-asked-rows t n g a b d room (gets part e f i h) =
-    rw (h, e, f, i)
-    (address-rows t n g (λ x. getFrom t x part (g .length) room) (λ x. firstRow (placeRows false true (ofRange part) t x (g .length) d room))
-    (get-from-refused t part (g .length) room)
-    (get-place-rows t part (g .length) d room))
+module _ (t : Table) (sound : Sound t) (n : ℕ) (s d : List ℕ) (room : ℕ) where
+  asked-rows : (k : Asked) → Asking s k → askedRows t n s d room (numberOf (answerAsked t n k d room))
+  unfolding answerAsked setFrom getFrom
+  asked-rows _ (none w) = given w refl
+  asked-rows _ (sets l a) =
+      passed (λ k. k (l, inl a))
+      (address-rows t sound n s (λ x. setFrom t x (word s 6) d) (set-from-refused t (word s 6) d) _
+      (λ p m. rw (m .selector) (set-rows t sound s d room p m a)))
+  asked-rows _ (gets part l a r) =
+      passed (λ k. k (l, inr a))
+      (address-rows t sound n s (λ x. getFrom t x part (word s 6) room) (get-from-refused t part (word s 6) room) _
+      (λ p m. rw (m .selector) (get-rows t sound s d room p m a part r)))
 
-setup-rows : (t : Table) (n : ℕ) (s d : List ℕ) (room : ℕ)
-    → numberOf (answerAsked t n (askedOf s) d room)
-    ≡ pick (not (wellAsked s)) 31
-    (pick (not (eqb (byte s 4) n)) 32
-    (pick (not (unitIn t (byte s 5))) 33
-    (firstRow (placeRows (isSet s) (isGet s) (rangePart s) t (named t s) (word s 6) d room))))
-unfolding askedOf answerAsked
-setup-rows t n s d room = go (eqb (length s) 8)
-  where
-    go : (b : Bool)
-        → numberOf (answerAsked t n (pick b (askedBy (targetOf s) (byte s 0) (byte s 1)) asks.Unknown) d room)
-        ≡ pick (not (b && (isSet s || isGet s))) 31
-        (pick (not (eqb (byte s 4) n)) 32
-        (pick (not (unitIn t (byte s 5))) 33
-        (firstRow (placeRows (isSet s) (isGet s) (rangePart s) t (named t s) (word s 6) d room))))
-    go true = asked-rows t n (targetOf s) (byte s 0) (byte s 1) d room (reading (targetOf s) (byte s 0) (byte s 1))
-    go false = refl
-
-pub request-rows : (t : Table) (n : ℕ) (s d : List ℕ) (room : ℕ) → numberOf (requestOf t n s d room) ≡ firstRow (requestRows t n s d room)
+pub request-rows : (t : Table) (n : ℕ) (s d : List ℕ) (room : ℕ) → requestRows t n s d room (numberOf (requestOf t n s d room))
 unfolding requestOf requestRows
-request-rows t n s d room =
-    number-pick (soundOf t) (answerAsked t n (askedOf s) d room) (refused 30) ∙ row-choice (soundOf t) (setup-rows t n s d room) refl
+request-rows t n s d room = by-kept 30 (soundOf t) _ (sound-reads t) (λ e. asked-rows t (sound-reads t .says e) n s d room (askedOf s) (asking s))
 
-load-by-rows : (t : Table) (p : ℕ) (k : Sense) (range : Range) (w : ℕ) → numberOf (loadBy t p k range w) ≡ pick (not (isRanged k)) 20 (pick (not (inRange k range w)) 21 0)
-unfolding loadBy loadRange
-load-by-rows t p Unknown range w = refl
-load-by-rows t p YesNo range w = refl
-load-by-rows t p Pin range w = refl
-load-by-rows t p (Ranged s) range w =
-    number-pick (legalOf s range && fitsOf s w) _ (refused 21) ∙ row-choice (legalOf s range && fitsOf s w) refl refl
+pub request-row-one : (t : Table) (n : ℕ) (s d : List ℕ) (room a b : ℕ) → requestRows t n s d room a → requestRows t n s d room b → a ≡ b
+unfolding requestRows
+request-row-one t n s d room = row-one (row-one (row-one (row-one (row-one (row-one (row-one (row-one (row-one (row-one no-row-one)))))))))
 
-load-at-rows : (t : Table) (k : Sense) (f : Found) (range : Range) (w : ℕ)
-    → numberOf (loadAt t k f range w) ≡ pick (not (isSome f && isRanged k)) 20 (pick (not (inRange k range w)) 21 0)
-unfolding loadAt
-load-at-rows t k found.Nothing range w = refl
-load-at-rows t k (found.At p) range w = load-by-rows t p k range w
+-- loads
+module _ (t : Table) (sound : Sound t) (u ch s : ℕ) (range : Range) (w : ℕ) where
+  abbrev rangeRows : ℕ → Type 0
+  rangeRows = Row 20 (RangedThere t u ch s → ⊥) (Row 21 (InRange s range w → ⊥) NoRow)
 
-pub load-rows : (t : Table) (u ch s : ℕ) (range : Range) (w : ℕ) → numberOf (loadOf t u ch s range w) ≡ firstRow (loadRows t u ch s range w)
+  in-range : (r : Sort) → senseOf s ≡ Ranged r → Reads (legalOf r range && fitsOf r w) (InRange s range w)
+  in-range r e =
+      reads-same (reads-and _ _ (legal-means r range) (fits-reads r w))
+      (λ h. record { sort = r; ranged = e; legal = h .0; fits = h .1 })
+      (λ h. let q : Ranged (h .sort) ≡ Ranged r = sym (h .ranged) ∙ e in let k : h .sort ≡ r = cc in (rw (← k) (h .legal), rw (← k) (h .fits)))
+
+  unranged : (k : Sense) → senseOf s ≡ k → isRanged k ≡ false → RangedThere t u ch s → ⊥
+  unranged k e f h = true≠false (sym (h .ranged) ∙ ap isRanged e ∙ f)
+
+  by-sense : (p : ℕ) → Named t u ch s (at t p) → (k : Sense) → senseOf s ≡ k → rangeRows (numberOf (loadBy t p k range w))
+  unfolding loadBy loadRange
+  by-sense p m Unknown e = given (unranged Unknown e refl) refl
+  by-sense p m YesNo e = given (unranged YesNo e refl) refl
+  by-sense p m (Ranged r) e =
+      passed (λ n. n (record { control = at t p; named = m; ranged = ap isRanged e })) (by-kept 21 (legalOf r range && fitsOf r w) _ (in-range r e) (λ _. refl))
+  by-sense p m Pin e = given (unranged Pin e refl) refl
+
+  by-place : (f : Found) → foundIn t u ch s ≡ f → rangeRows (numberOf (loadAt t (senseOf s) f range w))
+  unfolding loadAt
+  by-place found.Nothing e = given (λ h. found-none t sound u ch s e (h .control) (h .named)) refl
+  by-place (found.At p) e = by-sense p (found-named t sound u ch s p e) (senseOf s) refl
+
+pub load-rows : (t : Table) (u ch s : ℕ) (range : Range) (w : ℕ) → loadRows t u ch s range w (numberOf (loadOf t u ch s range w))
 unfolding loadOf loadRows
-load-rows t u ch s range w =
-    number-pick (soundOf t) (loadAt t (senseOf s) (foundIn t u ch s) range w) (refused 30)
-    ∙ row-choice (soundOf t) (load-at-rows t (senseOf s) (foundIn t u ch s) range w) refl
+load-rows t u ch s range w = by-kept 30 (soundOf t) _ (sound-reads t) (λ e. by-place t (sound-reads t .says e) u ch s range w (foundIn t u ch s) refl)
+
+pub load-row-one : (t : Table) (u ch s : ℕ) (range : Range) (w a b : ℕ) → loadRows t u ch s range w a → loadRows t u ch s range w b → a ≡ b
+unfolding loadRows
+load-row-one t u ch s range w = row-one (row-one (row-one no-row-one))

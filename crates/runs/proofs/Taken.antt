@@ -3,6 +3,7 @@
 --   SetTaken   ==  a Set that was taken
 --   GetTaken   ==  a Get that was answered
 --   load-taken, set-taken, get-taken  ==  every acceptance is one of these
+--   load-not-got  ==  no load is answered with bytes
 use Prim.Native.Nat.{ℕ, _≤_}
 use mathlib.Core.Path.{_≡_, refl, sym, ap}
 use mathlib.Core.List.{List}
@@ -12,8 +13,7 @@ use native.Mathlib.Omega.{arith}
 use lib.Dec.{eqb, ltb}
 use lib.ListN.{length}
 use borrow.Author.Tests.{eqb-true, ltb-false, not-false}
-use Rattle.ground.specs.Pick.{pick, true≠false, reads-and}
-use Rattle.setting.specs.Legal.{reads-itself}
+use Rattle.ground.specs.Pick.{pick, true≠false, reads-true, reads-and}
 use Rattle.setting.specs.Setting.{fitsOf, legalOf}
 use Rattle.setting.specs.declared.Sort.{Sort}
 use Rattle.setting.specs.declared.Range.{Range}
@@ -23,7 +23,7 @@ use Rattle.table.specs.declared.Sense.the-variants.{Unknown, YesNo, Ranged, Pin
 use Rattle.table.specs.declared.Found.{Found}
 use Rattle.table.specs.declared.Found.the-variants as found
 use Rattle.table.specs.Controls.{at, placed, senseOf, sizeOf}
-use Rattle.table.specs.First.{foundIn, unitIn}
+use Rattle.table.specs.First.{foundIn, unitIn, lookupBy, lookedUp}
 use Rattle.table.specs.Sound.{soundOf}
 use Rattle.request.specs.declared.Target.{Target}
 use Rattle.request.specs.declared.Part.{Part}
@@ -72,7 +72,7 @@ module _ (t : Table) (u ch s : ℕ) (range : Range) (w : ℕ) (v : Table) (q : s
   range-taken r k e =
       ⊎-elim
       (λ h.
-      let both = reads-and (legalOf r range) (fitsOf r w) (reads-itself _) (reads-itself _) .says (h .0) in
+      let both = reads-and (legalOf r range) (fitsOf r w) (reads-true _) (reads-true _) .says (h .0) in
       record { sound = q; place = p; there = f; sort = r; sense = k; legal = both .0; fits = both .1; table = sym (done-one (h .1)) })
       (λ h. no-done (h .1))
       (picked (legalOf r range && fitsOf r w) _ _ (done v) e)
@@ -101,21 +101,18 @@ load-taken t u ch s range w v e =
 no-place : {P : Type 0} {m p : ℕ} → Refused m ≡ At p → P
 no-place e = absurd (let z : _≡_ {A = ℕ} 0 1 = cc in omega arith)
 
-place-taken : (f : Found) (p : ℕ) → placeOf f ≡ At p → f ≡ found.At p
+place-taken : (f : Found) (b : Bool) (p : ℕ) → placeOf (lookupBy f b) ≡ At p → f ≡ found.At p
 unfolding placeOf
-place-taken found.Nothing p e = no-place e
-place-taken (found.At q) p e = let i : q ≡ p = cc in ap found.At i
+place-taken found.Nothing true p e = no-place e
+place-taken found.Nothing false p e = no-place e
+place-taken (found.At q) b p e = let i : q ≡ p = cc in ap found.At i
 
 -- where a request's control stands
 address-taken : (t : Table) (n : ℕ) (g : Target) (p : ℕ) → addressedIn t n g ≡ At p → foundIn t (g .unit) (g .channel) (g .selector) ≡ found.At p
-unfolding addressedIn
+unfolding addressedIn lookedUp
 address-taken t n g p e =
     ⊎-elim
-    (λ h.
-    ⊎-elim
-    (λ k. place-taken (foundIn t (g .unit) (g .channel) (g .selector)) p (k .1))
-    (λ k. no-place (k .1))
-    (picked (unitIn t (g .unit)) _ _ (At p) (h .1)))
+    (λ h. place-taken (foundIn t (g .unit) (g .channel) (g .selector)) (unitIn t (g .unit)) p (h .1))
     (λ h. no-place (h .1))
     (picked (eqb (g .interface) n) _ _ (At p) e)
 

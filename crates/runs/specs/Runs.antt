@@ -1,6 +1,7 @@
 -- Runs: loads and requests, one after another, each on the table that the one before it left.
 --   Key               ==  which control: "named by unit ID, channel and selector"
 --   whereIs t k       ==  where the control stands in the table
+--   keyOf g           ==  the control that a request's target names
 --   Step              ==  a load of a range and a CUR, or a request: the AudioControl number, the setup, the data of a Set
 --                         and the length of the lent reply
 --   stepOf t st       ==  what the step comes to on the table t
@@ -11,6 +12,8 @@
 --   sameKey k l       ==  the two are the same control
 --   rangesIn k st     ==  the range that the step gives to k, if it is a load of k
 --   numbersIn k st    ==  the number that the step asks k to take, if it is a load or a Set of k
+--   numbersAsked k d a ==  the same of a request that asks a with the data d
+--   heard f t st      ==  what f finds in the step, if it is accepted
 --   told f t run      ==  what f finds in the accepted steps of the run, in their order
 --   lastOf x xs       ==  the last of xs, or x where there is none
 --   some xs           ==  there is one
@@ -18,6 +21,7 @@
 --   StandsFor k c x   ==  the control's CUR is what is stored where x is wanted: of a ranged control that is loaded the
 --                         closest setting to x, of another x itself
 --   Bytes d           ==  every element of d is a byte, as in every lent slice
+--   sent st           ==  the data of a request
 --   Wired run         ==  the data of every request of the run are bytes
 use Prim.Native.Nat.{ℕ, _<_}
 use mathlib.Core.Path.{_≡_}

@@ -2,14 +2,16 @@
 --   available-reads  ==  availableOf decides: silence, or a number that fits and whose height is a point of the grid
 --   available-means  ==  of a legal range it decides: silence, or an available setting
 --   available-heard  ==  of a legal range no available setting is silence
---   Placed           ==  the height of an available setting, and that it is a point
+--   PointOf s range h ==  h is a point of the range's grid of heights
+--   Placed, placed   ==  the height of an available setting, and that it is a point; point-available: the way back
+--   heights          ==  what a legal range's heights are
 use Prim.Native.Nat.{ℕ, _+_, _*_, _<_}
 use mathlib.Core.Path.{_≡_, refl, _∙_, sym, ap, subst}
-use mathlib.Core.Bool.{Bool, true}
+use mathlib.Core.Bool.{true}
 use mathlib.Core.Logic.{_⊎_, inl, inr, ⊎-elim}
 use native.Mathlib.Omega.{arith}
 use lib.IntN.{ℤ, pos, _+ℤ_, _*ℤ_}
-use Rattle.ground.specs.Pick.{Reads, shows, reads-and, reads-or}
+use Rattle.ground.specs.Pick.{Reads, shows, reads-same, reads-true, reads-and, reads-or}
 use Rattle.setting.specs.declared.Sort.{Sort}
 use Rattle.setting.specs.declared.Range.{Range}
 use Rattle.setting.specs.Setting.{spanOf, biasOf, heightOf, silenceOf, legalOf, availableOf}
@@ -18,11 +20,7 @@ use Rattle.setting.specs.Grid.{Point, point-reads}
 use Rattle.setting.specs.Lift.{Lift, lift-le, le-lift, lift-more, lift-height, lift-one}
 use Rattle.setting.specs.Values.{value-lift, res-value}
 use Rattle.setting.specs.Silence.{silence-means, silence-fits, silence-lowest, silent-lift}
-use Rattle.setting.specs.Legal.{LegalHeights, fits-reads, reads-itself, legal-reads}
-
--- a test decides what is the same as what it decides
-reads-as : {P Q : Type 0} {b : Bool} → Reads b P → (P → Q) → (Q → P) → Reads b Q
-reads-as r f g = record { says = λ e. f (r .says e); denies = λ e q. r .denies e (g q) }
+use Rattle.setting.specs.Legal.{LegalHeights, fits-reads, legal-reads}
 
 abbrev pub PointOf : Sort → Range → ℕ → Type 0
 PointOf s range h = Point (heightOf s (range .min)) (heightOf s (range .max)) (range .res) h
@@ -30,7 +28,7 @@ PointOf s range h = Point (heightOf s (range .min)) (heightOf s (range .max)) (r
 pub available-reads : (s : Sort) (range : Range) (n : ℕ) → Reads (availableOf s range n) ((silenceOf s n ≡ true) ⊎ ((n < spanOf s) × PointOf s range (heightOf s n)))
 unfolding availableOf
 available-reads s range n =
-    reads-or _ _ (reads-itself (silenceOf s n)) (reads-and _ _ (fits-reads s n) (point-reads _ _ (range .res) (heightOf s n)))
+    reads-or _ _ (reads-true (silenceOf s n)) (reads-and _ _ (fits-reads s n) (point-reads _ _ (range .res) (heightOf s n)))
 
 -- an available setting has a height, and that is a point of the grid
 pub record Placed (s : Sort) (range : Range) (v : ℤ) : Type 0 where
@@ -72,7 +70,7 @@ module _ (s : Sort) (range : Range) (l : legalOf s range ≡ true) where
 
   pub available-means : (n : ℕ) → Reads (availableOf s range n) ((n < spanOf s) × (Silence s (value s n) ⊎ Available s range (value s n)))
   available-means n =
-      reads-as (available-reads s range n)
+      reads-same (available-reads s range n)
       (⊎-elim
       (λ q. (silence-fits s n q, inl (silence-means s n (silence-fits s n q) .says q)))
       (λ p. (p .0, inr (point-available (value s n) (heightOf s n) (value-lift s n (p .0)) (p .1)))))

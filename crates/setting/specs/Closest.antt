@@ -4,6 +4,7 @@
 --   closest-self       ==  a setting is stored as it is
 --   closest-again      ==  to store what is stored changes nothing
 -- and of a legal range, where the number wanted is not too wide:
+--   closest-one, stored-one ==  there is at most one closest setting, and one that is stored; setting-closest: what is computed is that
 --   closest-means      ==  closestTo gives what is to be stored
 --   closest-only       ==  and is the only number that does
 --   closest-silence    ==  what is stored is silence only where silence is wanted

@@ -5,7 +5,13 @@
 --   Nearest least most step x v  ==  v is a point, none is closer to x, and none as close is lower
 --   point-reads                  ==  onGrid decides Point
 --   closest-nearest              ==  closestHeight gives the nearest point
---   nearest-one                  ==  there is at most one
+--   nearest-one                  ==  there is at most one; nearest-self: a point is the nearest to itself
+--   ordered                      ==  of two numbers one is at most the other
+--   whole-steps-none, whole-steps-low, whole-steps-last, whole-steps-of  ==  wholeSteps is a multiple of the step, the last that is not above room
+--   whole-steps-one              ==  and any such multiple is it
+--   none-between                 ==  no point lies between a point and the next
+--   low-nearest, high-nearest, least-nearest  ==  when the lower neighbour, the upper one and the first point are the nearest
+--   closest-at-least, closest-last, closest-high, closest-low  ==  the ways out of closestHeight
 use Prim.Native.Nat.{ℕ, suc, _+_, _-_, _*_, _/_, _≤_, _<_, min}
 use mathlib.Core.Path.{_≡_, refl, _∙_, sym, ap}
 use mathlib.Core.Bool.{Bool, true, false}

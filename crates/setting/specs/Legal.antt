@@ -4,14 +4,14 @@
 --   legal-reads           ==  legalOf decides them
 --   legal-means           ==  legalOf decides Legal
 use Prim.Native.Nat.{ℕ, _+_, _≤_, _<_}
-use mathlib.Core.Path.{_≡_, refl, _∙_, sym, ap}
-use mathlib.Core.Bool.{Bool, true, false}
+use mathlib.Core.Path.{_≡_, refl, sym, ap}
+use mathlib.Core.Bool.{true}
 use mathlib.Core.Logic.{⊎-elim}
 use native.Mathlib.Omega.{arith}
-use lib.IntN.{ℤ, pos, negℤ}
+use lib.IntN.{pos, negℤ}
 use lib.Signed.{_≤ℤ_}
 use borrow.Author.Tests.{eqb-true, le-leb}
-use Rattle.ground.specs.Pick.{Reads, reads-and, reads-not, reads-le, reads-lt, true≠false}
+use Rattle.ground.specs.Pick.{Reads, reads-true, reads-and, reads-not, reads-le, reads-lt, true≠false}
 use Rattle.setting.specs.declared.Sort.{Sort}
 use Rattle.setting.specs.declared.Sort.the-variants.{Volume, Tone, Delay}
 use Rattle.setting.specs.declared.Range.{Range}
@@ -25,10 +25,6 @@ use Rattle.setting.specs.Silence.{tone-differs, delay-differs, silence-l
 pub fits-reads : (s : Sort) (n : ℕ) → Reads (fitsOf s n) (n < spanOf s)
 unfolding fitsOf
 fits-reads s n = reads-lt n (spanOf s)
-
--- a test decides that it holds
-pub reads-itself : (b : Bool) → Reads b (b ≡ true)
-reads-itself b = record { says = λ e. e; denies = λ e f. true≠false (sym f ∙ e) }
 
 pub record LegalHeights (s : Sort) (range : Range) : Type 0 where
   pub min-fits : range .min < spanOf s
@@ -46,7 +42,7 @@ module _ (s : Sort) (range : Range) where
       (reads-and _ _ (fits-reads s (range .max))
       (reads-and _ _ (reads-le (heightOf s (range .min)) (heightOf s (range .max)))
       (reads-and _ _ (reads-le 1 (range .res))
-      (reads-and _ _ (reads-le (range .res) (mostRes s)) (reads-not (silenceOf s (range .min)) (reads-itself (silenceOf s (range .min))))))))
+      (reads-and _ _ (reads-le (range .res) (mostRes s)) (reads-not (silenceOf s (range .min)) (reads-true (silenceOf s (range .min))))))))
 
   pub legal-reads : Reads (legalOf s range) (LegalHeights s range)
   legal-reads = record {

@@ -1,6 +1,10 @@
 -- Integers lifted by a fixed number b, so that none is negative. Order and distance stay as they were: what is proved of the
 -- natural numbers holds of the integers.
 --   Lift b z h  ==  the integer z lies h above −b
+--   lift-le, le-lift, lift-lt, lt-lift, lift-apart  ==  order and distance, there and back
+--   lift-more   ==  d more is d higher
+--   lift-height, lift-one  ==  one integer has one height, one height one integer
+--   signed-lift ==  the signed reading of a number is lifted by adding half the span and coming round
 use Prim.Native.Nat.{ℕ, zero, suc, _+_, _-_, _%_, _≤_, _<_}
 use mathlib.Core.Path.{_≡_, refl, _∙_, sym, ap}
 use mathlib.Core.Bool.{Bool, true, false, cond}

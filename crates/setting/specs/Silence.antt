@@ -1,11 +1,12 @@
 -- Silence: "For volume −32768 means silence". It is the lowest value that a volume control can hold.
+--   tone-differs, delay-differs  ==  neither is volume
 --   silence-means   ==  silenceOf decides Silence
 --   silence-fits    ==  silence is not too wide
 --   silence-lowest  ==  of volume the number of height 0 is silence
 --   silent-lift     ==  and silence has height 0
 use Prim.Native.Nat.{ℕ, _<_}
 use mathlib.Core.Path.{_≡_, refl, _∙_, sym, ap}
-use mathlib.Core.Bool.{true, false}
+use mathlib.Core.Bool.{true}
 use native.Mathlib.Omega.{arith}
 use lib.IntN.{ℤ, pos, _+ℤ_}
 use borrow.Author.Tests.{eqb-true, eqb-false, eq-eqb}

@@ -4,14 +4,15 @@
 --   value-order  ==  heights are ordered as the values are
 --   value-apart  ==  and lie as far from each other
 --   value-one    ==  two numbers of one value are one
---   res-value    ==  a legal RES means itself, also where the control is signed
-use Prim.Native.Nat.{ℕ, _+_, _-_, _≤_, _<_}
+--   res-room, res-fits, res-value  ==  a legal RES is not too wide and means itself, also where the control is signed
+--   res-from-value, res-to-value   ==  and a number whose value is a legal RES is one
+use Prim.Native.Nat.{ℕ, _+_, _≤_, _<_}
 use mathlib.Core.Path.{_≡_, refl, _∙_, sym, ap}
 use mathlib.Core.Logic.{⊎-elim}
 use native.Mathlib.Nat.{mod-eq-of-lt}
 use native.Mathlib.Omega.{arith}
 use lib.Dec.{leb}
-use lib.IntN.{ℤ, pos, natAbs, _-ℤ_}
+use lib.IntN.{pos, natAbs, _-ℤ_}
 use lib.Signed.{_≤ℤ_}
 use borrow.Author.Tests.{leb-true, leb-false}
 use Rattle.ground.specs.Pick.{Reads}

@@ -9,10 +9,10 @@ use mathlib.Core.List.{List, [], _∷_, map, List·Memᴰ, List·Memᴰ·head, L
 use native.Mathlib.Omega.{arith}
 use native.Mathlib.Nat.{add-zero, le-of-suc-le-suc}
 use lib.ListN.{length, getD, take}
-use lib.Seq.{take-append-seam}
-use Rattle.ground.specs.Lists.{total, pad-at}
-use Rattle.layout.specs.Layout.{entityOf, idOf}
-use Rattle.layout.specs.Sources.{sourceList, sourcesOf, sourcesIn, padded}
+use Rattle.ground.specs.Lists.{total, pad-at, pad-front}
+use Rattle.layout.specs.Layout.{mostPins, entityOf, idOf}
+use Rattle.layout.specs.Sources.{sourceList, sourcesOf, sourcesIn}
+use Rattle.layout.specs.SourcesLaws.{sources-few}
 use Rattle.entities.specs.declared.Node.{Node}
 use Rattle.entities.specs.Run.{mostEntities, nodeOf, nodesFrom, blankNode, runIn, held, nodeAt, idAt, placeAt}
 use Rattle.graph.specs.Tables.{tabulate, tabulate-same, tabulate-getD, map-tabulate}
@@ -52,8 +52,8 @@ module _ (p : ℕ) (ds : List (List ℕ)) (few : length ds ≤ mostEntities) whe
   place-read i l = ap (λ (n : Node). n .place) (node-in i l)
 
   pub sources-read : (i : ℕ) → i < length ds → sourcesAt (runIn p ds) i ≡ sourceList (entityOf (getD ds i [])) (getD ds i [])
-  unfolding nodeOf sourcesOf sourcesIn padded
-  sources-read i l = ap (λ (n : Node). take (n .sources .pins) (n .sources .ids)) (node-in i l) ∙ take-append-seam (sourceList (entityOf (getD ds i [])) (getD ds i [])) _
+  unfolding nodeOf sourcesOf sourcesIn
+  sources-read i l = ap (λ (n : Node). take (n .sources .pins) (n .sources .ids)) (node-in i l) ∙ pad-front 0 mostPins (sourceList (entityOf (getD ds i [])) (getD ds i [])) (sources-few (getD ds i []))
 
   pub ids-read : idsOf (runIn p ds) ≡ map (λ d. idOf (entityOf d)) ds
   ids-read =

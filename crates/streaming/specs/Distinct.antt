@@ -38,11 +38,11 @@ one-of (Printed i p) c t u m n q = absurd (List·Memᴰ·not-nil m)
 one-of (Feature i s n l) c t u m o q = absurd (List·Memᴰ·not-nil m)
 
 -- the entity that a Terminal is
-bearer : (ns : List Node) (cs : List Cluster) (t : Terminal) → List·Memᴰ t (terminalsIn ns cs) → (n : Node) × (List·Memᴰ n ns) × (idOf (n .entity) ≡ t .id)
+terminal-node : (ns : List Node) (cs : List Cluster) (t : Terminal) → List·Memᴰ t (terminalsIn ns cs) → (n : Node) × (List·Memᴰ n ns) × (idOf (n .entity) ≡ t .id)
 unfolding terminalsIn
-bearer [] cs t m = absurd (List·Memᴰ·not-nil m)
-bearer (n ∷ ns) [] t m = absurd (List·Memᴰ·not-nil m)
-bearer (n ∷ ns) (c ∷ cs) t m = go (List·Memᴰ·append-cases (terminalOf (n .entity) (c .channels)) m) (bearer ns cs t)
+terminal-node [] cs t m = absurd (List·Memᴰ·not-nil m)
+terminal-node (n ∷ ns) [] t m = absurd (List·Memᴰ·not-nil m)
+terminal-node (n ∷ ns) (c ∷ cs) t m = go (List·Memᴰ·append-cases (terminalOf (n .entity) (c .channels)) m) (terminal-node ns cs t)
   where
     go : List·Memᴰ t (terminalOf (n .entity) (c .channels)) ⊎ List·Memᴰ t (terminalsIn ns cs) → (List·Memᴰ t (terminalsIn ns cs) → (k : Node) × (List·Memᴰ k ns) × (idOf (k .entity) ≡ t .id)) → (k : Node) × (List·Memᴰ k (n ∷ ns)) × (idOf (k .entity) ≡ t .id)
     go (inl h) ih = (n, List·Memᴰ·head refl, own-id (n .entity) (c .channels) t h)
@@ -61,7 +61,7 @@ one-each (n ∷ ns) (c ∷ cs) d t u m k q = go (List·Memᴰ·append-cases (ter
     later v = List·Memᴰ v (terminalsIn ns cs)
 
     apart : (v w : Terminal) → here v → later w → v .id ≡ w .id → ⊥
-    apart v w a b e = let f = bearer ns cs w b in d [] n ns (f .0) refl (f .1) (own-id (n .entity) (c .channels) v a ∙ e ∙ sym (f .2))
+    apart v w a b e = let f = terminal-node ns cs w b in d [] n ns (f .0) refl (f .1) (own-id (n .entity) (c .channels) v a ∙ e ∙ sym (f .2))
 
     go : here t ⊎ later t → here u ⊎ later u → (later t → later u → t ≡ u) → t ≡ u
     go (inl a) (inl b) ih = one-of (n .entity) (c .channels) t u a b q

@@ -1,16 +1,21 @@
--- Groups computed: document 01's case A, and each rule of FORMAT_TYPE just kept and just broken.
---   linkA      ==  case A's Output Terminal, ID 3, type 0x0101, one channel
+-- Groups computed: document 01's case A with its two streaming groups, and case A with another FORMAT_TYPE: other channels, one bit too many,
+-- no bits, five bytes a sample, a rate too few, a continuous format of the wrong length, and rates of a range that stay, rise and fall.
+--   terminalsA ==  case A's Output Terminal, ID 3, type 0x0101, one channel
+--   silentA, interfaceA, generalA  ==  case A's two streaming interface descriptors and its GENERAL
 --   streamA f  ==  case A's streaming group with the FORMAT_TYPE descriptor f is broken
+--   formatOf c bytes bits f, rangeTo a b c  ==  a FORMAT_TYPE of one rate, and one of rates from 48,000 up to those three bytes
+--   silent-case, silent-class  ==  a group with no endpoints: case A's, and one that holds a type 24
+--   Formats, formats  ==  the table of case A's group with each FORMAT_TYPE
 use Prim.Native.Nat.{ℕ}
 use mathlib.Core.Path.{_≡_, refl}
 use mathlib.Core.Bool.{Bool, true, false}
 use mathlib.Core.List.{List, [], _∷_}
 use Rattle.scan.specs.Want.{isInterface, isClass, isAudio}
-use Rattle.streaming.specs.Terminals.{Terminal, linkedTo}
-use Rattle.streaming.specs.Tests.{opensAs, isGeneral, isFormat, samplesRight, ratesRight, isTypeOne, formatRight, linkRight, describedBy, holdsClass, broken}
+use Rattle.streaming.specs.Terminals.{Terminal, bearerIn}
+use Rattle.streaming.specs.Tests.{opensAs, isGeneral, isFormat, samplesRight, ratesRight, isTypeOne, formatRight, bearerRight, describedBy, holdsClass, broken}
 
-abbrev linkA : List Terminal
-linkA = record { id = 3; kind = 0x0101; channels = 1 } ∷ []
+abbrev terminalsA : List Terminal
+terminalsA = record { id = 3; kind = 0x0101; channels = 1 } ∷ []
 
 -- 09 04 01 00 00 01 02 00 00, 09 04 01 01 01 01 02 00 00, 07 24 01 03 01 01 00
 abbrev silentA : List ℕ
@@ -23,7 +28,7 @@ abbrev generalA : List ℕ
 generalA = 7 ∷ 0x24 ∷ 1 ∷ 3 ∷ 1 ∷ 1 ∷ 0 ∷ []
 
 abbrev streamA : List ℕ → Bool
-streamA f = broken linkA interfaceA (generalA ∷ f ∷ [])
+streamA f = broken terminalsA interfaceA (generalA ∷ f ∷ [])
 
 -- one rate of 48,000; channels, bytes, bits and how many rates as given
 abbrev formatOf : ℕ → ℕ → ℕ → ℕ → List ℕ
@@ -33,11 +38,11 @@ formatOf c bytes bits f = 11 ∷ 0x24 ∷ 2 ∷ 1 ∷ c ∷ bytes ∷ bits ∷ f
 abbrev rangeTo : ℕ → ℕ → ℕ → List ℕ
 rangeTo a b c = 14 ∷ 0x24 ∷ 2 ∷ 1 ∷ 1 ∷ 2 ∷ 16 ∷ 0 ∷ 0x80 ∷ 0xBB ∷ 0 ∷ a ∷ b ∷ c ∷ []
 
-pub silent-case : broken linkA silentA (interfaceA ∷ generalA ∷ []) ≡ false
+pub silent-case : broken terminalsA silentA (interfaceA ∷ generalA ∷ []) ≡ false
 unfolding broken isAudio isInterface isClass holdsClass
 silent-case = refl
 
-pub silent-class : broken linkA silentA (generalA ∷ []) ≡ true
+pub silent-class : broken terminalsA silentA (generalA ∷ []) ≡ true
 unfolding broken isAudio isInterface isClass holdsClass
 silent-class = refl
 
@@ -55,7 +60,7 @@ pub record Formats : Type 0 where
   pub falling : streamA (rangeTo 0x7F 0xBB 0) ≡ true
 
 pub formats : Formats
-unfolding broken isAudio isInterface describedBy isGeneral opensAs linkRight linkedTo formatRight isFormat isTypeOne samplesRight ratesRight
+unfolding broken isAudio isInterface describedBy isGeneral opensAs bearerRight bearerIn formatRight isFormat isTypeOne samplesRight ratesRight
 formats = record {
   case-a = refl;
   other-channels = refl;

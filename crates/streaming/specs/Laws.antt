@@ -1,5 +1,5 @@
 -- What the reader tests at places of the configuration is what the definitions test along the cutting.
---   linked-first, linked-past ==  a link among Terminals in two parts: to the first part's where it has one, else to the second's
+--   bearer-first, bearer-past ==  of Terminals in two parts the first part's bears the ID where it has one that does, else the second's
 --   strays-held  ==  the search for a type 24 descriptor or the group's end tells whether the group holds one
 --   behind-next  ==  what stands behind an element of a list
 --   broken-here  ==  the test of a group at its place, during the search, is the rule's own test
@@ -26,27 +26,27 @@ use Rattle.scan.specs.Found.{found, found-none}
 use Rattle.scan.specs.declared.Want.the-variants as want
 use Rattle.groups.specs.Reading.{straysFrom}
 use Rattle.groups.specs.TotalLaws.{type-of}
-use Rattle.streaming.specs.declared.Link.the-variants as link
-use Rattle.streaming.specs.Terminals.{Terminal, linkedTo}
+use Rattle.streaming.specs.declared.Bearer.the-variants as bearer
+use Rattle.streaming.specs.Terminals.{Terminal, bearerIn}
 use Rattle.streaming.specs.Tests.{describedBy, describedAt, brokenAt, holdsClass, broken, wrongStream}
 
 module _ (id : ℕ) where
-  -- a link leads to the first of the Terminals that bears the ID, be they cut in two
-  pub linked-first : (ts us : List Terminal) (k c : ℕ) → linkedTo id ts ≡ link.Terminal k c → linkedTo id (ts ++ us) ≡ link.Terminal k c
-  unfolding linkedTo
-  linked-first [] us k c e = let z : _≡_ {A = ℕ} 0 1 = cc in absurd (omega arith)
-  linked-first (t ∷ ts) us k c e = go (eqb (t .id) id) (linked-first ts us k c) e
+  -- the first of the Terminals that bears the ID, be they cut in two
+  pub bearer-first : (ts us : List Terminal) (k c : ℕ) → bearerIn id ts ≡ bearer.Terminal k c → bearerIn id (ts ++ us) ≡ bearer.Terminal k c
+  unfolding bearerIn
+  bearer-first [] us k c e = let z : _≡_ {A = ℕ} 0 1 = cc in absurd (omega arith)
+  bearer-first (t ∷ ts) us k c e = go (eqb (t .id) id) (bearer-first ts us k c) e
     where
-      go : (b : Bool) → (linkedTo id ts ≡ link.Terminal k c → linkedTo id (ts ++ us) ≡ link.Terminal k c) → pick b (link.Terminal (t .kind) (t .channels)) (linkedTo id ts) ≡ link.Terminal k c → pick b (link.Terminal (t .kind) (t .channels)) (linkedTo id (ts ++ us)) ≡ link.Terminal k c
+      go : (b : Bool) → (bearerIn id ts ≡ bearer.Terminal k c → bearerIn id (ts ++ us) ≡ bearer.Terminal k c) → pick b (bearer.Terminal (t .kind) (t .channels)) (bearerIn id ts) ≡ bearer.Terminal k c → pick b (bearer.Terminal (t .kind) (t .channels)) (bearerIn id (ts ++ us)) ≡ bearer.Terminal k c
       go true ih h = h
       go false ih h = ih h
 
-  pub linked-past : (ts us : List Terminal) → linkedTo id ts ≡ link.Nothing → linkedTo id (ts ++ us) ≡ linkedTo id us
-  unfolding linkedTo
-  linked-past [] us e = refl
-  linked-past (t ∷ ts) us e = go (eqb (t .id) id) (linked-past ts us) e
+  pub bearer-past : (ts us : List Terminal) → bearerIn id ts ≡ bearer.Nothing → bearerIn id (ts ++ us) ≡ bearerIn id us
+  unfolding bearerIn
+  bearer-past [] us e = refl
+  bearer-past (t ∷ ts) us e = go (eqb (t .id) id) (bearer-past ts us) e
     where
-      go : (b : Bool) → (linkedTo id ts ≡ link.Nothing → linkedTo id (ts ++ us) ≡ linkedTo id us) → pick b (link.Terminal (t .kind) (t .channels)) (linkedTo id ts) ≡ link.Nothing → pick b (link.Terminal (t .kind) (t .channels)) (linkedTo id (ts ++ us)) ≡ linkedTo id us
+      go : (b : Bool) → (bearerIn id ts ≡ bearer.Nothing → bearerIn id (ts ++ us) ≡ bearerIn id us) → pick b (bearer.Terminal (t .kind) (t .channels)) (bearerIn id ts) ≡ bearer.Nothing → pick b (bearer.Terminal (t .kind) (t .channels)) (bearerIn id (ts ++ us)) ≡ bearerIn id us
       go true ih h = let z : _≡_ {A = ℕ} 0 1 = cc in absurd (omega arith)
       go false ih h = ih h
 

@@ -2,6 +2,8 @@
 --   membersOf tail ==  the descriptors of tail up to the next interface descriptor
 --   afterOf tail   ==  the others
 --   members-split, members-inside, after-ends, members-one  ==  they are the group's, and no others are
+--   class-inside   ==  a type 24 descriptor is no interface descriptor
+--   reads-held     ==  holdsClass decides that one of them is of type 24
 use Prim.Native.Nat.{ℕ}
 use mathlib.Core.Path.{_≡_, refl, sym, ap, _∙_}
 use mathlib.Core.Bool.{Bool, true, false, not, _&&_, _||_}

@@ -1,4 +1,5 @@
 -- Streaming (document 01), each sentence as the paper has it and with no search in it.
+--   OpensAs k d        ==  d is of type 24 and of subtype k
 --   General g          ==  "GENERAL (24 01, length 7)"
 --   Format f           ==  "FORMAT_TYPE (24 02, length at least 4)"
 --   Samples f          ==  "byte 5 is 1 to 4; byte 6 is 1 to 8 times byte 5"
@@ -50,7 +51,7 @@ pub record Described (ts : List Terminal) (g f : List ℕ) : Type 0 where
   pub general : General g
   pub terminal : Terminal
   pub among : List·Memᴰ terminal ts
-  pub linked : terminal .id ≡ byte g 3
+  pub borne : terminal .id ≡ byte g 3
   pub streaming : terminal .kind ≡ 0x0101
   pub format : Format f
   pub type-one : word g 5 ≡ 1 → TypeOne (terminal .channels) f

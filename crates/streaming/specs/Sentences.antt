@@ -1,6 +1,7 @@
 -- Each test of rule 14 decides its sentence.
---   Links id ts l    ==  what a link to the ID id among the Terminals ts leads to: to one that bears it, or none does
---   reads-general .. reads-described  ==  the tests and their sentences
+--   Bears id ts b    ==  b is type and channels of one of the Terminals ts that bears the ID id, or nothing where none does
+--   bears            ==  what the search finds is such
+--   reads-general, reads-format, reads-type-one, reads-described  ==  the tests and their sentences
 use Prim.Native.Nat.{ℕ, _+_, _*_, _≤_, _<_}
 use mathlib.Core.Path.{_≡_, refl, sym, ap, _∙_}
 use mathlib.Core.Bool.{Bool, true, false, _&&_}
@@ -12,11 +13,11 @@ use native.Mathlib.Omega.{arith}
 use borrow.Author.Tests.{ltb-true, ltb-false}
 use Rattle.ground.specs.Pick.{pick, Reads, true≠false, reads-eq, reads-le, reads-and, reads-within, reads-implies, reads-same}
 use Rattle.ground.specs.Numbers.{byte, word, triple}
-use Rattle.streaming.specs.declared.Link.{Link}
-use Rattle.streaming.specs.declared.Link.the-variants as link
-use Rattle.streaming.specs.Terminals.{Terminal, linkedTo, OneEach}
+use Rattle.streaming.specs.declared.Bearer.{Bearer}
+use Rattle.streaming.specs.declared.Bearer.the-variants as bearer
+use Rattle.streaming.specs.Terminals.{Terminal, bearerIn, OneEach}
 use Rattle.streaming.specs.Rule.{OpensAs, General, Format, Samples, Rates, discrete, continuous, TypeOne, Described}
-use Rattle.streaming.specs.Tests.{opensAs, isGeneral, isFormat, samplesRight, ratesRight, isTypeOne, formatRight, linkRight, describedBy}
+use Rattle.streaming.specs.Tests.{opensAs, isGeneral, isFormat, samplesRight, ratesRight, isTypeOne, formatRight, bearerRight, describedBy}
 
 module _ (d : List ℕ) where
   reads-opens : (k : ℕ) → Reads (opensAs k d) (OpensAs k d)
@@ -64,53 +65,53 @@ module _ (d : List ℕ) where
   unfolding formatRight
   reads-tagged tag c = reads-and _ _ reads-format (reads-implies _ _ (reads-eq tag 1) (reads-type-one c))
 
-pub data Links (id : ℕ) (ts : List Terminal) : Link → Type 0 where
-  nothing : ((t : Terminal) → List·Memᴰ t ts → t .id ≡ id → ⊥) → Links id ts link.Nothing
-  to : (t : Terminal) → List·Memᴰ t ts → t .id ≡ id → Links id ts (link.Terminal (t .kind) (t .channels))
+pub data Bears (id : ℕ) (ts : List Terminal) : Bearer → Type 0 where
+  nothing : ((t : Terminal) → List·Memᴰ t ts → t .id ≡ id → ⊥) → Bears id ts bearer.Nothing
+  to : (t : Terminal) → List·Memᴰ t ts → t .id ≡ id → Bears id ts (bearer.Terminal (t .kind) (t .channels))
 
-pub links : (id : ℕ) (ts : List Terminal) → Links id ts (linkedTo id ts)
-unfolding linkedTo
-links id [] = nothing (λ t m e. List·Memᴰ·not-nil m)
-links id (t ∷ ts) = go (eqb (t .id) id) (reads-eq (t .id) id) (links id ts)
+pub bears : (id : ℕ) (ts : List Terminal) → Bears id ts (bearerIn id ts)
+unfolding bearerIn
+bears id [] = nothing (λ t m e. List·Memᴰ·not-nil m)
+bears id (t ∷ ts) = go (eqb (t .id) id) (reads-eq (t .id) id) (bears id ts)
   where
-    later : (t .id ≡ id → ⊥) → {l : Link} → Links id ts l → Links id (t ∷ ts) l
+    later : (t .id ≡ id → ⊥) → {l : Bearer} → Bears id ts l → Bears id (t ∷ ts) l
     later n (nothing h) = nothing (λ u m e. ⊎-elim (λ (q : u ≡ t). n (rw q at e)) (λ k. h u k e) (List·Memᴰ·cases-cons m))
     later n (to u m e) = to u (List·Memᴰ·tail m) e
 
-    go : (b : Bool) → Reads b (t .id ≡ id) → Links id ts (linkedTo id ts) → Links id (t ∷ ts) (pick b (link.Terminal (t .kind) (t .channels)) (linkedTo id ts))
+    go : (b : Bool) → Reads b (t .id ≡ id) → Bears id ts (bearerIn id ts) → Bears id (t ∷ ts) (pick b (bearer.Terminal (t .kind) (t .channels)) (bearerIn id ts))
     go true r ih = to t (List·Memᴰ·head refl) (r .says refl)
     go false r ih = later (r .denies refl) ih
 
--- where an ID is borne once, a link leads to the Terminal that bears it
-linked-one : (ts : List Terminal) → OneEach ts → (t : Terminal) → List·Memᴰ t ts → linkedTo (t .id) ts ≡ link.Terminal (t .kind) (t .channels)
-linked-one ts one t m = go (links (t .id) ts)
+-- where an ID is borne once, the search finds the Terminal that bears it
+bearer-one : (ts : List Terminal) → OneEach ts → (t : Terminal) → List·Memᴰ t ts → bearerIn (t .id) ts ≡ bearer.Terminal (t .kind) (t .channels)
+bearer-one ts one t m = go (bears (t .id) ts)
   where
-    go : {l : Link} → Links (t .id) ts l → l ≡ link.Terminal (t .kind) (t .channels)
+    go : {l : Bearer} → Bears (t .id) ts l → l ≡ bearer.Terminal (t .kind) (t .channels)
     go (nothing h) = absurd (h t m refl)
     go (to u k e) = rw (one u t k m e) refl
 
 pub reads-described : (ts : List Terminal) → OneEach ts → (g f : List ℕ) → Reads (describedBy ts g f) (Described ts g f)
-unfolding describedBy linkRight
-reads-described ts one g f = go (linkedTo (byte g 3) ts) refl (links (byte g 3) ts)
+unfolding describedBy bearerRight
+reads-described ts one g f = go (bearerIn (byte g 3) ts) refl (bears (byte g 3) ts)
   where
-    found : (t : Terminal) → Described ts g f → linkedTo (byte g 3) ts ≡ link.Terminal (t .kind) (t .channels) → General g × ((t .kind ≡ 0x0101) × (Format f × (word g 5 ≡ 1 → TypeOne (t .channels) f)))
+    found : (t : Terminal) → Described ts g f → bearerIn (byte g 3) ts ≡ bearer.Terminal (t .kind) (t .channels) → General g × ((t .kind ≡ 0x0101) × (Format f × (word g 5 ≡ 1 → TypeOne (t .channels) f)))
     found t h e =
         let u = h .terminal in
-        let q : link.Terminal (u .kind) (u .channels) ≡ link.Terminal (t .kind) (t .channels) = sym (linked-one ts one u (h .among)) ∙ ap (λ (i : ℕ). linkedTo i ts) (h .linked) ∙ e in
+        let q : bearer.Terminal (u .kind) (u .channels) ≡ bearer.Terminal (t .kind) (t .channels) = sym (bearer-one ts one u (h .among)) ∙ ap (λ (i : ℕ). bearerIn i ts) (h .borne) ∙ e in
         let k : u .kind ≡ t .kind = cc in
         let c : u .channels ≡ t .channels = cc in
         (h .general, (sym k ∙ h .streaming, (h .format, λ o. rw (← c) (h .type-one o))))
 
-    go : (l : Link) → linkedTo (byte g 3) ts ≡ l → Links (byte g 3) ts l → Reads (isGeneral g && linkRight l g f) (Described ts g f)
+    go : (l : Bearer) → bearerIn (byte g 3) ts ≡ l → Bears (byte g 3) ts l → Reads (isGeneral g && bearerRight l g f) (Described ts g f)
     go _ e (nothing n) = record {
-      says = λ h. absurd (no-link (isGeneral g) h);
-      denies = λ h k. n (k .terminal) (k .among) (k .linked);
+      says = λ h. absurd (no-bearer (isGeneral g) h);
+      denies = λ h k. n (k .terminal) (k .among) (k .borne);
     }
       where
-        no-link : (b : Bool) → b && false ≡ true → ⊥
-        no-link true h = true≠false (sym h)
-        no-link false h = true≠false (sym h)
+        no-bearer : (b : Bool) → b && false ≡ true → ⊥
+        no-bearer true h = true≠false (sym h)
+        no-bearer false h = true≠false (sym h)
     go _ e (to t m i) =
         reads-same (reads-and _ _ (reads-general g) (reads-and _ _ (reads-eq (t .kind) 0x0101) (reads-tagged f (word g 5) (t .channels))))
-        (λ h. record { general = h .0; terminal = t; among = m; linked = i; streaming = h .1 .0; format = h .1 .1 .0; type-one = h .1 .1 .1 })
+        (λ h. record { general = h .0; terminal = t; among = m; borne = i; streaming = h .1 .0; format = h .1 .1 .0; type-one = h .1 .1 .1 })
         (λ h. found t h e)

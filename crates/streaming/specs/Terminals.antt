@@ -1,9 +1,11 @@
--- The Terminals of a run, as a terminal link reads them (document 01, "Streaming"): "byte 3 a Terminal of type 0x0101", and
+-- The Terminals of a run, as GENERAL's byte 3 names them (document 01, "Streaming"): "byte 3 a Terminal of type 0x0101", and
 -- "byte 4 equals that terminal's c". The cluster at an Input Terminal's place is its own, at an Output Terminal's the entering one.
 --   Terminal           ==  an ID, a terminal type, channels c
 --   terminalOf e c     ==  the Terminal that the entity e is, with c channels; none for the other kinds
+--   terminalsIn ns cs  ==  the Terminals among the entities ns, with the clusters cs at their places
 --   terminalsOf r cs   ==  the Terminals of the run r in its order, with the clusters cs at its places
---   linkedTo id ts     ==  the first of the Terminals ts that bears the ID id
+--   bearerIn id ts     ==  type and channels of the first of the Terminals ts that bears the ID id, or nothing
+--   bearerOf id e c    ==  the same of the entity e alone, with c channels
 --   OneEach ts         ==  an ID is borne by one of the Terminals at most (rule 10 says so of all entities)
 use Prim.Native.Nat.{ℕ}
 use mathlib.Core.Path.{_≡_}
@@ -16,8 +18,8 @@ use Rattle.layout.specs.declared.Entity.{Entity}
 use Rattle.layout.specs.declared.Entity.the-variants.{Unknown, Input, Output, Mixer, Selector, Printed, Feature}
 use Rattle.entities.specs.declared.Node.{Node}
 use Rattle.entities.specs.declared.Run.{Run}
-use Rattle.streaming.specs.declared.Link.{Link}
-use Rattle.streaming.specs.declared.Link.the-variants as link
+use Rattle.streaming.specs.declared.Bearer.{Bearer}
+use Rattle.streaming.specs.declared.Bearer.the-variants as bearer
 
 pub record Terminal : Type 0 where
   pub id : ℕ
@@ -41,12 +43,12 @@ terminalsIn (n ∷ ns) (c ∷ cs) = terminalOf (n .entity) (c .channels) ++ term
 unfoldable pub terminalsOf : Run → List Cluster → List Terminal
 terminalsOf r cs = terminalsIn (take (r .count) (r .nodes)) cs
 
-unfoldable pub linkedTo : ℕ → List Terminal → Link
-linkedTo id [] = link.Nothing
-linkedTo id (t ∷ ts) = pick (eqb (t .id) id) (link.Terminal (t .kind) (t .channels)) (linkedTo id ts)
+unfoldable pub bearerIn : ℕ → List Terminal → Bearer
+bearerIn id [] = bearer.Nothing
+bearerIn id (t ∷ ts) = pick (eqb (t .id) id) (bearer.Terminal (t .kind) (t .channels)) (bearerIn id ts)
 
-abbrev pub linkOf : ℕ → Entity → ℕ → Link
-linkOf id e c = linkedTo id (terminalOf e c)
+abbrev pub bearerOf : ℕ → Entity → ℕ → Bearer
+bearerOf id e c = bearerIn id (terminalOf e c)
 
 abbrev pub OneEach : List Terminal → Type 0
 OneEach ts = (t u : Terminal) → List·Memᴰ t ts → List·Memᴰ u ts → t .id ≡ u .id → t ≡ u

@@ -1,6 +1,10 @@
 -- What the reader computes for rule 14: each sentence's test, and the place of the first streaming group that breaks it.
---   isGeneral g .. isTypeOne c f  ==  the tests of the sentences of Rule
---   describedBy ts g f   ==  the test of Described, by the first Terminal that bears the link's ID
+--   opensAs k d          ==  the test of OpensAs, type 24 and subtype k
+--   isGeneral g, isFormat f, samplesRight f, ratesRight f, isTypeOne c f  ==  the tests of the sentences of Rule
+--   formatRight tag c f  ==  the test of FORMAT_TYPE f under a tag, for a Terminal of c channels
+--   bearerRight b g f    ==  the test of the Terminal b: what it is for each of the two cases, none and a type with channels
+--   describedBy ts g f   ==  the test of Described, by the first Terminal that bears the ID at byte 3 of GENERAL
+--   describedAt ts s e   ==  the same of the two descriptors of the bytes s from place e on
 --   holdsClass ds        ==  a type 24 descriptor stands among ds before the next interface descriptor
 --   broken ts i tail     ==  i, with the descriptors tail behind it, opens a streaming group that breaks the rule
 --   brokenAt ts s i e    ==  the same, where the descriptors behind i are those of the bytes s from place e on
@@ -19,9 +23,9 @@ use Rattle.scan.specs.Cutting.{endAt, rest}
 use Rattle.scan.specs.Search.{searched}
 use Rattle.scan.specs.Want.{isInterface, isClass, isAudio}
 use Rattle.groups.specs.Reading.{straysFrom}
-use Rattle.streaming.specs.declared.Link.{Link}
-use Rattle.streaming.specs.declared.Link.the-variants as link
-use Rattle.streaming.specs.Terminals.{Terminal, linkedTo}
+use Rattle.streaming.specs.declared.Bearer.{Bearer}
+use Rattle.streaming.specs.declared.Bearer.the-variants as bearer
+use Rattle.streaming.specs.Terminals.{Terminal, bearerIn}
 
 unfoldable pub opensAs : ℕ → List ℕ → Bool
 opensAs k d = eqb (byte d 1) 0x24 && eqb (byte d 2) k
@@ -44,12 +48,12 @@ isTypeOne c f = leb 8 (length f) && (eqb (byte f 3) 1 && (eqb (byte f 4) c && (s
 unfoldable pub formatRight : ℕ → ℕ → List ℕ → Bool
 formatRight tag c f = isFormat f && (not (eqb tag 1) || isTypeOne c f)
 
-unfoldable pub linkRight : Link → List ℕ → List ℕ → Bool
-linkRight link.Nothing g f = false
-linkRight (link.Terminal k c) g f = eqb k 0x0101 && formatRight (word g 5) c f
+unfoldable pub bearerRight : Bearer → List ℕ → List ℕ → Bool
+bearerRight bearer.Nothing g f = false
+bearerRight (bearer.Terminal k c) g f = eqb k 0x0101 && formatRight (word g 5) c f
 
 unfoldable pub describedBy : List Terminal → List ℕ → List ℕ → Bool
-describedBy ts g f = isGeneral g && linkRight (linkedTo (byte g 3) ts) g f
+describedBy ts g f = isGeneral g && bearerRight (bearerIn (byte g 3) ts) g f
 
 unfoldable pub describedAt : List Terminal → List ℕ → ℕ → Bool
 describedAt ts s from = describedBy ts (part s from (endAt s from)) (part s (endAt s from) (endAt s (endAt s from)))

@@ -2,9 +2,10 @@
 // Each public function takes every input; of the run, the first count of its 32 places are looked at.
 ghost use mathlib.Core.Path.{_≡_};
 ghost use Prim.Native.Nat.{_<_};
+ghost use mathlib.Core.List.{[], _∷_};
 ghost use lib.ListN.{take};
 ghost use Rattle.ground.specs.Numbers.{triple};
-ghost use Rattle.streaming.specs.Terminals.{linkedTo, linkOf, terminalsIn, terminalsOf};
+ghost use Rattle.streaming.specs.Terminals.{bearerIn, bearerOf, terminalsIn, terminalsOf};
 ghost use Rattle.streaming.specs.Tests.{opensAs, isGeneral, isFormat, samplesRight, ratesRight, isTypeOne, formatRight, describedBy, describedAt, brokenAt, breach14};
 use entities::Node;
 use entities::Run;
@@ -16,80 +17,75 @@ use scan::byte_at;
 use scan::end_of;
 use scan::word_at;
 
-// What a terminal link leads to: the type and the channels of a Terminal, or nothing.
-pub enum Link {
+// The Terminal that bears an ID, by its type and its channels; or nothing where none does.
+pub enum Bearer {
     Nothing,
     Terminal { kind: u16, channels: u8 },
 }
 
-// What an entity with these channels is to a link to an ID.
-fn link_of(entity: Entity, channels: u8, id: u8) -> Link
-    ensures { λ r. ⌜ r ≡ linkOf id entity channels ⌝ }
+// A Terminal, if the ID that it bears is this one.
+fn borne(own: u8, terminal: u16, channels: u8, id: u8) -> Bearer
+    ensures { λ r. ⌜ r ≡ bearerIn id (record { id = own; kind = terminal; channels = channels } ∷ []) ⌝ }
+{
+    if own == id {
+        return Bearer::Terminal {
+            kind: terminal,
+            channels,
+        };
+    }
+    Bearer::Nothing
+}
+
+// An entity with these channels, if it is the Terminal that bears the ID.
+fn bearer_of(entity: Entity, channels: u8, id: u8) -> Bearer
+    ensures { λ r. ⌜ r ≡ bearerOf id entity channels ⌝ }
 {
     match entity {
-        Entity::Unknown => Link::Nothing,
+        Entity::Unknown => Bearer::Nothing,
         Entity::Input {
             id: own,
             terminal,
             ..
-        } => {
-            if own == id {
-                Link::Terminal {
-                    kind: terminal,
-                    channels,
-                }
-            } else {
-                Link::Nothing
-            }
-        }
+        } => borne(own, terminal, channels, id),
         Entity::Output {
             id: own,
             terminal,
             ..
-        } => {
-            if own == id {
-                Link::Terminal {
-                    kind: terminal,
-                    channels,
-                }
-            } else {
-                Link::Nothing
-            }
-        }
-        Entity::Mixer { .. } => Link::Nothing,
-        Entity::Selector { .. } => Link::Nothing,
-        Entity::Printed { .. } => Link::Nothing,
-        Entity::Feature { .. } => Link::Nothing,
+        } => borne(own, terminal, channels, id),
+        Entity::Mixer { .. } => Bearer::Nothing,
+        Entity::Selector { .. } => Bearer::Nothing,
+        Entity::Printed { .. } => Bearer::Nothing,
+        Entity::Feature { .. } => Bearer::Nothing,
     }
 }
 
 // The Terminal that bears an ID, among the first count places.
-fn link_among(nodes: [Node; 32], count: usize, clusters: [Cluster; 32], id: u8) -> Link
-    ensures { λ r. ⌜ r ≡ linkedTo id (terminalsIn (take count nodes) clusters) ⌝ }
+fn bearer_among(nodes: [Node; 32], count: usize, clusters: [Cluster; 32], id: u8) -> Bearer
+    ensures { λ r. ⌜ r ≡ bearerIn id (terminalsIn (take count nodes) clusters) ⌝ }
 {
     let mut i: usize = 0;
     while i < entities::MOST_ENTITIES {
         if count <= i {
-            return Link::Nothing;
+            return Bearer::Nothing;
         }
         let node = nodes[i];
         let entity = node.entity;
         let cluster = clusters[i];
-        let link = link_of(entity, cluster.channels, id);
-        if let Link::Terminal { kind, channels } = link {
-            return Link::Terminal { kind, channels };
+        let bearer = bearer_of(entity, cluster.channels, id);
+        if let Bearer::Terminal { kind, channels } = bearer {
+            return Bearer::Terminal { kind, channels };
         }
         i += 1;
     }
-    Link::Nothing
+    Bearer::Nothing
 }
 
 // The Terminal of the run that bears an ID.
-pub fn linked(run: Run, clusters: [Cluster; 32], id: u8) -> Link
-    ensures { λ r. ⌜ r ≡ linkedTo id (terminalsOf run clusters) ⌝ }
+fn bearer_in(run: Run, clusters: [Cluster; 32], id: u8) -> Bearer
+    ensures { λ r. ⌜ r ≡ bearerIn id (terminalsOf run clusters) ⌝ }
 {
     let nodes = run.nodes;
-    link_among(nodes, run.count, clusters, id)
+    bearer_among(nodes, run.count, clusters, id)
 }
 
 // The number of three bytes at an offset, the low byte first.
@@ -192,14 +188,14 @@ fn format_right(f: &[u8], tag: u16, channels: u8) -> bool
     is_type_one(f, channels)
 }
 
-// Whether two descriptors are GENERAL, linked to a Terminal of type 0x0101, and its FORMAT_TYPE.
+// Whether two descriptors are GENERAL, whose byte 3 is a Terminal of type 0x0101, and its FORMAT_TYPE.
 fn described_by(g: &[u8], f: &[u8], run: Run, clusters: [Cluster; 32]) -> bool
     ensures { λ r. ⌜ r ≡ describedBy (terminalsOf run clusters) (now (g .entry)) (now (f .entry)) ⌝ }
 {
     if !is_general(g) {
         return false;
     }
-    let Link::Terminal { kind, channels } = linked(run, clusters, byte_at(g, 3)) else {
+    let Bearer::Terminal { kind, channels } = bearer_in(run, clusters, byte_at(g, 3)) else {
         return false;
     };
     if kind != 0x0101 {

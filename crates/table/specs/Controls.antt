@@ -1,6 +1,5 @@
 -- Controls and the table (document 01, "Controls and settings").
 --   mostControls        ==  128; a table has no more ("over 128 controls", row 30)
---   mostPins            ==  "Pins p are 1 to 8"
 --   blankControl        ==  a spare place: all zeros
 --   emptyTable          ==  the table with no control
 --   at t p              ==  what stands at place p of the table t
@@ -25,9 +24,6 @@ use Rattle.table.specs.declared.Sense.the-variants.{Unknown, YesNo, Rang
 
 abbrev pub mostControls : ℕ
 mostControls = 128
-
-abbrev pub mostPins : ℕ
-mostPins = 8
 
 abbrev pub blankControl : Control
 blankControl =

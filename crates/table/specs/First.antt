@@ -3,7 +3,11 @@
 --   places t            ==  how many places of the table hold a control: "over 128" of them are no table's
 --   foundIn t u ch s    ==  where the control of unit u, channel ch and selector s first stands
 --   unitIn t u          ==  u is a "unit with controls"
---   lookedUp t u ch s   ==  both at once
+--   isSome f            ==  there is one
+--   sawUnit seen u c    ==  a control of the unit u was seen, c among them; missingBy seen: what is then missing
+--   lookupBy f seen     ==  the two answers in one
+--   lookedUp t u ch s   ==  where the control stands, and else whether its unit has controls
+--   lookupNumber l      ==  the paper's number for each case: 33 "no unit with controls", 34 "no such control", 0 where it stands
 use Prim.Native.Nat.{ℕ, zero, suc, min}
 use mathlib.Core.Bool.{Bool, true, false, _||_}
 use lib.Dec.{eqb}
@@ -46,3 +50,8 @@ lookupBy (At p) seen = lookup.At p
 
 unfoldable pub lookedUp : Table → ℕ → ℕ → ℕ → Lookup
 lookedUp t u ch s = lookupBy (foundIn t u ch s) (unitIn t u)
+
+abbrev pub lookupNumber : Lookup → ℕ
+lookupNumber lookup.NoUnit = 33
+lookupNumber lookup.NoControl = 34
+lookupNumber (lookup.At p) = 0

@@ -3,12 +3,13 @@
 --   some-on                           ==  the same of whether there is such a place
 --   FirstAt f k i p                   ==  p is the first of the k places from i on where f holds
 --   first-at, at-first                ==  the search answers At p exactly there
---   first-none, none-first            ==  it answers Nothing exactly where f holds at none of them
+--   NoneOf f k i                      ==  f holds at none of the k places from i on
+--   first-none, none-first            ==  the search answers Nothing exactly there
 --   first-same                        ==  tests that agree at these places have the same first place
 use Prim.Native.Nat.{ℕ, zero, suc, _+_, _-_, _≤_, _<_}
 use mathlib.Core.Path.{_≡_, refl, sym, ap, _∙_}
 use mathlib.Core.Bool.{Bool, true, false, _||_}
-use mathlib.Core.Logic.{_⊎_, ⊎-elim}
+use mathlib.Core.Logic.{⊎-elim}
 use native.Mathlib.Numerals.{add-one}
 use native.Mathlib.Omega.{arith}
 use lib.Dec.{eqb}

@@ -1,8 +1,9 @@
 -- A table as it is made, before any load: "spare places, and numbers not yet loaded or that a control does not use, are zero.
 -- Yes/no .. at first 0 .. A Selector's value is a pin, at first 1." Refusal 30 has nothing against such a table.
---   Unused c      ==  MIN, MAX and RES are zero
+--   Unused c      ==  nothing is loaded, and MIN, MAX and RES are zero
+--   FreshZero c, FreshPin c ==  a yes/no or a ranged control, and a Selector's, as they are made
 --   FreshAs k c   ==  a control that holds k, as it is made
---   Fresh t       ==  a table whose controls are as they are made: no more than 128, none twice
+--   Fresh t       ==  a table whose controls are as they are made, no more than 128 and none twice, and whose other places are spare
 --   fresh-sound   ==  30 has nothing against it
 --   fresh-passes, empty-passes  ==  so the test lets it pass
 use Prim.Native.Nat.{ℕ, _≤_, _<_}
@@ -10,44 +11,44 @@ use mathlib.Core.Path.{_≡_, sym, _∙_}
 use mathlib.Core.Bool.{true, false}
 use native.Mathlib.Omega.{arith}
 use Rattle.ground.specs.Pick.{shows, true≠false}
+use Rattle.layout.specs.Layout.{Pins}
 use Rattle.table.specs.declared.Control.{Control}
 use Rattle.table.specs.declared.Table.{Table}
 use Rattle.table.specs.declared.Sense.{Sense}
 use Rattle.table.specs.declared.Sense.the-variants.{Unknown, YesNo, Ranged, Pin}
-use Rattle.table.specs.Controls.{mostControls, mostPins, emptyTable, at, senseOf}
+use Rattle.table.specs.Controls.{mostControls, blankControl, emptyTable, at, senseOf}
 use Rattle.table.specs.Sound.{soundOf}
 use Rattle.table.specs.Meaning.{Narrow, Same, SoundAs, Sound, sound-reads, sound-empty}
 
 pub record Unused (c : Control) : Type 0 where
+  pub unloaded : c .loaded ≡ false
   pub min : c .min ≡ 0
   pub max : c .max ≡ 0
   pub res : c .res ≡ 0
 
-pub record FreshYesNo (c : Control) : Type 0 where
+pub record FreshZero (c : Control) : Type 0 where
   pub channel : c .channel ≤ 16
+  pub pins : c .pins ≡ 0
   pub unused : Unused c
-  pub off : c .cur ≡ 0
-
-pub record FreshRanged (c : Control) : Type 0 where
-  pub channel : c .channel ≤ 16
-  pub unloaded : c .loaded ≡ false
+  pub first : c .cur ≡ 0
 
 pub record FreshPin (c : Control) : Type 0 where
   pub channel : c .channel ≡ 0
-  pub pins : (1 ≤ c .pins) × (c .pins ≤ mostPins)
+  pub pins : Pins (c .pins)
   pub unused : Unused c
   pub first : c .cur ≡ 1
 
 abbrev pub FreshAs : Sense → Control → Type 0
 FreshAs Unknown c = ⊥
-FreshAs YesNo c = FreshYesNo c
-FreshAs (Ranged s) c = FreshRanged c
+FreshAs YesNo c = FreshZero c
+FreshAs (Ranged s) c = FreshZero c
 FreshAs Pin c = FreshPin c
 
 pub record Fresh (t : Table) : Type 0 where
   pub few : t .count ≤ mostControls
   pub once : (p q : ℕ) → p < q → q < t .count → Same (at t p) (at t q) → ⊥
   pub each : (p : ℕ) → p < t .count → FreshAs (senseOf (at t p .selector)) (at t p)
+  pub spare : (p : ℕ) → t .count ≤ p → at t p ≡ blankControl
 
 unused-narrow : (c : Control) → Unused c → c .cur ≤ 1 → Narrow c
 unused-narrow c u h =
@@ -59,9 +60,9 @@ unused-narrow c u h =
 fresh-as : (k : Sense) (c : Control) → FreshAs k c → SoundAs k c
 fresh-as Unknown c h = h
 fresh-as YesNo c h =
-    let e = h .off in
+    let e = h .first in
     record { channel = h .channel; narrow = unused-narrow c (h .unused) (omega arith); setting = omega arith }
-fresh-as (Ranged s) c h = record { channel = h .channel; loaded = λ e. absurd (true≠false (sym e ∙ h .unloaded)) }
+fresh-as (Ranged s) c h = record { channel = h .channel; loaded = λ e. absurd (true≠false (sym e ∙ h .unused .unloaded)) }
 fresh-as Pin c h =
     let e = h .first in
     let p = h .pins in

@@ -5,26 +5,31 @@
 --   Narrow c        ==  no number of the control is too wide for one byte
 --   SoundYesNo c    ==  what 30 asks of a yes/no control
 --   SoundPin c      ==  what it asks of a Selector's
---   SoundLoaded s c ==  what it asks of a loaded control of sort s
+--   SoundLoaded s c ==  what it asks of a loaded control of sort s: a legal range, a CUR not too wide, which is silence or available
+--   loaded-legal, loaded-fits, loaded-setting, loaded-tested ==  that, and the three tests that the code makes of it
 --   SoundRanged s c ==  what it asks of a ranged control of sort s, loaded or not
 --   SoundAs k c     ==  what it asks of a control that holds k
 --   Same a b        ==  two places hold one control
+--   answers-same    ==  the search's test of a place decides that
 --   Sound t         ==  30 has nothing against the table
+--   sound-control   ==  the test of one control decides what it asks of that control
 --   sound-reads     ==  the test holds exactly there
 --   sound-empty     ==  the empty table is one
---   found-unit      ==  the unit of a control that is found is a unit with controls
 --   sound-counted   ==  each control of such a table stands in the array
-use Prim.Native.Nat.{ℕ, _-_, _≤_, _<_, min}
+use Prim.Native.Nat.{ℕ, _≤_, _<_, min}
 use mathlib.Core.Path.{_≡_, refl, sym, ap, _∙_}
-use mathlib.Core.Bool.{Bool, true, false, not, _&&_, _||_}
+use mathlib.Core.Bool.{Bool, true, not, _&&_}
 use mathlib.Core.Logic.{_⊎_, ⊎-elim}
 use native.Mathlib.Omega.{arith}
-use lib.Dec.{eqb, leb}
+use lib.Dec.{leb}
 use lib.ListN.{length, List·getD-eq-default}
 use borrow.Author.Tests.{not-false, eqb-true}
-use Rattle.ground.specs.Pick.{true≠false, Reads, shows, refutes, decided, reads-eq, reads-le, reads-and}
-use Rattle.setting.specs.Setting.{fitsOf, legalOf, availableOf}
-use Rattle.setting.specs.Legal.{reads-itself}
+use Rattle.ground.specs.Pick.{true≠false, Reads, shows, refutes, decided, reads-same, reads-true, reads-eq, reads-le, reads-and, reads-implies}
+use Rattle.layout.specs.Layout.{Pins}
+use Rattle.setting.specs.Setting.{spanOf, fitsOf, legalOf, availableOf}
+use Rattle.setting.specs.Meaning.{value, Legal, Available, Silence}
+use Rattle.setting.specs.Legal.{fits-reads, legal-means}
+use Rattle.setting.specs.Available.{available-means}
 use Rattle.setting.specs.declared.Sort.{Sort}
 use Rattle.table.specs.declared.Control.{Control}
 use Rattle.table.specs.declared.Table.{Table}
@@ -32,9 +37,9 @@ use Rattle.table.specs.declared.Sense.{Sense}
 use Rattle.table.specs.declared.Sense.the-variants.{Unknown, YesNo, Ranged, Pin}
 use Rattle.table.specs.declared.Found.{Found}
 use Rattle.table.specs.declared.Found.the-variants.{Nothing, At}
-use Rattle.table.specs.Controls.{mostControls, mostPins, blankControl, emptyTable, at, senseOf, rangeOf, answersTo}
-use Rattle.table.specs.First.{firstFrom, isSome, places, foundIn, unitIn}
-use Rattle.table.specs.FirstLaws.{FirstAt, first-none, none-first, first-at, at-first}
+use Rattle.table.specs.Controls.{mostControls, blankControl, emptyTable, at, senseOf, rangeOf, answersTo}
+use Rattle.table.specs.First.{firstFrom, isSome, places, foundIn}
+use Rattle.table.specs.FirstLaws.{first-none, none-first, first-at, at-first}
 use Rattle.table.specs.Sound.{narrowOf, soundYesNo, soundPin, soundRanged, soundBy, soundControl, isAt, firstThere, soundPlace, soundOf}
 
 pub record Narrow (c : Control) : Type 0 where
@@ -50,14 +55,14 @@ pub record SoundYesNo (c : Control) : Type 0 where
 
 pub record SoundPin (c : Control) : Type 0 where
   pub channel : c .channel ≡ 0
-  pub pins : (1 ≤ c .pins) × (c .pins ≤ mostPins)
+  pub pins : Pins (c .pins)
   pub narrow : Narrow c
   pub setting : (1 ≤ c .cur) × (c .cur ≤ c .pins)
 
 pub record SoundLoaded (s : Sort) (c : Control) : Type 0 where
-  pub legal : legalOf s (rangeOf c) ≡ true
-  pub fits : fitsOf s (c .cur) ≡ true
-  pub setting : availableOf s (rangeOf c) (c .cur) ≡ true
+  pub legal : Legal s (rangeOf c)
+  pub fits : c .cur < spanOf s
+  pub setting : Silence s (value s (c .cur)) ⊎ Available s (rangeOf c) (value s (c .cur))
 
 pub record SoundRanged (s : Sort) (c : Control) : Type 0 where
   pub channel : c .channel ≤ 16
@@ -79,55 +84,62 @@ pub record Sound (t : Table) : Type 0 where
   pub once : (p q : ℕ) → p < q → q < t .count → Same (at t p) (at t q) → ⊥
   pub each : (p : ℕ) → p < t .count → SoundAs (senseOf (at t p .selector)) (at t p)
 
--- a test that decides one statement decides another that says the same
-restated : {P Q : Type 0} {b : Bool} → (P → Q) → (Q → P) → Reads b P → Reads b Q
-restated f g r = record { says = λ e. f (r .says e); denies = λ e q. r .denies e (g q) }
+-- what 30 asks of a loaded control, and the tests that the code makes of it
+module _ (s : Sort) (c : Control) where
+  module _ (h : SoundLoaded s c) where
+    pub loaded-legal : legalOf s (rangeOf c) ≡ true
+    loaded-legal = shows (legal-means s (rangeOf c)) (h .legal)
 
-reads-if : {P : Type 0} (a b : Bool) → Reads b P → Reads (not a || b) (a ≡ true → P)
-reads-if true b r = record { says = λ e h. r .says e; denies = λ e h. r .denies e (h refl) }
-reads-if false b r = record { says = λ e h. absurd (true≠false (sym h)); denies = λ e. absurd (true≠false e) }
+    pub loaded-fits : fitsOf s (c .cur) ≡ true
+    loaded-fits = shows (fits-reads s (c .cur)) (h .fits)
+
+    pub loaded-setting : availableOf s (rangeOf c) (c .cur) ≡ true
+    loaded-setting = shows (available-means s (rangeOf c) loaded-legal (c .cur)) (h .fits, h .setting)
+
+  pub loaded-tested : legalOf s (rangeOf c) ≡ true → fitsOf s (c .cur) ≡ true → availableOf s (rangeOf c) (c .cur) ≡ true → SoundLoaded s c
+  loaded-tested l f a = record {
+    legal = legal-means s (rangeOf c) .says l;
+    fits = fits-reads s (c .cur) .says f;
+    setting = available-means s (rangeOf c) l (c .cur) .says a .1;
+  }
 
 module _ (c : Control) where
   reads-narrow : Reads (narrowOf c) (Narrow c)
   unfolding narrowOf
   reads-narrow =
-      restated
+      reads-same (reads-and _ _ (reads-le _ _) (reads-and _ _ (reads-le _ _) (reads-and _ _ (reads-le _ _) (reads-le _ _))))
       (λ h. record { min = h .0; max = h .1 .0; res = h .1 .1 .0; cur = h .1 .1 .1 })
       (λ h. (h .min, (h .max, (h .res, h .cur))))
-      (reads-and _ _ (reads-le _ _) (reads-and _ _ (reads-le _ _) (reads-and _ _ (reads-le _ _) (reads-le _ _))))
 
   reads-yes-no : Reads (soundYesNo c) (SoundYesNo c)
   unfolding soundYesNo
   reads-yes-no =
-      restated
+      reads-same (reads-and _ _ (reads-le _ _) (reads-and _ _ reads-narrow (reads-le _ _)))
       (λ h. record { channel = h .0; narrow = h .1 .0; setting = h .1 .1 })
       (λ h. (h .channel, (h .narrow, h .setting)))
-      (reads-and _ _ (reads-le _ _) (reads-and _ _ reads-narrow (reads-le _ _)))
 
   reads-pin : Reads (soundPin c) (SoundPin c)
   unfolding soundPin
   reads-pin =
-      restated
-      (λ h. record { channel = h .0; pins = (h .1 .0, h .1 .1 .0); narrow = h .1 .1 .1 .0; setting = h .1 .1 .1 .1 })
-      (λ h. (h .channel, (h .pins .0, (h .pins .1, (h .narrow, h .setting)))))
+      reads-same
       (reads-and _ _ (reads-eq _ _)
       (reads-and _ _ (reads-le _ _)
       (reads-and _ _ (reads-le _ _) (reads-and _ _ reads-narrow (reads-and _ _ (reads-le _ _) (reads-le _ _))))))
+      (λ h. record { channel = h .0; pins = (h .1 .0, h .1 .1 .0); narrow = h .1 .1 .1 .0; setting = h .1 .1 .1 .1 })
+      (λ h. (h .channel, (h .pins .0, (h .pins .1, (h .narrow, h .setting)))))
 
   reads-loaded : (s : Sort) → Reads (legalOf s (rangeOf c) && (fitsOf s (c .cur) && availableOf s (rangeOf c) (c .cur))) (SoundLoaded s c)
   reads-loaded s =
-      restated
-      (λ h. record { legal = h .0; fits = h .1 .0; setting = h .1 .1 })
-      (λ h. (h .legal, (h .fits, h .setting)))
-      (reads-and _ _ (reads-itself _) (reads-and _ _ (reads-itself _) (reads-itself _)))
+      reads-same (reads-and _ _ (reads-true _) (reads-and _ _ (reads-true _) (reads-true _)))
+      (λ h. loaded-tested s c (h .0) (h .1 .0) (h .1 .1))
+      (λ h. (loaded-legal s c h, (loaded-fits s c h, loaded-setting s c h)))
 
   reads-ranged : (s : Sort) → Reads (soundRanged s c) (SoundRanged s c)
   unfolding soundRanged
   reads-ranged s =
-      restated
+      reads-same (reads-and _ _ (reads-le _ _) (reads-implies _ _ (reads-true _) (reads-loaded s)))
       (λ h. record { channel = h .0; loaded = h .1 })
       (λ h. (h .channel, h .loaded))
-      (reads-and _ _ (reads-le _ _) (reads-if _ _ (reads-loaded s)))
 
   reads-as : (k : Sense) → Reads (soundBy k c) (SoundAs k c)
   unfolding soundBy
@@ -141,13 +153,12 @@ module _ (c : Control) where
   sound-control = reads-as (senseOf (c .selector))
 
 -- a control answers to another's unit, channel and selector exactly where the two are the same
-pub reads-same : (a b : Control) → Reads (answersTo (b .unit) (b .channel) (b .selector) a) (Same a b)
+pub answers-same : (a b : Control) → Reads (answersTo (b .unit) (b .channel) (b .selector) a) (Same a b)
 unfolding answersTo
-reads-same a b =
-    restated
+answers-same a b =
+    reads-same (reads-and _ _ (reads-eq _ _) (reads-and _ _ (reads-eq _ _) (reads-eq _ _)))
     (λ h. record { unit = h .0; channel = h .1 .0; selector = h .1 .1 })
     (λ h. (h .unit, (h .channel, h .selector)))
-    (reads-and _ _ (reads-eq _ _) (reads-and _ _ (reads-eq _ _) (reads-eq _ _)))
 
 -- "every place passes" is that the search finds none that does not
 reads-every : (f : ℕ → Bool) (n : ℕ) → Reads (not (isSome (firstFrom (λ p. not (f p)) n 0))) ((p : ℕ) → p < n → f p ≡ true)
@@ -175,7 +186,7 @@ module _ (t : Table) (few : t .count ≤ mostControls) where
       alone Nothing e h q m = absurd (true≠false (sym h))
       alone (At r) e h q m =
           let k = eqb-true r p h in
-          reads-same (at t q) (at t p) .denies (first-at twin (places t) 0 r e .before q (omega arith) (omega arith))
+          answers-same (at t q) (at t p) .denies (first-at twin (places t) 0 r e .before q (omega arith) (omega arith))
 
       itself : Same (at t p) (at t p)
       itself = record { unit = refl; channel = refl; selector = refl }
@@ -187,8 +198,8 @@ module _ (t : Table) (few : t .count ≤ mostControls) where
           (record {
             from = omega arith;
             inside = omega arith;
-            holds = shows (reads-same (at t p) (at t p)) itself;
-            before = λ j n m. refutes (reads-same (at t j) (at t p)) (h j m);
+            holds = shows (answers-same (at t p) (at t p)) itself;
+            before = λ j n m. refutes (answers-same (at t j) (at t p)) (h j m);
           }))
           ∙ shows (reads-eq p p) refl
 
@@ -200,14 +211,13 @@ module _ (t : Table) (few : t .count ≤ mostControls) where
 pub sound-reads : (t : Table) → Reads (soundOf t) (Sound t)
 unfolding soundOf
 sound-reads t =
-    restated
+    reads-same (reads-and _ _ (reads-le _ _) (reads-every (soundPlace t) (t .count)))
     (λ h. record {
       few = h .0;
       once = λ p q l m. reads-place t (h .0) q m .says (h .1 q m) .1 p l;
       each = λ p l. reads-place t (h .0) p l .says (h .1 p l) .0;
     })
     (λ h. (h .few, λ p l. shows (reads-place t (h .few) p l) (h .each p l, λ q m. h .once q p m l)))
-    (reads-and _ _ (reads-le _ _) (reads-every (soundPlace t) (t .count)))
 
 pub sound-empty : Sound emptyTable
 sound-empty = record { few = omega arith; once = λ p q l m. absurd (omega arith); each = λ p l. absurd (omega arith) }
@@ -223,21 +233,3 @@ sound-counted t h p l = ⊎-elim (λ (k : length (t .controls) ≤ p). absurd (p
         let s : SoundPin blankControl = rw e at (h .each p l) in
         let n = s .pins .0 in
         omega arith
-
--- the unit of a control that is found has a control
-pub found-unit : (t : Table) (u ch s p : ℕ) → foundIn t u ch s ≡ At p → unitIn t u ≡ true
-unfolding foundIn unitIn answersTo
-found-unit t u ch s p e = go (firstFrom owned (places t) 0) refl
-  where
-    owned : ℕ → Bool
-    owned q = eqb (at t q .unit) u
-
-    a : FirstAt (λ q. answersTo u ch s (at t q)) (places t) 0 p
-    a = first-at _ (places t) 0 p e
-
-    mine : owned p ≡ true
-    mine = reads-and (eqb (at t p .unit) u) _ (reads-itself _) (reads-itself _) .says (a .holds) .0
-
-    go : (x : Found) → firstFrom owned (places t) 0 ≡ x → isSome (firstFrom owned (places t) 0) ≡ true
-    go (At q) h = ap isSome h
-    go Nothing h = absurd (true≠false (sym mine ∙ first-none owned (places t) 0 h p (a .from) (a .inside)))

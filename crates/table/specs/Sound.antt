@@ -3,13 +3,16 @@
 --   soundYesNo c        ==  30 has nothing against the yes/no control c by itself
 --   soundPin c          ==  nor against the Selector's control c
 --   soundRanged s c     ==  nor against the ranged control c of sort s
+--   soundBy k c         ==  nor against the control c, which holds k
 --   soundControl c      ==  nor against the control c, whatever it holds
+--   isAt p f            ==  the search found place p
 --   firstThere t p c    ==  the control c, at place p, stands at no earlier place
 --   soundPlace t p      ==  30 has nothing against the control at place p
 --   soundOf t           ==  30 has nothing against the table
 use Prim.Native.Nat.{ℕ}
 use mathlib.Core.Bool.{Bool, false, not, _&&_, _||_}
 use lib.Dec.{eqb, leb}
+use Rattle.layout.specs.Layout.{mostPins}
 use Rattle.setting.specs.Setting.{fitsOf, legalOf, availableOf}
 use Rattle.setting.specs.declared.Sort.{Sort}
 use Rattle.table.specs.declared.Control.{Control}
@@ -18,7 +21,7 @@ use Rattle.table.specs.declared.Sense.{Sense}
 use Rattle.table.specs.declared.Sense.the-variants.{Unknown, YesNo, Ranged, Pin}
 use Rattle.table.specs.declared.Found.{Found}
 use Rattle.table.specs.declared.Found.the-variants.{Nothing, At}
-use Rattle.table.specs.Controls.{mostControls, mostPins, at, senseOf, rangeOf}
+use Rattle.table.specs.Controls.{mostControls, at, senseOf, rangeOf}
 use Rattle.table.specs.First.{firstFrom, isSome, foundIn}
 
 unfoldable pub narrowOf : Control → Bool

@@ -11,9 +11,6 @@ use setting::Sort;
 // How many controls a table has room for.
 pub const CONTROLS: usize = 128;
 
-// How many pins a Selector may have.
-pub const PINS: u8 = 8;
-
 // One control: which it is (a Selector's has selector 0 and channel 0), how many pins a Selector has, and its numbers, as
 // on the wire: two bytes each, two's complement where the control is signed.
 pub struct Control {
@@ -56,7 +53,7 @@ pub enum Lookup {
 }
 
 // A spare place.
-pub fn blank() -> Control
+fn blank() -> Control
     ensures { λ r. ⌜ r ≡ blankControl ⌝ }
 {
     Control {
@@ -250,7 +247,7 @@ fn sound_pin(control: Control) -> bool
     if control.pins < 1 {
         return false;
     }
-    if PINS < control.pins {
+    if layout::MOST_PINS < control.pins {
         return false;
     }
     if !narrow(control) {

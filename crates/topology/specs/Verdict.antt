@@ -1,4 +1,5 @@
 -- The refusals 10 to 16 in a row, behind those of the cutting layer: what comes behind a row is reached exactly where none of it is given.
+--   connected-chain, rest-chain, run-chain  ==  the rows 10 to 13, 14 to 16 and 10 to 16 are such
 use Prim.Native.Nat.{ℕ}
 use mathlib.Core.List.{List}
 use native.Mathlib.Omega.{arith}

@@ -12,7 +12,8 @@ use lib.Seq.{drop-cons, getD-take}
 use borrow.Author.Tests.{not-true, not-false}
 use Rattle.layout.specs.declared.Cluster.{Cluster}
 use Rattle.graph.specs.Members.{all}
-use Rattle.clusters.specs.Edition.{noCluster, clustersAt}
+use Rattle.layout.specs.Layout.{noCluster}
+use Rattle.clusters.specs.Edition.{clustersAt}
 use Rattle.clusters.specs.Audio.{alike}
 use Rattle.clusters.proofs.all_have.Statement.{statement}
 use Rattle.clusters.proofs.all_have.Tie as tie

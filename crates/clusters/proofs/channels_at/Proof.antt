@@ -5,7 +5,7 @@ use mathlib.Core.Path.{_≡_, ap}
 use mathlib.Core.List.{List}
 use lib.ListN.{getD}
 use Rattle.layout.specs.declared.Cluster.{Cluster}
-use Rattle.clusters.specs.Edition.{noCluster}
+use Rattle.layout.specs.Layout.{noCluster}
 use Rattle.clusters.proofs.channels_at.Statement.{statement}
 use Rattle.clusters.proofs.channels_at.Tie as tie
 

@@ -8,7 +8,8 @@ use native.Mathlib.Numerals.{add-one}
 use lib.ListN.{length, getD, take, drop, length-take, drop-of-length-le}
 use lib.Seq.{drop-cons, getD-take}
 use Rattle.layout.specs.declared.Cluster.{Cluster}
-use Rattle.clusters.specs.Edition.{noCluster, clustersAt}
+use Rattle.layout.specs.Layout.{noCluster}
+use Rattle.clusters.specs.Edition.{clustersAt}
 use Rattle.clusters.specs.Audio.{channelsIn, Entering}
 use Rattle.clusters.proofs.channels_in.Statement.{statement}
 use Rattle.clusters.proofs.channels_in.Tie as tie

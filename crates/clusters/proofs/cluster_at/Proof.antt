@@ -6,7 +6,7 @@ use mathlib.Core.List.{List}
 use native.Mathlib.Omega.{arith}
 use lib.ListN.{length, getD, List·getD-eq-default}
 use Rattle.layout.specs.declared.Cluster.{Cluster}
-use Rattle.clusters.specs.Edition.{noCluster}
+use Rattle.layout.specs.Layout.{noCluster}
 use Rattle.clusters.proofs.cluster_at.Statement.{statement}
 use Rattle.clusters.proofs.cluster_at.Tie as tie
 

@@ -8,7 +8,8 @@ use Rattle.graph.specs.Rounds.{clusterRounds}
 use Rattle.sources.specs.declared.Link.{Link}
 use Rattle.sources.specs.Pins.{linkedTo}
 use Rattle.sources.specs.Lookup.{linksOf}
-use Rattle.clusters.specs.Edition.{noCluster, ruleAt, clustersOf}
+use Rattle.layout.specs.Layout.{noCluster}
+use Rattle.clusters.specs.Edition.{ruleAt, clustersOf}
 use Rattle.clusters.specs.Audio.{audio}
 use Rattle.clusters.proofs.clusters.Statement.{statement}
 use Rattle.clusters.proofs.clusters.Tie as tie

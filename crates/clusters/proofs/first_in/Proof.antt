@@ -6,7 +6,8 @@ use mathlib.Core.List.{List, [], _∷_}
 use native.Mathlib.Omega.{arith}
 use lib.ListN.{length, getD, take}
 use Rattle.layout.specs.declared.Cluster.{Cluster}
-use Rattle.clusters.specs.Edition.{noCluster, clustersAt}
+use Rattle.layout.specs.Layout.{noCluster}
+use Rattle.clusters.specs.Edition.{clustersAt}
 use Rattle.clusters.specs.Audio.{firstOf}
 use Rattle.clusters.proofs.first_in.Statement.{statement}
 use Rattle.clusters.proofs.first_in.Tie as tie

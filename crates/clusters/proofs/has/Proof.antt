@@ -6,7 +6,7 @@ use mathlib.Core.List.{List}
 use lib.Dec.{eqb}
 use lib.ListN.{getD}
 use Rattle.layout.specs.declared.Cluster.{Cluster}
-use Rattle.clusters.specs.Edition.{noCluster}
+use Rattle.layout.specs.Layout.{noCluster}
 use Rattle.clusters.proofs.has.Statement.{statement}
 use Rattle.clusters.proofs.has.Tie as tie
 

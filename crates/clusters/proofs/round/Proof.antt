@@ -12,7 +12,8 @@ use Rattle.graph.specs.Tables.{Filled, filled-none, filled-more, filled-full}
 use Rattle.graph.specs.Rounds.{nextRound, clusterRound}
 use Rattle.sources.specs.declared.Link.{Link}
 use Rattle.sources.specs.Pins.{blankLink, linked, linkedTo}
-use Rattle.clusters.specs.Edition.{noCluster, clustersAt, ruleAt}
+use Rattle.layout.specs.Layout.{noCluster}
+use Rattle.clusters.specs.Edition.{clustersAt, ruleAt}
 use Rattle.clusters.specs.Audio.{firstOf, giveOut, audio}
 use Rattle.clusters.proofs.round.Statement.{statement}
 use Rattle.clusters.proofs.round.Tie as tie

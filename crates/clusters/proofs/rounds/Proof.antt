@@ -10,7 +10,8 @@ use Rattle.graph.specs.Clusters.{entering}
 use Rattle.graph.specs.Rounds.{AtRound, round-none, round-more, round-last}
 use Rattle.sources.specs.declared.Link.{Link}
 use Rattle.sources.specs.Pins.{linkedTo}
-use Rattle.clusters.specs.Edition.{noCluster, ruleAt}
+use Rattle.layout.specs.Layout.{noCluster}
+use Rattle.clusters.specs.Edition.{ruleAt}
 use Rattle.clusters.specs.Audio.{audio}
 use Rattle.clusters.proofs.rounds.Statement.{statement}
 use Rattle.clusters.proofs.rounds.Tie as tie

@@ -1,11 +1,12 @@
 -- No source: eight zeros.
 use borrow.Author.Needs.{needs}
-use Rattle.layout.specs.Sources.{sourcesIn, padded}
+use Rattle.ground.specs.Lists.{pad}
+use Rattle.layout.specs.Sources.{sourcesIn}
 use Rattle.layout.proofs.no_sources.Statement.{statement}
 use Rattle.layout.proofs.no_sources.Tie as tie
 
 returns : tie.Need-returns
-unfolding sourcesIn padded
+unfolding sourcesIn pad
 returns c = search needs
 
 pub no-sources-spec : {M : Type 1} → statement M

@@ -1,62 +1,53 @@
 -- The loop copies the IDs over eight zeros: what it has passed are IDs, the rest is still 00.
 use borrow.Author.Needs.{needs}
 use Prim.Native.Nat.{ℕ, _+_, _-_, _≤_, _<_}
-use mathlib.Core.Path.{_≡_, refl, sym, ap, _∙_}
-use mathlib.Core.List.{List, _++_}
+use mathlib.Core.Path.{_≡_, sym, ap, _∙_}
+use mathlib.Core.List.{List}
 use native.Mathlib.Omega.{arith}
 use native.Mathlib.Numerals.{add-one}
-use lib.ListN.{length, drop, set, getD, replicate}
-use lib.Seq.{paste, paste-suc, length-paste, take-length}
+use lib.ListN.{length, take, set, getD, replicate}
+use lib.Seq.{length-take-le, take-suc, take-length}
+use Rattle.ground.specs.Lists.{pad, pad-length, pad-blank, pad-set}
 use Rattle.layout.specs.Layout.{mostPins}
-use Rattle.layout.specs.Sources.{sourcesIn, padded}
+use Rattle.layout.specs.Sources.{sourcesIn}
 use Rattle.layout.specs.declared.Sources.{Sources}
 use Rattle.layout.proofs.sources_in.Statement.{statement}
 use Rattle.layout.proofs.sources_in.Tie as tie
 
-abbrev blank : List ℕ
-blank = replicate mostPins 0
-
 record Copied (ids places : List ℕ) (i : ℕ) : Type 0 where
   passed : i ≤ length ids
   fits : length ids ≤ mostPins
-  same : places ≡ paste blank 0 ids i
+  same : places ≡ pad 0 mostPins (take i ids)
 
-start : (ids : List ℕ) → length ids ≤ mostPins → Copied ids blank 0
-start ids h = record { passed = omega arith; fits = h; same = refl }
+start : (ids : List ℕ) → length ids ≤ mostPins → Copied ids (replicate mostPins 0) 0
+start ids h = record { passed = omega arith; fits = h; same = pad-blank 0 mostPins }
 
 room : (ids places : List ℕ) (i : ℕ) → Copied ids places i → i < length ids → i < length places
 room ids places i g h =
-    let p = g .passed in
     let f = g .fits in
-    let l : length places ≡ 8 = ap length (g .same) ∙ length-paste blank 0 ids i (omega arith) (omega arith) in
+    let l : length places ≡ mostPins = ap length (g .same) ∙ pad-length 0 mostPins (take i ids) in
     omega arith
 
 on : (ids places : List ℕ) (i : ℕ) → Copied ids places i → i < length ids → Copied ids (set places i (getD ids i 0)) (i + 1)
 on ids places i g h =
-    let p = g .passed in
     let f = g .fits in
-    let z : i ≡ 0 + i = omega arith in
+    let z : length (take i ids) ≡ i = length-take-le i ids (g .passed) in
     record {
       passed = omega arith;
       fits = f;
       same =
           ap (λ (l : List ℕ). set l i (getD ids i 0)) (g .same)
-          ∙ ap (λ (k : ℕ). set (paste blank 0 ids i) k (getD ids i 0)) z
-          ∙ paste-suc blank 0 ids i 0 (omega arith) h
-          ∙ ap (paste blank 0 ids) (sym (add-one i));
+          ∙ ap (λ (k : ℕ). set (pad 0 mostPins (take i ids)) k (getD ids i 0)) (sym z)
+          ∙ pad-set 0 mostPins (take i ids) (getD ids i 0)
+          ∙ ap (pad 0 mostPins) (sym (take-suc ids i 0 h) ∙ ap (λ (k : ℕ). take k ids) (sym (add-one i)));
     }
 
 over : (ids places : List ℕ) (i : ℕ) → Copied ids places i → length ids ≤ i → _≡_ {A = Sources} (record { pins = i; ids = places }) (sourcesIn ids)
-unfolding sourcesIn padded
+unfolding sourcesIn
 over ids places i g h =
     let p = g .passed in
     let e : i ≡ length ids = omega arith in
-    let z : 0 + length ids ≡ length ids = omega arith in
-    let s : places ≡ ids ++ drop (length ids) blank =
-    g .same
-    ∙ ap (paste blank 0 ids) e
-    ∙ ap (λ (l : List ℕ). l ++ drop (0 + length ids) blank) (take-length ids)
-    ∙ ap (λ (k : ℕ). ids ++ drop k blank) z in
+    let s : places ≡ pad 0 mostPins ids = g .same ∙ ap (pad 0 mostPins) (ap (λ (k : ℕ). take k ids) e ∙ take-length ids) in
     rw (s, e)
 
 ruleset laws = (start, room, on, over, needs)

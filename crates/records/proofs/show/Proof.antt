@@ -13,10 +13,11 @@ use mir.Syntax.{w64}
 use borrow.Author.Tests.{not-true, not-false, leb-true, le-leb}
 use Rattle.ground.specs.Pick.{yes, no}
 use Rattle.layout.specs.declared.Cluster.{Cluster}
+use Rattle.layout.specs.Layout.{noCluster}
 use Rattle.entities.specs.declared.Node.{Node}
 use Rattle.entities.specs.declared.Run.{Run}
 use Rattle.entities.specs.Run.{held, nodeAt}
-use Rattle.records.specs.Records.{blankCluster, recordOf, recordsTo, roomFor, shownIn}
+use Rattle.records.specs.Records.{recordOf, recordsTo, roomFor, shownIn}
 use Rattle.records.proofs.show.Statement.{statement}
 use Rattle.records.proofs.show.Tie as tie
 
@@ -55,21 +56,21 @@ grown p d b at l m =
     ∙ ap (λ (x : List ℕ). p ++ x ++ drop (at + 16) (p ++ drop at d)) (take-all 16 b (omega arith))
     ∙ ap (λ (x : List ℕ). p ++ b ++ x) (sym (drop-drop 16 at (p ++ drop at d)) ∙ ap (drop 16) (drop-at p (drop at d) at l) ∙ drop-drop 16 at d)
 
-on : (run : Run) (cs : List Cluster) (d s t : List ℕ) (n i : ℕ) (v : Node) → Shown run cs d s n i → i < n → v ≡ nodeAt run i → (t ≡ paste s (i * 16) (recordOf v (getD cs i blankCluster)) 16) × (length (recordOf v (getD cs i blankCluster)) ≡ 16) → Shown run cs d t n (i + 1)
+on : (run : Run) (cs : List Cluster) (d s t : List ℕ) (n i : ℕ) (v : Node) → Shown run cs d s n i → i < n → v ≡ nodeAt run i → (t ≡ paste s (i * 16) (recordOf v (getD cs i noCluster)) 16) × (length (recordOf v (getD cs i noCluster)) ≡ 16) → Shown run cs d t n (i + 1)
 unfolding recordsTo
 on run cs d s t n i v g h e f =
     let k = g .done in
     let w = f .1 in
     let z : (i + 1) * 16 ≡ i * 16 + 16 = omega arith in
-    let m : length (recordsTo i run cs ++ recordOf (nodeAt run i) (getD cs i blankCluster)) ≡ i * 16 + 16 =
-    length-append (recordsTo i run cs) (recordOf (nodeAt run i) (getD cs i blankCluster)) ∙ (let q : length (recordOf (nodeAt run i) (getD cs i blankCluster)) ≡ 16 = ap (λ (x : Node). length (recordOf x (getD cs i blankCluster))) (sym e) ∙ w in omega arith) in
+    let m : length (recordsTo i run cs ++ recordOf (nodeAt run i) (getD cs i noCluster)) ≡ i * 16 + 16 =
+    length-append (recordsTo i run cs) (recordOf (nodeAt run i) (getD cs i noCluster)) ∙ (let q : length (recordOf (nodeAt run i) (getD cs i noCluster)) ≡ 16 = ap (λ (x : Node). length (recordOf x (getD cs i noCluster))) (sym e) ∙ w in omega arith) in
     record {
       low = omega arith;
       few = g .few;
       told = g .told;
       room = g .room;
       done = rw add-one (m ∙ (let y : i * 16 + 16 ≡ suc i * 16 = omega arith in y));
-      same = f .0 ∙ ap (λ (x : List ℕ). paste x (i * 16) (recordOf v (getD cs i blankCluster)) 16) (g .same) ∙ grown (recordsTo i run cs) d (recordOf v (getD cs i blankCluster)) (i * 16) k w ∙ rw (e, add-one) (ap (λ (j : ℕ). recordsTo i run cs ++ recordOf (nodeAt run i) (getD cs i blankCluster) ++ drop j d) (let y : i * 16 + 16 ≡ suc i * 16 = omega arith in y));
+      same = f .0 ∙ ap (λ (x : List ℕ). paste x (i * 16) (recordOf v (getD cs i noCluster)) 16) (g .same) ∙ grown (recordsTo i run cs) d (recordOf v (getD cs i noCluster)) (i * 16) k w ∙ rw (e, add-one) (ap (λ (j : ℕ). recordsTo i run cs ++ recordOf (nodeAt run i) (getD cs i noCluster) ++ drop j d) (let y : i * 16 + 16 ≡ suc i * 16 = omega arith in y));
     }
 
 over : (run : Run) (cs : List Cluster) (d s : List ℕ) (n i : ℕ) → Shown run cs d s n i → n ≤ i → s ≡ shownIn run cs d

@@ -1,4 +1,4 @@
--- GENERAL, then what its link leads to, then that Terminal's type, then FORMAT_TYPE.
+-- GENERAL, then the Terminal that bears the ID at its byte 3, then that Terminal's type, then FORMAT_TYPE.
 use borrow.Author.Needs.{needs}
 use Prim.Native.Nat.{ℕ}
 use mathlib.Core.Path.{_≡_, refl, sym, ap, _∙_}
@@ -6,10 +6,10 @@ use mathlib.Core.Bool.{Bool, true, false, not, _&&_}
 use mathlib.Core.List.{List}
 use borrow.Author.Tests.{eq-eqb, ne-eqb, not-true, not-false}
 use Rattle.ground.specs.Numbers.{byte, word}
-use Rattle.streaming.specs.declared.Link.{Link}
-use Rattle.streaming.specs.declared.Link.the-variants as link
-use Rattle.streaming.specs.Terminals.{Terminal, linkedTo}
-use Rattle.streaming.specs.Tests.{isGeneral, formatRight, linkRight, describedBy}
+use Rattle.streaming.specs.declared.Bearer.{Bearer}
+use Rattle.streaming.specs.declared.Bearer.the-variants as bearer
+use Rattle.streaming.specs.Terminals.{Terminal, bearerIn}
+use Rattle.streaming.specs.Tests.{isGeneral, formatRight, bearerRight, describedBy}
 use Rattle.streaming.proofs.described_by.Statement.{statement}
 use Rattle.streaming.proofs.described_by.Tie as tie
 
@@ -18,23 +18,23 @@ module _ (ts : List Terminal) (g f : List ℕ) (a : Bool) (e : a ≡ isGeneral g
   unfolding describedBy
   no-general h = simp (sym e ∙ not-true a h)
 
-  module _ (h : not a ≡ false) (id : ℕ) (k : id ≡ byte g 3) (l : Link) (m : l ≡ linkedTo id ts) where
-    by-link : (x : Link) → l ≡ x → describedBy ts g f ≡ linkRight x g f
+  module _ (h : not a ≡ false) (id : ℕ) (k : id ≡ byte g 3) (l : Bearer) (m : l ≡ bearerIn id ts) where
+    by-bearer : (x : Bearer) → l ≡ x → describedBy ts g f ≡ bearerRight x g f
     unfolding describedBy
-    by-link x q = rw (sym e ∙ not-false a h, ← k, ← m, q) refl
+    by-bearer x q = rw (sym e ∙ not-false a h, ← k, ← m, q) refl
 
-    no-terminal : l ≡ link.Nothing → false ≡ describedBy ts g f
-    unfolding linkRight
-    no-terminal q = sym (by-link link.Nothing q)
+    no-terminal : l ≡ bearer.Nothing → false ≡ describedBy ts g f
+    unfolding bearerRight
+    no-terminal q = sym (by-bearer bearer.Nothing q)
 
-    module _ (t c : ℕ) (q : l ≡ link.Terminal t c) where
+    module _ (t c : ℕ) (q : l ≡ bearer.Terminal t c) where
       other-kind : (t ≡ 0x0101 → ⊥) → false ≡ describedBy ts g f
-      unfolding linkRight
-      other-kind n = sym (by-link (link.Terminal t c) q ∙ ap (λ (b : Bool). b && formatRight (word g 5) c f) (ne-eqb t 0x0101 n))
+      unfolding bearerRight
+      other-kind n = sym (by-bearer (bearer.Terminal t c) q ∙ ap (λ (b : Bool). b && formatRight (word g 5) c f) (ne-eqb t 0x0101 n))
 
       by-format : t ≡ 0x0101 → (tag : ℕ) → tag ≡ word g 5 → (r : Bool) → r ≡ formatRight tag c f → r ≡ describedBy ts g f
-      unfolding linkRight
-      by-format n tag o r p = p ∙ ap (λ (x : ℕ). formatRight x c f) o ∙ sym (by-link (link.Terminal t c) q ∙ ap (λ (b : Bool). b && formatRight (word g 5) c f) (eq-eqb t 0x0101 n))
+      unfolding bearerRight
+      by-format n tag o r p = p ∙ ap (λ (x : ℕ). formatRight x c f) o ∙ sym (by-bearer (bearer.Terminal t c) q ∙ ap (λ (b : Bool). b && formatRight (word g 5) c f) (eq-eqb t 0x0101 n))
 
 ruleset laws = (no-general, no-terminal, other-kind, by-format, needs)
 
@@ -47,8 +47,8 @@ returns c = search laws
 byte-at-requires : tie.Need-byte-at-requires
 byte-at-requires c κs = search laws
 
-linked-requires : tie.Need-linked-requires
-linked-requires c κs = search laws
+bearer-in-requires : tie.Need-bearer-in-requires
+bearer-in-requires c κs = search laws
 
 enum-known-kind : tie.Need-enum-known-kind
 enum-known-kind c = search laws
@@ -78,7 +78,7 @@ described-by-spec =
     is-general-requires
     returns
     byte-at-requires
-    linked-requires
+    bearer-in-requires
     enum-known-kind
     enum-told
     returns-2

@@ -7,7 +7,7 @@ use mathlib.Core.Bool.{Bool, true, false, not}
 use lib.Dec.{leb}
 use borrow.Author.Tests.{le-leb, lt-leb, eq-eqb, ne-eqb, not-true, not-false}
 use Rattle.table.specs.declared.Control.{Control}
-use Rattle.table.specs.Controls.{mostPins}
+use Rattle.layout.specs.Layout.{mostPins}
 use Rattle.table.specs.Sound.{narrowOf, soundPin}
 use Rattle.table.proofs.sound_pin.Statement.{statement}
 use Rattle.table.proofs.sound_pin.Tie as tie
