@@ -19,6 +19,7 @@ mod controls;
 mod cut;
 mod entity;
 mod generator;
+mod lend;
 mod numbers;
 mod reader;
 mod relay;
@@ -57,6 +58,7 @@ fn main() -> ExitCode {
 fn run(words: &[&str]) -> Result<Vec<u8>, String> {
     match words {
         ["sheet"] => Ok(sheet::program(&input()?).into_bytes()),
+        ["lend"] => Ok(lend::program(&input()?).into_bytes()),
         ["relay"] => Ok(relay::program(&input()?).into_bytes()),
         ["vectors", dir] => write_vectors(dir, false),
         ["vectors", dir, "--report"] => write_vectors(dir, true),

@@ -5,11 +5,13 @@ use std::path::Path;
 
 use super::build::{case_a, microphone, telephone, Telephone};
 use super::configs::{self, desk};
+use super::lent::{self, lent_bytes, Lent};
 use super::random;
 use super::rng::Rng;
 use super::script::{step_bytes, Reach, Script};
 use super::steps;
-use crate::numbers::{CONFIGURATION_MOST, CONTROLS, STEP};
+use crate::lend;
+use crate::numbers::{CONFIGURATION_MOST, CONTROLS, LENT, STEP};
 use crate::relay::{self, LOAD, PLUG_IN, PUT, REQUEST, SHOW};
 use crate::sheet;
 use crate::ways::Way;
@@ -39,8 +41,10 @@ pub struct Run {
 pub struct Vectors {
     /// The runs.
     pub runs: Vec<Run>,
-    /// What the relay runs reach.
+    /// What the runs of many steps reach.
     pub reach: Reach,
+    /// The steps of `lend`.
+    lent: Lent,
     /// Configurations made on purpose.
     pub named_configurations: usize,
     /// Steps made on purpose.
@@ -59,8 +63,19 @@ pub fn make() -> Vectors {
         let name = name.to_string();
         runs.push(Run { name, stdin: script.bytes, stdout: script.printed });
     }
+    let examples: Vec<&[u8]> =
+        runs.iter().filter(|run| run.name.starts_with("sheet")).map(|run| &run.stdin[..]).collect();
+    let lent = lent::all(SEED + 3, &examples);
+    assert_eq!(lend::program(&lent.bytes), lent.printed);
+    reach.add(&lent.reach);
+    runs.push(Run {
+        name: "lend_steps".to_string(),
+        stdin: lent.bytes.clone(),
+        stdout: lent.printed.clone(),
+    });
     runs.extend(bad_steps());
-    Vectors { runs, reach, named_configurations: configs::all().len(), named_steps }
+    runs.extend(bad_lent_steps());
+    Vectors { runs, reach, lent, named_configurations: configs::all().len(), named_steps }
 }
 
 /// Every configuration made on purpose, with its answer held to what is written there, and more at
@@ -182,14 +197,36 @@ fn bad_steps() -> Vec<Run> {
     ends.into_iter().map(run).collect()
 }
 
+/// Runs of `lend` that end in what is no step: each way of it once, after a good step.
+fn bad_lent_steps() -> Vec<Run> {
+    let good = lent_bytes(49, &case_a());
+    let ends = [
+        ("long_sheet", lent_bytes(LENT + 1, &case_a())),
+        ("longest_sheet", lent_bytes(0xFFFF, &case_a())),
+        ("long", lent_bytes(49, &[0; STEP + 1])),
+        ("ends_in_m", good[..1].to_vec()),
+        ("ends_before_n", good[..2].to_vec()),
+        ("ends_in_n", good[..3].to_vec()),
+        ("ends_before_body", good[..4].to_vec()),
+        ("ends_in_body", good[..good.len() - 1].to_vec()),
+    ];
+    let run = |(name, end): (&str, Vec<u8>)| {
+        let after: &[u8] = if name.starts_with("ends") { &[] } else { &good };
+        let stdin = [&good, &end, after].concat();
+        let stdout = lend::program(&stdin);
+        assert_eq!(stdout, lend::program(&good) + "bad step\n", "{name}");
+        Run { name: format!("lend_{name}"), stdin, stdout }
+    };
+    ends.into_iter().map(run).collect()
+}
+
 impl Vectors {
-    /// What the papers name and these vectors do not reach; empty if all is well. Refusal 16 can
-    /// not be reached: both programs lend 512 bytes, which hold 32 records.
+    /// What the papers name and these vectors do not reach; empty if all is well.
     pub fn missing(&self) -> Vec<String> {
         let reached = |way: &Way| self.reach.ways.contains_key(way);
         let mut missing: Vec<String> = Way::ALL
             .iter()
-            .filter(|&way| *way != Way::SheetShort && !reached(way))
+            .filter(|way| !reached(way))
             .map(|way| format!("{} {}", way.number(), way.words()))
             .collect();
         for word in ["accepted", "loaded", "set", "got", "table", "put"] {
@@ -203,6 +240,7 @@ impl Vectors {
         if self.reach.steps < LEAST.1 {
             missing.push(format!("{} steps at least", LEAST.1));
         }
+        missing.extend(self.lent.missing());
         missing
     }
 
@@ -211,8 +249,7 @@ impl Vectors {
         let mut lines = String::new();
         for way in Way::ALL {
             let count = self.reach.ways.get(way).copied().unwrap_or(0);
-            let note = if *way == Way::SheetShort { " (the programs lend enough)" } else { "" };
-            lines += &format!("{:>4} {count:>6}  {}{note}\n", way.number(), way.words());
+            lines += &format!("{:>4} {count:>6}  {}\n", way.number(), way.words());
         }
         for (word, count) in &self.reach.answers {
             lines += &format!("     {count:>6}  answers `{word}`\n");
@@ -223,6 +260,7 @@ impl Vectors {
             "{} configurations ({} on purpose), {} other steps ({} on purpose)\n",
             reach.configurations, self.named_configurations, reach.steps, self.named_steps
         );
+        lines += &format!("{} configurations with sheets of many lengths\n", reach.lent);
         lines += &format!("{} runs, {bytes} bytes\n", self.runs.len());
         lines
     }
