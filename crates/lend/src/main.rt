@@ -14,7 +14,7 @@ const BODY: usize = 8192;
 // The most bytes of a sheet that a step may ask for.
 const SHEET: usize = 1024;
 
-// The byte that the lent sheet is full of. It makes no difference which: what is printed tells every byte.
+// What the lent sheet is full of: no zero, so that a byte that was left is seen apart from one that was cleared.
 const MARK: u8 = 0xAA;
 
 // What a proof needs of a large array is its length, not its bytes.

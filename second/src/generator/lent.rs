@@ -48,7 +48,7 @@ impl Lent {
     /// Adds a step.
     pub fn step(&mut self, m: usize, config: &[u8]) -> Printed {
         let printed = lend::step(m, config);
-        self.starts.push((self.bytes.len(), self.printed.len()));
+        self.starts.push(self.ends());
         self.bytes.extend(lent_bytes(m, config));
         self.printed += &printed.lines;
         self.reach.count_lent(&printed);
@@ -81,6 +81,11 @@ impl Lent {
         let printed = self.step(m, config);
         let lines = format!("refused {} at {place}\nrest {m}\n", way.number());
         assert_eq!((printed.way, printed.lines), (Some(way), lines));
+    }
+
+    /// Where the next step would begin.
+    pub fn ends(&self) -> (usize, usize) {
+        (self.bytes.len(), self.printed.len())
     }
 
     /// What the papers name and these steps do not reach; empty if all is well.

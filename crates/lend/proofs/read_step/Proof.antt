@@ -1,7 +1,6 @@
 -- The configuration's lent front is at most the whole, and comes back as long as it was.
 use borrow.Author.Needs.{needs}
 use Rattle.text.specs.Fronts.{front, same-count, front-inside, front-again, long-enough}
-use borrow.Author.Needs.{needs}
 use Rattle.lend.proofs.read_step.Statement.{statement}
 use Rattle.lend.proofs.read_step.Tie as tie
 

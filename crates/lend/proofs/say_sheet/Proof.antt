@@ -1,7 +1,6 @@
 -- What stands before the marks is a front of the sheet.
 use borrow.Author.Needs.{needs}
 use Rattle.text.specs.Fronts.{front}
-use borrow.Author.Needs.{needs}
 use Rattle.lend.proofs.say_sheet.Statement.{statement}
 use Rattle.lend.proofs.say_sheet.Tie as tie
 

@@ -1,11 +1,10 @@
--- The sheet's lent front is at most the whole, and comes back as long as it was.
+-- The sheet's lent front is at most the whole.
 use borrow.Author.Needs.{needs}
-use Rattle.text.specs.Fronts.{front, same-count, front-inside, front-again, long-enough}
-use borrow.Author.Needs.{needs}
+use Rattle.text.specs.Fronts.{front, long-enough}
 use Rattle.lend.proofs.step.Statement.{statement}
 use Rattle.lend.proofs.step.Tie as tie
 
-ruleset laws = (front, same-count, front-inside, front-again, long-enough, needs)
+ruleset laws = (front, long-enough, needs)
 
 returns : tie.Need-returns
 returns c = search needs
