@@ -37,6 +37,8 @@ pub struct Lent {
     pub starts: Vec<(usize, usize)>,
     /// What was reached.
     pub reach: Reach,
+    /// What was reached on purpose, before anything at random.
+    pub named: Reach,
     /// Clauses met with a sheet that holds no record, and with one that holds 32.
     none: BTreeSet<Way>,
     full: BTreeSet<Way>,
@@ -127,14 +129,15 @@ pub fn all(seed: u64, examples: &[&[u8]]) -> Lent {
         }
     }
     named(&mut lent);
+    for m in [0, LENT] {
+        lent.refused(m, &[], Way::LengthLow, 0);
+        lent.refused(m, &[0; STEP], Way::LengthHigh, 0);
+    }
+    lent.named = lent.reach.clone();
     let mut rng = Rng::new(seed);
     each_count(&mut rng, &mut lent);
     for _ in 0..RANDOM {
         random(&mut rng, &mut lent);
-    }
-    for m in [0, LENT] {
-        lent.refused(m, &[], Way::LengthLow, 0);
-        lent.refused(m, &[0; STEP], Way::LengthHigh, 0);
     }
     lent
 }
