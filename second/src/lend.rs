@@ -50,9 +50,8 @@ pub fn step(m: usize, config: &[u8]) -> Printed {
 #[cfg(test)]
 mod tests {
     use super::*;
-    use crate::generator::build::{case_a, Plan};
-    use crate::generator::configs::{input, selector};
-    use crate::generator::lent::lent_bytes;
+    use crate::generator::build::case_a;
+    use crate::generator::lent::{ends_in_marks, lent_bytes};
 
     const RECORDS: &str = "01 02 01 00 00 00 00 00 00 00 00 00 00 00 00 00\n\
                            02 06 01 00 00 00 01 00 01 00 00 00 00 00 00 00\n\
@@ -74,10 +73,9 @@ mod tests {
 
     #[test]
     fn a_record_that_ends_in_the_mark() {
-        let parts = vec![input(MARK, (1, 0, 0)), selector(2, &[MARK; 8], false)];
         let printed = "accepted 0 2 1\nAA 02 01 00 00 00 00 00 00 00 00 00 00 00 00 00\n\
                        02 05 01 00 00 00 08 00\nrest 9\n";
-        assert_eq!(program(&lent_bytes(33, &Plan::new(parts, vec![]).bytes())), printed);
+        assert_eq!(program(&lent_bytes(33, &ends_in_marks())), printed);
     }
 
     #[test]

@@ -3,12 +3,13 @@
 
 use std::collections::{BTreeMap, BTreeSet};
 
-use super::configs;
+use super::build::Plan;
+use super::configs::{self, input, selector};
 use super::random;
 use super::rng::Rng;
 use super::script::Reach;
 use crate::lend;
-use crate::numbers::{ENTITIES, LENT, RECORD, SHEET, STEP};
+use crate::numbers::{ENTITIES, LENT, MARK, PINS, RECORD, SHEET, STEP};
 use crate::reader;
 use crate::relay::Printed;
 use crate::ways::Way;
@@ -116,6 +117,12 @@ fn entities(config: &[u8]) -> Option<usize> {
     answer.refusal.is_none().then_some(answer.entities)
 }
 
+/// A configuration whose last record ends in the byte that the sheet is full of, so that what is
+/// shown of it is a shorter line.
+pub fn ends_in_marks() -> Vec<u8> {
+    Plan::new(vec![input(MARK, (1, 0, 0)), selector(2, &[MARK; PINS], false)], vec![]).bytes()
+}
+
 /// All steps: these configurations, every one made on purpose, and more at random.
 pub fn all(seed: u64, examples: &[&[u8]]) -> Lent {
     let mut lent = Lent::default();
@@ -129,6 +136,7 @@ pub fn all(seed: u64, examples: &[&[u8]]) -> Lent {
         }
     }
     named(&mut lent);
+    lent.edges(&ends_in_marks());
     for m in [0, LENT] {
         lent.refused(m, &[], Way::LengthLow, 0);
         lent.refused(m, &[0; STEP], Way::LengthHigh, 0);
