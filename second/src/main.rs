@@ -3,15 +3,16 @@
 //!
 //! The work stands in three layers, as in document 01: cutting ([`cut`]), topology ([`entity`],
 //! [`topology`], [`streaming`], put together by [`reader`]) and requests ([`controls`],
-//! [`settings`], [`requests`]). Above them stand the programs [`sheet`] and [`relay`], and beside
-//! them the [`generator`].
+//! [`settings`], [`requests`]). Above them stand the programs [`sheet`], [`lend`] and [`relay`], and
+//! beside them the [`generator`].
 //!
-//! `second sheet`, `second relay`: the programs, from standard input to standard output.
+//! `second sheet`, `second lend`, `second relay`: the programs, from standard input to standard
+//! output.
 //! `second vectors DIR [--report]`: writes the vectors; fails if a clause is not reached.
 //! `second fuzz SEED COUNT`: a fresh script of COUNT configurations and COUNT other steps.
-//! `second compare SEED COUNT EVERY SHEET RELAY`: fresh inputs through the programs SHEET and
-//! RELAY (each a command with its arguments) and through this one; one configuration in EVERY
-//! goes through SHEET.
+//! `second compare SEED COUNT EVERY SHEET LEND RELAY`: fresh inputs through the programs SHEET,
+//! LEND and RELAY (each a command with its arguments) and through this one; one configuration in
+//! EVERY goes through SHEET.
 
 #![deny(missing_docs)]
 
@@ -19,6 +20,7 @@ mod controls;
 mod cut;
 mod entity;
 mod generator;
+mod lend;
 mod numbers;
 mod reader;
 mod relay;
@@ -35,8 +37,9 @@ use std::process::ExitCode;
 
 use generator::{compare, vectors};
 
-const USAGE: &str = "usage: second sheet | relay | vectors DIR [--report] | fuzz SEED COUNT \
-                     | compare SEED COUNT EVERY SHEET RELAY";
+const USAGE: &str =
+    "usage: second sheet | lend | relay | vectors DIR [--report] | fuzz SEED COUNT \
+                     | compare SEED COUNT EVERY SHEET LEND RELAY";
 
 fn main() -> ExitCode {
     let arguments: Vec<String> = std::env::args().skip(1).collect();
@@ -57,16 +60,18 @@ fn main() -> ExitCode {
 fn run(words: &[&str]) -> Result<Vec<u8>, String> {
     match words {
         ["sheet"] => Ok(sheet::program(&input()?).into_bytes()),
+        ["lend"] => Ok(lend::program(&input()?).into_bytes()),
         ["relay"] => Ok(relay::program(&input()?).into_bytes()),
         ["vectors", dir] => write_vectors(dir, false),
         ["vectors", dir, "--report"] => write_vectors(dir, true),
         ["fuzz", seed, count] => Ok(compare::script(number(seed)?, number(count)? as usize).bytes),
-        ["compare", seed, count, every, sheet, relay] => {
+        ["compare", seed, count, every, sheet, lend, relay] => {
             let command = |text: &str| text.split_whitespace().map(str::to_string).collect();
             let job = compare::Job {
                 seed: number(seed)?,
                 count: number(count)? as usize,
                 sheet: command(sheet),
+                lend: command(lend),
                 relay: command(relay),
                 every: number(every)? as usize,
             };

@@ -18,7 +18,11 @@ pub const RECORD: usize = 8 + PINS;
 pub const SHEET: usize = RECORD * ENTITIES;
 /// "kind (15 hex for a printed Selector)".
 pub const PRINTED_SELECTOR: u8 = 0x15;
-/// The most bytes that a step of a `relay` script may have.
+/// The most bytes that a step of a `relay` script, or the configuration of a `lend` step, may have.
 pub const STEP: usize = 8192;
 /// The most room that a reply buffer of a `relay` script may have.
 pub const REPLY: usize = 64;
+/// The most bytes of a sheet that a step of `lend` may ask for.
+pub const LENT: usize = 1024;
+/// What each byte of a sheet that `lend` lends is before the configuration is read.
+pub const MARK: u8 = 0xAA;

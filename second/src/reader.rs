@@ -19,6 +19,24 @@ pub struct Answer {
     pub entities: usize,
 }
 
+impl Answer {
+    /// As the programs print it: `accepted I E C` or `refused N at P`.
+    pub fn line(&self) -> String {
+        match self.refusal {
+            Some(refusal) => format!("refused {} at {}\n", refusal.way.number(), refusal.place),
+            None => {
+                let State { number, table } = &self.state;
+                format!("accepted {number} {} {}\n", self.entities, table.count)
+            }
+        }
+    }
+
+    /// The clause of a refusal.
+    pub fn way(&self) -> Option<Way> {
+        self.refusal.map(|refusal| refusal.way)
+    }
+}
+
 /// Reads a configuration. "A refusal answers its number, a place, interface number 0, zero counts
 /// and an empty table; the sheet keeps its bytes."
 pub fn read(config: &[u8], sheet: &mut [u8]) -> Answer {

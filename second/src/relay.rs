@@ -94,16 +94,9 @@ fn refused(way: Way) -> Printed {
 /// "The box's state becomes what the reader answers": `accepted I E C` or `refused N at P`.
 fn plug_in(state: &mut State, config: &[u8]) -> Printed {
     let answer = reader::read(config, &mut [0; SHEET]);
+    let printed = Printed { lines: answer.line(), way: answer.way() };
     *state = answer.state;
-    match answer.refusal {
-        Some(refusal) => Printed {
-            lines: format!("refused {} at {}\n", refusal.way.number(), refusal.place),
-            way: Some(refusal.way),
-        },
-        None => {
-            plain(format!("accepted {} {} {}\n", state.number, answer.entities, state.table.count))
-        }
-    }
+    printed
 }
 
 /// 11 bytes.

@@ -9,12 +9,13 @@ pub fn program(config: &[u8]) -> String {
     let mut lent = [0; SHEET];
     let answer = reader::read(config, &mut lent);
     match answer.refusal {
-        Some(refusal) => format!("refused {} at {}\n", refusal.way.number(), refusal.place),
+        Some(_) => answer.line(),
         None => lent.chunks_exact(RECORD).take(answer.entities).map(line).collect(),
     }
 }
 
-fn line(record: &[u8]) -> String {
+/// "two-digit capital hex bytes with single spaces".
+pub fn line(record: &[u8]) -> String {
     let hex: Vec<String> = record.iter().map(|byte| format!("{byte:02X}")).collect();
     hex.join(" ") + "\n"
 }

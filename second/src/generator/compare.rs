@@ -3,6 +3,7 @@
 use std::io::Write;
 use std::process::{Command, Stdio};
 
+use super::lent::{self, Lent};
 use super::random;
 use super::rng::Rng;
 use super::script::{put_body, step_bytes, Reach, Script};
@@ -22,6 +23,8 @@ pub struct Job {
     pub count: usize,
     /// The program `sheet` and its arguments.
     pub sheet: Vec<String>,
+    /// The program `lend` and its arguments.
+    pub lend: Vec<String>,
     /// The program `relay` and its arguments.
     pub relay: Vec<String>,
     /// One configuration in so many goes through `sheet` too; none if 0.
@@ -50,15 +53,30 @@ pub fn run(job: &Job) -> Result<String, String> {
         let script = script(seed, now);
         compare_relay(job, &script)?;
         sheets += compare_sheets(job, &script)?;
+        let lent = lent_script(seed, &script);
+        compare_lent(job, &lent)?;
         reach.add(&script.reach);
+        reach.add(&lent.reach);
         done += now;
         eprintln!("{done} of {} configurations and steps", job.count);
     }
     let (ways, all) = (reach.ways.len(), Way::ALL.len());
     Ok(format!(
-        "no difference: {done} configurations, {done} other steps, {sheets} sheets; {ways} of the \
-         {all} clauses of refusals met"
+        "no difference: {done} configurations and {done} other steps through `relay`, {sheets} \
+         configurations through `sheet`, {} through `lend`; {ways} of the {all} clauses of refusals \
+         met",
+        reach.lent
     ))
+}
+
+/// The configurations of a script, each with a sheet of a length at random.
+fn lent_script(seed: u64, script: &Script) -> Lent {
+    let mut rng = Rng::new(!seed);
+    let mut lent = Lent::default();
+    for config in configurations(script) {
+        lent::random_length(&mut rng, &mut lent, config);
+    }
+    lent
 }
 
 /// Runs a program over these bytes and answers what it printed.
@@ -80,13 +98,42 @@ fn output(program: &[String], stdin: &[u8]) -> Result<Vec<u8>, String> {
 
 fn compare_relay(job: &Job, script: &Script) -> Result<(), String> {
     let got = output(&job.relay, &script.bytes)?;
-    let wanted = script.printed.as_bytes();
-    if got == wanted {
+    match first_difference(&got, &script.printed, &script.starts) {
+        Some(index) => Err(tell_step(script, index, &got)),
+        None => Ok(()),
+    }
+}
+
+fn compare_lent(job: &Job, lent: &Lent) -> Result<(), String> {
+    let got = output(&job.lend, &lent.bytes)?;
+    let Some(index) = first_difference(&got, &lent.printed, &lent.starts) else {
         return Ok(());
+    };
+    let (from, printed) = lent.starts[index];
+    let (to, end) = lent.starts.get(index + 1).copied().unwrap_or_else(|| lent.ends());
+    let wanted = &lent.printed[printed..end];
+    Err(format!(
+        "difference in `lend`\nstep: {}\nsecond prints:\n{wanted}other prints:\n{}",
+        hex(&lent.bytes[from..to]),
+        answer_from(&got, printed, wanted)
+    ))
+}
+
+/// The index of the first step whose answer is another.
+fn first_difference(got: &[u8], wanted: &str, starts: &[(usize, usize)]) -> Option<usize> {
+    let wanted = wanted.as_bytes();
+    if got == wanted {
+        return None;
     }
     let same = got.iter().zip(wanted).take_while(|(one, two)| one == two).count();
-    let index = script.starts.partition_point(|&(_, printed)| printed <= same).max(1) - 1;
-    Err(tell_step(script, index, &got))
+    Some(starts.partition_point(|&(_, printed)| printed <= same).max(1) - 1)
+}
+
+/// As many lines of another program's output as were wanted, from where they should begin.
+fn answer_from(got: &[u8], from: usize, wanted: &str) -> String {
+    let rest = String::from_utf8_lossy(&got[from.min(got.len())..]).into_owned();
+    let answer: Vec<&str> = rest.lines().take(wanted.lines().count()).collect();
+    answer.join("\n")
 }
 
 /// The step of this index: the state before it as a put step, its bytes, and both answers.
@@ -101,14 +148,12 @@ fn tell_step(script: &Script, index: usize, got: &[u8]) -> String {
     let places = state.table.controls().unwrap_or(&state.table.places);
     let before = step_bytes(relay::PUT, &put_body(state.number, state.table.count, places));
     let wanted = &script.printed[from..to];
-    let rest = String::from_utf8_lossy(&got[from.min(got.len())..]).into_owned();
-    let answer: Vec<&str> = rest.lines().take(wanted.lines().count()).collect();
     format!(
         "difference in `relay`\nstate before, as a step: {}\nstep: {}\nsecond prints:\n{wanted}\
          other prints:\n{}",
         hex(&before),
         hex(step_at(script, index)),
-        answer.join("\n")
+        answer_from(got, from, wanted)
     )
 }
 
@@ -116,6 +161,12 @@ fn step_at(script: &Script, index: usize) -> &[u8] {
     let from = script.starts[index].0;
     let to = script.starts.get(index + 1).map_or(script.bytes.len(), |next| next.0);
     &script.bytes[from..to]
+}
+
+/// The configurations that a script plugs in.
+fn configurations(script: &Script) -> impl Iterator<Item = &[u8]> {
+    let steps = (0..script.starts.len()).map(|index| step_at(script, index));
+    steps.filter(|step| step[0] == PLUG_IN).map(|step| &step[3..])
 }
 
 fn hex(bytes: &[u8]) -> String {
@@ -128,9 +179,7 @@ fn compare_sheets(job: &Job, script: &Script) -> Result<usize, String> {
     if job.every == 0 {
         return Ok(0);
     }
-    let steps = (0..script.starts.len()).map(|index| step_at(script, index));
-    let configs = steps.filter(|step| step[0] == PLUG_IN).map(|step| &step[3..]);
-    let chosen: Vec<&[u8]> = configs.step_by(job.every).collect();
+    let chosen: Vec<&[u8]> = configurations(script).step_by(job.every).collect();
     let workers = std::thread::available_parallelism().map_or(1, usize::from);
     let share = chosen.len().div_ceil(workers).max(1);
     let results: Vec<Result<(), String>> = std::thread::scope(|scope| {

@@ -3,6 +3,7 @@
 pub mod build;
 pub mod compare;
 pub mod configs;
+pub mod lent;
 pub mod random;
 pub mod rng;
 pub mod script;

@@ -16,17 +16,29 @@ pub struct Reach {
     pub answers: BTreeMap<String, usize>,
     /// Plug-in steps.
     pub configurations: usize,
-    /// All other steps.
+    /// All other steps of `relay`.
     pub steps: usize,
+    /// Steps of `lend`.
+    pub lent: usize,
 }
 
 impl Reach {
-    /// Counts one answer.
+    /// Counts one answer of `relay`.
     pub fn count(&mut self, kind: u8, printed: &Printed) {
         match kind {
             relay::PLUG_IN => self.configurations += 1,
             _ => self.steps += 1,
         }
+        self.count_answer(printed);
+    }
+
+    /// Counts one answer of `lend`.
+    pub fn count_lent(&mut self, printed: &Printed) {
+        self.lent += 1;
+        self.count_answer(printed);
+    }
+
+    fn count_answer(&mut self, printed: &Printed) {
         match printed.way {
             Some(way) => *self.ways.entry(way).or_default() += 1,
             None => {
@@ -46,6 +58,7 @@ impl Reach {
         }
         self.configurations += other.configurations;
         self.steps += other.steps;
+        self.lent += other.lent;
     }
 }
 

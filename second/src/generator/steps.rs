@@ -414,7 +414,7 @@ fn lengths(script: &mut Script) {
             }
         }
         for &pair in pairs {
-            for room in 0..=3 {
+            for room in [0, 1, 2, 3, 65, 0xFFFF] {
                 let body = request_body(room, &setup(pair, 4, name, size), &[]);
                 if room < size {
                     script.fails(REQUEST, &body, Way::ReplyShort);

@@ -5,11 +5,13 @@ use std::path::Path;
 
 use super::build::{case_a, microphone, telephone, Telephone};
 use super::configs::{self, desk};
+use super::lent::{self, lent_bytes, Lent};
 use super::random;
 use super::rng::Rng;
 use super::script::{step_bytes, Reach, Script};
 use super::steps;
-use crate::numbers::{CONFIGURATION_MOST, CONTROLS, STEP};
+use crate::lend;
+use crate::numbers::{CONFIGURATION_MOST, CONTROLS, LENT, STEP};
 use crate::relay::{self, LOAD, PLUG_IN, PUT, REQUEST, SHOW};
 use crate::sheet;
 use crate::ways::Way;
@@ -35,37 +37,51 @@ pub struct Run {
     pub stdout: String,
 }
 
-/// All runs, what they reach, and how many cases of the relay runs were made on purpose.
+/// All runs, and what they reach.
 pub struct Vectors {
     /// The runs.
     pub runs: Vec<Run>,
-    /// What the relay runs reach.
+    /// What the runs of many steps reach.
     pub reach: Reach,
-    /// Configurations made on purpose.
-    pub named_configurations: usize,
-    /// Steps made on purpose.
-    pub named_steps: usize,
+    /// The steps of `lend`.
+    lent: Lent,
+    /// What is reached on purpose, before anything at random.
+    pub named: Reach,
 }
 
 /// Makes all vectors.
 pub fn make() -> Vectors {
-    let mut reach = Reach::default();
+    let (mut reach, mut named) = (Reach::default(), Reach::default());
     let mut runs = sheets();
-    let configurations = configuration_script();
-    let (steps, named_steps) = step_script();
-    for (name, script) in [("relay_configs", configurations), ("relay_steps", steps)] {
+    let examples: Vec<&[u8]> = runs.iter().map(|run| &run.stdin[..]).collect();
+    let lent = lent::all(SEED + 3, &examples);
+    assert_eq!(lend::program(&lent.bytes), lent.printed);
+    reach.add(&lent.reach);
+    named.add(&lent.named);
+    runs.push(Run {
+        name: "lend_steps".to_string(),
+        stdin: lent.bytes.clone(),
+        stdout: lent.printed.clone(),
+    });
+    for (name, (script, on_purpose)) in
+        [("relay_configs", configuration_script()), ("relay_steps", step_script())]
+    {
         assert_eq!(relay::program(&script.bytes), script.printed, "{name}");
         reach.add(&script.reach);
+        named.add(&on_purpose);
         let name = name.to_string();
         runs.push(Run { name, stdin: script.bytes, stdout: script.printed });
     }
+    runs.extend(quiet_ends());
+    runs.extend(kept_steps());
     runs.extend(bad_steps());
-    Vectors { runs, reach, named_configurations: configs::all().len(), named_steps }
+    runs.extend(bad_lent_steps());
+    Vectors { runs, reach, named, lent }
 }
 
 /// Every configuration made on purpose, with its answer held to what is written there, and more at
-/// random.
-fn configuration_script() -> Script {
+/// random; and what the first reach.
+fn configuration_script() -> (Script, Reach) {
     let mut script = Script::new();
     for case in configs::all() {
         let printed = script.step(PLUG_IN, &case.bytes);
@@ -76,18 +92,19 @@ fn configuration_script() -> Script {
         assert_eq!(printed.way, case.expect.map(|(way, _)| way), "{}", case.name);
         assert_eq!(printed.lines, line, "{}", case.name);
     }
+    let named = script.reach.clone();
     let mut rng = Rng::new(SEED);
     for _ in 0..CONFIGURATIONS {
         random::plug_in(&mut rng, &mut script);
     }
-    script
+    (script, named)
 }
 
-/// Every step made on purpose, and more at random; and how many the first are.
-fn step_script() -> (Script, usize) {
+/// Every step made on purpose, and more at random; and what the first reach.
+fn step_script() -> (Script, Reach) {
     let mut script = Script::new();
     steps::all(&mut script);
-    let named = script.reach.steps;
+    let named = script.reach.clone();
     let mut rng = Rng::new(SEED + 1);
     random::fill(&mut rng, &mut script, STEP_CONFIGURATIONS, STEPS);
     (script, named)
@@ -139,61 +156,118 @@ fn sheets() -> Vec<Run> {
     runs
 }
 
+/// Steps with which a short run of `relay` begins: the box emptied, and shown.
+fn emptied() -> Vec<u8> {
+    [step_bytes(PUT, &[0; 3]), step_bytes(SHOW, &[])].concat()
+}
+
+/// A step with which a short run of `lend` begins.
+fn no_configuration() -> Vec<u8> {
+    lent_bytes(49, &[9; 8])
+}
+
+/// Runs that end where a step could begin, and say nothing of it.
+fn quiet_ends() -> Vec<Run> {
+    let run = |name: &str, stdin: Vec<u8>, stdout: &str| {
+        let printed = if name.starts_with("lend") { lend::program } else { relay::program };
+        assert_eq!(printed(&stdin), stdout, "{name}");
+        Run { name: name.to_string(), stdin, stdout: stdout.to_string() }
+    };
+    vec![
+        run("lend_empty", vec![], ""),
+        run("lend_quiet", no_configuration(), "refused 1 at 0\nrest 49\n"),
+        run("relay_empty", vec![], ""),
+        run("relay_quiet", emptied(), "put\ntable 0\n"),
+    ]
+}
+
+/// A request of so many bytes that says its setup has so many.
+fn request_bytes(setup: u8, length: usize) -> Vec<u8> {
+    let mut body = vec![0; length];
+    body[2] = setup;
+    step_bytes(REQUEST, &body)
+}
+
+/// Runs of `relay` that go on after a step at the edge of being none.
+fn kept_steps() -> Vec<Run> {
+    let edges = [
+        ("longest", step_bytes(PLUG_IN, &[0; STEP]), "refused 1 at 0\n"),
+        ("setup", request_bytes(8, 11), "refused 31\n"),
+        ("put_128", step_bytes(PUT, &[0; 3 + 13 * CONTROLS]), "put\n"),
+    ];
+    let run = |(name, edge, answer): (&str, Vec<u8>, &str)| {
+        let stdin = [emptied(), edge, step_bytes(SHOW, &[])].concat();
+        let stdout = relay::program(&stdin);
+        assert_eq!(stdout, format!("put\ntable 0\n{answer}table 0\n"), "{name}");
+        Run { name: format!("relay_kept_{name}"), stdin, stdout }
+    };
+    edges.into_iter().map(run).collect()
+}
+
 /// Runs of `relay` that end in what is no step: each way of it once, after two good steps.
 fn bad_steps() -> Vec<Run> {
-    let good = [step_bytes(PLUG_IN, &case_a()), step_bytes(SHOW, &[])].concat();
     let whole = |kind, length| step_bytes(kind, &vec![0; length]);
-    let room = |setup: u8, length: usize| {
-        let mut body = vec![0; length];
-        body[2] = setup;
-        step_bytes(REQUEST, &body)
-    };
-    let ends: [(&str, Vec<u8>); 18] = [
-        ("empty", vec![]),
+    let ends: [(&str, Vec<u8>); 15] = [
         ("kind_0", whole(0, 0)),
         ("kind_6", whole(6, 0)),
         ("kind_255", whole(255, 4)),
         ("long", whole(PLUG_IN, STEP + 1)),
-        ("longest", whole(PLUG_IN, STEP)),
         ("load_10", whole(LOAD, 10)),
         ("load_12", whole(LOAD, 12)),
         ("request_2", whole(REQUEST, 2)),
-        ("request_setup", room(8, 10)),
-        ("request_setup_kept", room(8, 11)),
+        ("request_setup", request_bytes(8, 10)),
         ("show_1", whole(SHOW, 1)),
         ("put_2", whole(PUT, 2)),
         ("put_15", whole(PUT, 15)),
         ("put_129", whole(PUT, 3 + 13 * (CONTROLS + 1))),
         ("ends_in_kind", vec![SHOW]),
         ("ends_in_length", vec![SHOW, 0]),
-        ("ends_in_body", step_bytes(LOAD, &[0; 11])[..13].to_vec()),
+        ("ends_in_body", whole(LOAD, 11)[..13].to_vec()),
     ];
     let run = |(name, end): (&str, Vec<u8>)| {
-        let after = step_bytes(SHOW, &[]);
-        let cut = name.starts_with("ends");
-        let start: &[u8] = if name == "empty" { &[] } else { &good };
-        let after: &[u8] = if cut || name == "empty" { &[] } else { &after };
-        let stdin = [start, &end, after].concat();
+        let after = if name.starts_with("ends") { vec![] } else { step_bytes(SHOW, &[]) };
+        let stdin = [emptied(), end, after].concat();
         let stdout = relay::program(&stdin);
-        let ends = stdout.ends_with("bad step\n");
-        assert_eq!(ends, !["empty", "longest", "request_setup_kept"].contains(&name), "{name}");
-        Run { name: format!("relay_{name}"), stdin, stdout }
+        assert_eq!(stdout, "put\ntable 0\nbad step\n", "{name}");
+        Run { name: format!("relay_bad_{name}"), stdin, stdout }
+    };
+    ends.into_iter().map(run).collect()
+}
+
+/// Runs of `lend` that end in what is no step: each way of it once, after a good step.
+fn bad_lent_steps() -> Vec<Run> {
+    let good = no_configuration();
+    let ends = [
+        ("long_sheet", lent_bytes(LENT + 1, &case_a())),
+        ("longest_sheet", lent_bytes(0xFFFF, &case_a())),
+        ("long", lent_bytes(49, &[0; STEP + 1])),
+        ("ends_in_m", good[..1].to_vec()),
+        ("ends_before_n", good[..2].to_vec()),
+        ("ends_in_n", good[..3].to_vec()),
+        ("ends_before_body", good[..4].to_vec()),
+        ("ends_in_body", good[..good.len() - 1].to_vec()),
+    ];
+    let run = |(name, end): (&str, Vec<u8>)| {
+        let after: &[u8] = if name.starts_with("ends") { &[] } else { &good };
+        let stdin = [&good, &end, after].concat();
+        let stdout = lend::program(&stdin);
+        assert_eq!(stdout, "refused 1 at 0\nrest 49\nbad step\n", "{name}");
+        Run { name: format!("lend_bad_{name}"), stdin, stdout }
     };
     ends.into_iter().map(run).collect()
 }
 
 impl Vectors {
-    /// What the papers name and these vectors do not reach; empty if all is well. Refusal 16 can
-    /// not be reached: both programs lend 512 bytes, which hold 32 records.
+    /// What the papers name and these vectors do not reach on purpose; empty if all is well.
     pub fn missing(&self) -> Vec<String> {
-        let reached = |way: &Way| self.reach.ways.contains_key(way);
+        let reached = |way: &Way| self.named.ways.contains_key(way);
         let mut missing: Vec<String> = Way::ALL
             .iter()
-            .filter(|&way| *way != Way::SheetShort && !reached(way))
+            .filter(|way| !reached(way))
             .map(|way| format!("{} {}", way.number(), way.words()))
             .collect();
         for word in ["accepted", "loaded", "set", "got", "table", "put"] {
-            if !self.reach.answers.contains_key(word) {
+            if !self.named.answers.contains_key(word) {
                 missing.push(format!("an answer `{word}`"));
             }
         }
@@ -203,6 +277,7 @@ impl Vectors {
         if self.reach.steps < LEAST.1 {
             missing.push(format!("{} steps at least", LEAST.1));
         }
+        missing.extend(self.lent.missing());
         missing
     }
 
@@ -211,17 +286,20 @@ impl Vectors {
         let mut lines = String::new();
         for way in Way::ALL {
             let count = self.reach.ways.get(way).copied().unwrap_or(0);
-            let note = if *way == Way::SheetShort { " (the programs lend enough)" } else { "" };
-            lines += &format!("{:>4} {count:>6}  {}{note}\n", way.number(), way.words());
+            lines += &format!("{:>4} {count:>6}  {}\n", way.number(), way.words());
         }
         for (word, count) in &self.reach.answers {
             lines += &format!("     {count:>6}  answers `{word}`\n");
         }
         let bytes: usize = self.runs.iter().map(|run| run.stdin.len() + run.stdout.len()).sum();
-        let reach = &self.reach;
+        let (reach, named) = (&self.reach, &self.named);
         lines += &format!(
             "{} configurations ({} on purpose), {} other steps ({} on purpose)\n",
-            reach.configurations, self.named_configurations, reach.steps, self.named_steps
+            reach.configurations, named.configurations, reach.steps, named.steps
+        );
+        lines += &format!(
+            "{} configurations with sheets of many lengths ({} on purpose)\n",
+            reach.lent, named.lent
         );
         lines += &format!("{} runs, {bytes} bytes\n", self.runs.len());
         lines

@@ -1,6 +1,6 @@
 -- The reply's lent front is at most the whole, and comes back as long as it was.
 use borrow.Author.Needs.{needs}
-use Rattle.relay.proofs.Fronts.{front, same-count, front-inside, front-again, long-enough}
+use Rattle.text.specs.Fronts.{front, same-count, front-inside, front-again, long-enough}
 use Rattle.relay.proofs.ask.Statement.{statement}
 use Rattle.relay.proofs.ask.Tie as tie
 

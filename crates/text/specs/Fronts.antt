@@ -1,4 +1,10 @@
--- Arrays whose front is lent: the lent part is as long as was asked, and the array that comes back is as long as it was.
+-- Laws for the programs, which lend the front of an array to be filled: the lent part is as long as was asked, and the array that comes
+-- back is as long as it was. No definition stands here.
+--   front         ==  the first n bytes of a list that has as many are n
+--   long-enough   ==  n bytes of an array of k, n at most k, are there
+--   same-count    ==  an array whose front was lent and came back has as many bytes as it had
+--   front-inside  ==  and the front fits in it again
+--   front-again   ==  and the front is as long as it was
 use Prim.Native.Nat.{ℕ, _+_, _-_, _≤_}
 use mathlib.Core.Path.{_≡_, sym}
 use mathlib.Core.List.{List, _++_}
@@ -9,7 +15,6 @@ use lib.Seq.{length-take-le}
 pub front : (n : ℕ) (l : List ℕ) → n ≤ length l → n ≡ length (take n l)
 front n l h = sym (length-take-le n l h)
 
--- an array whose front was lent and came back is as long as it was
 module _ (n k : ℕ) (l m : List ℕ) (e : length l ≡ k) (h : n ≤ k) (f : length m ≡ length (take n l)) where
   whole : length (m ++ drop n l) ≡ k
   whole =
