@@ -14,7 +14,8 @@ use Rattle.ground.specs.Numbers.{byte}
 use Rattle.setting.specs.Setting.{fitsOf, legalOf, wholeSteps, onGrid, availableOf, nearer, closestHeight, closestSetting, closestTo}
 use Rattle.table.specs.declared.Table.{Table}
 use Rattle.table.specs.Controls.{senseOf, answersTo}
-use Rattle.table.specs.First.{firstFrom, foundIn, unitIn, lookedUp}
+use Rattle.ground.specs.Places.{firstIn, somewhere, everywhere}
+use Rattle.table.specs.First.{foundIn, unitIn, lookedUp}
 use Rattle.table.specs.Sound.{narrowOf, soundYesNo, soundPin, soundRanged, soundBy, soundControl, firstThere, soundPlace, soundOf}
 use Rattle.request.specs.declared.Answer.{Answer}
 use Rattle.request.specs.Outcome.{numberOf, bytesOf, tableAfter, answerOf, laid, Answered, lowFirst}
@@ -88,7 +89,7 @@ record Mutes : Type 0 where
   two-sets : bytesOf (requestOf (muted (muted caseTable 1) 0) 0 getMute [] 1) ≡ 0 ∷ []
 
 mutes : Mutes
-unfolding requestOf answerAsked askedOf askedBy getAsked addressedIn placeOf setFrom getFrom setBy getBy setTo settledOf settledBetween valueIn unready lacking lowFirst soundOf soundPlace firstThere soundControl soundBy soundYesNo soundPin soundRanged narrowOf foundIn unitIn lookedUp firstFrom senseOf answersTo fitsOf legalOf availableOf onGrid wholeSteps nearer closestHeight closestSetting closestTo
+unfolding requestOf answerAsked askedOf askedBy getAsked addressedIn placeOf setFrom getFrom setBy getBy setTo settledOf settledBetween valueIn unready lacking lowFirst soundOf soundPlace firstThere soundControl soundBy soundYesNo soundPin soundRanged narrowOf foundIn unitIn lookedUp firstIn somewhere everywhere senseOf answersTo fitsOf legalOf availableOf onGrid wholeSteps nearer closestHeight closestSetting closestTo
 mutes = record { answered = refl; one-set = refl; two-sets = refl }
 
 module _ (answers : Table → ℕ → List ℕ → List ℕ → List ℕ → Answer) (leaves : Table → ℕ → List ℕ → List ℕ → List ℕ → List ℕ) where

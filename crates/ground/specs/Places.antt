@@ -8,17 +8,19 @@
 --   first-some, first-none    ==  what the search answers, from what the tests say
 --   Finding t found none n r  ==  what r says of the tests; finding: the search's answer says so
 --   first-same                ==  tests that agree below n find the same
+--   somewhere t n, everywhere t n  ==  t holds at some place below n, at each; reads-somewhere, reads-everywhere: what they decide
 --   NoneWrong n Wrong         ==  none below n is wrong
 --   FirstPlace n place Wrong q  ==  q is the place of the first below n that is wrong, where place gives each its place
 --   breach-nowhere, breach-at ==  the search's answer as a place is nowhere exactly where nothing is wrong, and at q exactly
 --                                 where q is the first offender's
 use Prim.Native.Nat.{ℕ, zero, suc, _+_, _-_, _≤_, _<_}
 use mathlib.Core.Path.{_≡_, refl, sym, ap, _∙_}
-use mathlib.Core.Bool.{Bool, true, false}
+use mathlib.Core.Bool.{Bool, true, false, not}
 use mathlib.Core.Logic.{_⊎_, ⊎-elim, _↔_}
 use native.Mathlib.Numerals.{add-one}
 use native.Mathlib.Nat.{zero-add, eq-or-lt-of-le}
 use native.Mathlib.Omega.{arith}
+use borrow.Author.Tests.{not-true, not-false}
 use Rattle.ground.specs.declared.Place.{Place}
 use Rattle.ground.specs.declared.Place.the-variants.{Nowhere, At}
 use lib.Dec.{ltb}
@@ -105,6 +107,29 @@ first-same {R} t u found none n h = go (finding u found none n)
     go (nothing k) = first-none t found none n (λ j l. h j l ∙ k j l)
     go (first {i} f) =
         first-some t found none n i (record { inside = f .inside; passes = h i (f .inside) ∙ f .passes; none-before = λ j l. let m = f .inside in h j (omega arith) ∙ f .none-before j l })
+
+unfoldable pub somewhere : (ℕ → Bool) → ℕ → Bool
+somewhere t n = firstIn t (λ i. true) false 0 n
+
+unfoldable pub everywhere : (ℕ → Bool) → ℕ → Bool
+everywhere t n = firstIn (λ i. not (t i)) (λ i. false) true 0 n
+
+module _ (t : ℕ → Bool) (P : ℕ → Type 0) (n : ℕ) (reads : (i : ℕ) → i < n → Reads (t i) (P i)) where
+  pub reads-somewhere : Reads (somewhere t n) ((i : ℕ) × (i < n) × P i)
+  unfolding somewhere
+  reads-somewhere = go (finding t (λ i. true) false n)
+    where
+      go : {r : Bool} → Finding t (λ i. true) false n r → Reads r ((i : ℕ) × (i < n) × P i)
+      go (nothing h) = record { says = λ e. absurd (true≠false (sym e)); denies = λ e k. reads (k .0) (k .1) .denies (h (k .0) (k .1)) (k .2) }
+      go (first {i} f) = record { says = λ e. (i, f .inside, reads i (f .inside) .says (f .passes)); denies = λ e. absurd (true≠false e) }
+
+  pub reads-everywhere : Reads (everywhere t n) ((i : ℕ) → i < n → P i)
+  unfolding everywhere
+  reads-everywhere = go (finding (λ i. not (t i)) (λ i. false) true n)
+    where
+      go : {r : Bool} → Finding (λ i. not (t i)) (λ i. false) true n r → Reads r ((i : ℕ) → i < n → P i)
+      go (nothing h) = record { says = λ e i l. reads i l .says (not-false _ (h i l)); denies = λ e. absurd (true≠false e) }
+      go (first {i} f) = record { says = λ e. absurd (true≠false (sym e)); denies = λ e h. reads i (f .inside) .denies (not-true _ (f .passes)) (h i (f .inside)) }
 
 -- as a place: the first offender's
 module _ (n : ℕ) (place : ℕ → ℕ) (Wrong : ℕ → Type 0) where

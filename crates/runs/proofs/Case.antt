@@ -12,7 +12,8 @@ use Rattle.setting.specs.Setting.{fitsOf, legalOf, wholeSteps, onGrid, availabl
 use Rattle.table.specs.declared.Control.{Control}
 use Rattle.table.specs.declared.Table.{Table}
 use Rattle.table.specs.Controls.{blankControl, senseOf, answersTo}
-use Rattle.table.specs.First.{firstFrom, foundIn, unitIn, lookedUp}
+use Rattle.ground.specs.Places.{firstIn, somewhere, everywhere}
+use Rattle.table.specs.First.{foundIn, unitIn, lookedUp}
 use Rattle.table.specs.Sound.{narrowOf, soundYesNo, soundPin, soundRanged, soundBy, soundControl, firstThere, soundPlace, soundOf}
 use Rattle.request.specs.Outcome.{numberOf, bytesOf, lowFirst}
 use Rattle.request.specs.Load.{loadRange, loadBy, loadAt, loadOf}
@@ -84,5 +85,5 @@ pub case-run : outcomes caseTable caseRun
     ∷ (32 ∷ [])  -- another AudioControl number
     ∷ (39 ∷ [])  -- no room
     ∷ []
-unfolding outcomes loadOf loadAt loadBy loadRange requestOf answerAsked askedOf askedBy getAsked addressedIn placeOf setFrom getFrom setBy getBy setTo settledOf settledBetween valueIn unready lacking lowFirst soundOf soundPlace firstThere soundControl soundBy soundYesNo soundPin soundRanged narrowOf foundIn unitIn lookedUp firstFrom senseOf answersTo fitsOf legalOf availableOf onGrid wholeSteps nearer closestHeight closestSetting closestTo
+unfolding outcomes loadOf loadAt loadBy loadRange requestOf answerAsked askedOf askedBy getAsked addressedIn placeOf setFrom getFrom setBy getBy setTo settledOf settledBetween valueIn unready lacking lowFirst soundOf soundPlace firstThere soundControl soundBy soundYesNo soundPin soundRanged narrowOf foundIn unitIn lookedUp firstIn somewhere everywhere senseOf answersTo fitsOf legalOf availableOf onGrid wholeSteps nearer closestHeight closestSetting closestTo
 case-run = refl

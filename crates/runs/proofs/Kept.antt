@@ -26,8 +26,7 @@ use Rattle.table.specs.declared.Sense.{Sense}
 use Rattle.table.specs.declared.Sense.the-variants.{Unknown, YesNo, Ranged, Pin}
 use Rattle.table.specs.declared.Found.the-variants as found
 use Rattle.table.specs.Controls.{at, senseOf, sizeOf, rangeOf, answersTo}
-use Rattle.table.specs.First.{places, foundIn}
-use Rattle.table.specs.FirstLaws.{first-at}
+use Rattle.table.specs.First.{places, foundIn, found-first}
 use Rattle.table.specs.Meaning.{Same, SoundAs, SoundRanged, SoundLoaded, Sound, loaded-legal, loaded-tested, sound-counted}
 use Rattle.request.specs.declared.Settled.the-variants.{NoSetting, To}
 use Rattle.request.specs.Load.{loadedWith}
@@ -44,11 +43,11 @@ set-same x c = record { unit = refl; channel = refl; selector = refl }
 module _ (t : Table) (k : Key) (p : ℕ) (f : whereIs t k ≡ found.At p) where
   pub place-answers : answersTo (k .unit) (k .channel) (k .selector) (at t p) ≡ true
   unfolding foundIn
-  place-answers = first-at _ (places t) 0 p f .holds
+  place-answers = found-first _ (places t) p f .passes
 
   pub place-below : p < t .count
   unfolding foundIn
-  place-below = let h = first-at _ (places t) 0 p f .inside in omega arith
+  place-below = let h = found-first _ (places t) p f .inside in omega arith
 
   pub place-inside : Sound t → p < length (t .controls)
   place-inside s = sound-counted t s p place-below

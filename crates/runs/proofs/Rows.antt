@@ -24,8 +24,8 @@ use Rattle.table.specs.declared.Sense.the-variants.{Unknown, YesNo, Ranged, Pin
 use Rattle.table.specs.declared.Found.{Found}
 use Rattle.table.specs.declared.Found.the-variants as found
 use Rattle.table.specs.Controls.{at, senseOf, sizeOf, answersTo}
-use Rattle.table.specs.First.{firstFrom, isSome, places, foundIn, unitIn, lookupBy, lookedUp}
-use Rattle.table.specs.FirstLaws.{first-at, first-none}
+use Rattle.ground.specs.Places.{reads-somewhere}
+use Rattle.table.specs.First.{places, foundIn, found-first, none-found, unitIn, lookupBy, lookedUp}
 use Rattle.table.specs.Sound.{soundOf}
 use Rattle.table.specs.Meaning.{SoundAs, Sound, sound-reads}
 use Rattle.request.specs.declared.Part.{Part}
@@ -129,24 +129,11 @@ asking s = go (eqb (length s) 8) (reads-eq (length s) 8)
 module _ (t : Table) (sound : Sound t) where
   owned-reads : (u : ℕ) → Reads (unitIn t u) (Owned t u)
   unfolding unitIn
-  owned-reads u = record { says = λ e. there (firstFrom owns (places t) 0) refl e; denies = λ e o. nowhere (firstFrom owns (places t) 0) refl e o }
-    where
-      owns : ℕ → Bool
-      owns q = eqb (at t q .unit) u
-
-      there : (f : Found) → firstFrom owns (places t) 0 ≡ f → isSome f ≡ true → Owned t u
-      there found.Nothing h e = absurd (true≠false (sym e))
-      there (found.At q) h e =
-          let a = first-at owns (places t) 0 q h in
-          let i = a .inside in
-          record { place = q; inside = omega arith; unit = reads-eq (at t q .unit) u .says (a .holds) }
-
-      nowhere : (f : Found) → firstFrom owns (places t) 0 ≡ f → isSome f ≡ false → Owned t u → ⊥
-      nowhere (found.At q) h e o = true≠false e
-      nowhere found.Nothing h e o =
-          let few = sound .few in
-          let i = o .inside in
-          reads-eq (at t (o .place) .unit) u .denies (first-none owns (places t) 0 h (o .place) (omega arith) (omega arith)) (o .unit)
+  owned-reads u =
+      let few = sound .few in
+      reads-same (reads-somewhere (λ q. eqb (at t q .unit) u) (λ q. at t q .unit ≡ u) (places t) (λ q l. reads-eq (at t q .unit) u))
+      (λ k. let i = k .1 in record { place = k .0; inside = omega arith; unit = k .2 })
+      (λ o. let i = o .inside in (o .place, omega arith, o .unit))
 
   module _ (u ch s : ℕ) where
     answers-reads : (c : Control) → Reads (answersTo u ch s c) ((c .unit ≡ u) × ((c .channel ≡ ch) × (c .selector ≡ s)))
@@ -156,9 +143,9 @@ module _ (t : Table) (sound : Sound t) where
     found-named : (p : ℕ) → foundIn t u ch s ≡ found.At p → Named t u ch s (at t p)
     unfolding foundIn
     found-named p e =
-        let a = first-at (λ q. answersTo u ch s (at t q)) (places t) 0 p e in
+        let a = found-first (λ q. answersTo u ch s (at t q)) (places t) p e in
         let i = a .inside in
-        let k = answers-reads (at t p) .says (a .holds) in
+        let k = answers-reads (at t p) .says (a .passes) in
         record { place = p; inside = omega arith; is = refl; unit = k .0; channel = k .1 .0; selector = k .1 .1 }
 
     found-none : foundIn t u ch s ≡ found.Nothing → (c : Control) → Named t u ch s c → ⊥
@@ -166,7 +153,7 @@ module _ (t : Table) (sound : Sound t) where
     found-none e c m =
         let few = sound .few in
         let i = m .inside in
-        let n : answersTo u ch s (at t (m .place)) ≡ false = first-none (λ q. answersTo u ch s (at t q)) (places t) 0 e (m .place) (omega arith) (omega arith) in
+        let n : answersTo u ch s (at t (m .place)) ≡ false = none-found (λ q. answersTo u ch s (at t q)) (places t) e (m .place) (omega arith) in
         answers-reads c .denies (rw (m .is) at n) (m .unit, (m .channel, m .selector))
 
     -- a control stands at one place

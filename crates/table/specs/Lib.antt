@@ -1,7 +1,6 @@
 pub mod Controls
 pub mod First
 pub mod Sound
-pub mod FirstLaws
 pub mod Meaning
 pub mod Placed
 pub mod Fresh

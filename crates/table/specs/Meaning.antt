@@ -18,12 +18,12 @@
 --   sound-counted   ==  each control of such a table stands in the array
 use Prim.Native.Nat.{ℕ, _≤_, _<_, min}
 use mathlib.Core.Path.{_≡_, refl, sym, ap, _∙_}
-use mathlib.Core.Bool.{Bool, true, not, _&&_}
+use mathlib.Core.Bool.{Bool, true, _&&_}
 use mathlib.Core.Logic.{_⊎_, ⊎-elim}
 use native.Mathlib.Omega.{arith}
 use lib.Dec.{leb}
 use lib.ListN.{length, List·getD-eq-default}
-use borrow.Author.Tests.{not-false, eqb-true}
+use borrow.Author.Tests.{eqb-true}
 use Rattle.ground.specs.Pick.{true≠false, Reads, shows, refutes, decided, reads-same, reads-true, reads-eq, reads-le, reads-and, reads-implies}
 use Rattle.layout.specs.Layout.{Pins}
 use Rattle.setting.specs.Setting.{spanOf, fitsOf, legalOf, availableOf}
@@ -38,8 +38,8 @@ use Rattle.table.specs.declared.Sense.the-variants.{Unknown, YesNo, Rang
 use Rattle.table.specs.declared.Found.{Found}
 use Rattle.table.specs.declared.Found.the-variants.{Nothing, At}
 use Rattle.table.specs.Controls.{mostControls, blankControl, emptyTable, at, senseOf, rangeOf, answersTo}
-use Rattle.table.specs.First.{firstFrom, isSome, places, foundIn}
-use Rattle.table.specs.FirstLaws.{first-none, none-first, first-at, at-first}
+use Rattle.ground.specs.Places.{firstIn, first-some, reads-everywhere}
+use Rattle.table.specs.First.{places, foundIn, found-first}
 use Rattle.table.specs.Sound.{narrowOf, soundYesNo, soundPin, soundRanged, soundBy, soundControl, isAt, firstThere, soundPlace, soundOf}
 
 pub record Narrow (c : Control) : Type 0 where
@@ -160,46 +160,32 @@ answers-same a b =
     (λ h. record { unit = h .0; channel = h .1 .0; selector = h .1 .1 })
     (λ h. (h .unit, (h .channel, h .selector)))
 
--- "every place passes" is that the search finds none that does not
-reads-every : (f : ℕ → Bool) (n : ℕ) → Reads (not (isSome (firstFrom (λ p. not (f p)) n 0))) ((p : ℕ) → p < n → f p ≡ true)
-reads-every f n = record {
-  says = λ e. passed (firstFrom (λ p. not (f p)) n 0) refl e;
-  denies = λ e h.
-      true≠false
-      (sym (ap (λ (x : Found). not (isSome x)) (none-first (λ p. not (f p)) n 0 (λ j l m. ap not (h j (omega arith))))) ∙ e);
-}
-  where
-    passed : (x : Found) → firstFrom (λ p. not (f p)) n 0 ≡ x → not (isSome x) ≡ true → (p : ℕ) → p < n → f p ≡ true
-    passed Nothing e h p l = not-false (f p) (first-none (λ p. not (f p)) n 0 e p (omega arith) (omega arith))
-    passed (At q) e h p l = absurd (true≠false (sym h))
-
 module _ (t : Table) (few : t .count ≤ mostControls) where
   -- a control stands at no earlier place than where the search finds it
   reads-first : (p : ℕ) → p < t .count → Reads (firstThere t p (at t p)) ((q : ℕ) → q < p → Same (at t q) (at t p) → ⊥)
   unfolding firstThere foundIn
-  reads-first p l = record { says = λ e. alone (firstFrom twin (places t) 0) refl e; denies = λ e h. true≠false (sym (found h) ∙ e) }
+  reads-first p l = record { says = λ e. alone (firstIn twin At Nothing 0 (places t)) refl e; denies = λ e h. true≠false (sym (found h) ∙ e) }
     where
       twin : ℕ → Bool
       twin q = answersTo (at t p .unit) (at t p .channel) (at t p .selector) (at t q)
 
-      alone : (x : Found) → firstFrom twin (places t) 0 ≡ x → isAt p x ≡ true → (q : ℕ) → q < p → Same (at t q) (at t p) → ⊥
+      alone : (x : Found) → firstIn twin At Nothing 0 (places t) ≡ x → isAt p x ≡ true → (q : ℕ) → q < p → Same (at t q) (at t p) → ⊥
       alone Nothing e h q m = absurd (true≠false (sym h))
       alone (At r) e h q m =
           let k = eqb-true r p h in
-          answers-same (at t q) (at t p) .denies (first-at twin (places t) 0 r e .before q (omega arith) (omega arith))
+          answers-same (at t q) (at t p) .denies (found-first twin (places t) r e .none-before q (omega arith))
 
       itself : Same (at t p) (at t p)
       itself = record { unit = refl; channel = refl; selector = refl }
 
-      found : ((q : ℕ) → q < p → Same (at t q) (at t p) → ⊥) → isAt p (firstFrom twin (places t) 0) ≡ true
+      found : ((q : ℕ) → q < p → Same (at t q) (at t p) → ⊥) → isAt p (firstIn twin At Nothing 0 (places t)) ≡ true
       found h =
           ap (isAt p)
-          (at-first twin (places t) 0 p
+          (first-some twin At Nothing (places t) p
           (record {
-            from = omega arith;
             inside = omega arith;
-            holds = shows (answers-same (at t p) (at t p)) itself;
-            before = λ j n m. refutes (answers-same (at t j) (at t p)) (h j m);
+            passes = shows (answers-same (at t p) (at t p)) itself;
+            none-before = λ j m. refutes (answers-same (at t j) (at t p)) (h j m);
           }))
           ∙ shows (reads-eq p p) refl
 
@@ -211,7 +197,7 @@ module _ (t : Table) (few : t .count ≤ mostControls) where
 pub sound-reads : (t : Table) → Reads (soundOf t) (Sound t)
 unfolding soundOf
 sound-reads t =
-    reads-same (reads-and _ _ (reads-le _ _) (reads-every (soundPlace t) (t .count)))
+    reads-same (reads-and _ _ (reads-le _ _) (reads-everywhere (soundPlace t) (λ p. soundPlace t p ≡ true) (t .count) (λ p l. reads-true (soundPlace t p))))
     (λ h. record {
       few = h .0;
       once = λ p q l m. reads-place t (h .0) q m .says (h .1 q m) .1 p l;

@@ -22,7 +22,8 @@ use Rattle.table.specs.declared.Sense.the-variants.{Unknown, YesNo, Rang
 use Rattle.table.specs.declared.Found.{Found}
 use Rattle.table.specs.declared.Found.the-variants.{Nothing, At}
 use Rattle.table.specs.Controls.{mostControls, at, senseOf, rangeOf}
-use Rattle.table.specs.First.{firstFrom, isSome, foundIn}
+use Rattle.ground.specs.Places.{everywhere}
+use Rattle.table.specs.First.{foundIn}
 
 unfoldable pub narrowOf : Control → Bool
 narrowOf c = leb (c .min) 255 && (leb (c .max) 255 && (leb (c .res) 255 && leb (c .cur) 255))
@@ -58,4 +59,4 @@ unfoldable pub soundPlace : Table → ℕ → Bool
 soundPlace t p = soundControl (at t p) && firstThere t p (at t p)
 
 unfoldable pub soundOf : Table → Bool
-soundOf t = leb (t .count) mostControls && not (isSome (firstFrom (λ p. not (soundPlace t p)) (t .count) 0))
+soundOf t = leb (t .count) mostControls && everywhere (soundPlace t) (t .count)

@@ -1,15 +1,14 @@
 -- The search has come to a place, and what is left of it is the whole search.
 use borrow.Author.Needs.{needs}
 use Prim.Native.Nat.{ℕ, _+_, _-_, _≤_, _<_}
-use mathlib.Core.Path.{_≡_, sym, _∙_}
+use mathlib.Core.Path.{_≡_}
 use mathlib.Core.Bool.{Bool, true, false}
-use native.Mathlib.Nat.{sub-zero}
 use native.Mathlib.Omega.{arith}
 use Rattle.table.specs.declared.Table.{Table}
 use Rattle.table.specs.declared.Found.the-variants.{Nothing, At}
 use Rattle.table.specs.Controls.{mostControls, at, answersTo}
-use Rattle.table.specs.First.{firstFrom, places, foundIn}
-use Rattle.table.specs.FirstLaws.{first-here, first-on, first-over}
+use Rattle.ground.specs.Places.{Come, come-none, come-here, come-more, come-over}
+use Rattle.table.specs.First.{places, foundIn}
 use Rattle.table.proofs.find.Statement.{statement}
 use Rattle.table.proofs.find.Tie as tie
 
@@ -17,32 +16,33 @@ module _ (t : Table) (u ch s : ℕ) where
   abbrev wanted : ℕ → Bool
   wanted p = answersTo u ch s (at t p)
 
-  record Come (p : ℕ) : Type 0 where
-    low : p ≤ mostControls
-    same : foundIn t u ch s ≡ firstFrom wanted (places t - p) p
+  abbrev Here : ℕ → Type 0
+  Here = Come wanted At Nothing (places t)
 
-  start : Come 0
-  unfolding foundIn
-  start = record { low = omega arith; same = rw sub-zero }
+  start : Here 0
+  start = come-none wanted At Nothing (places t)
 
-  module _ (p : ℕ) (g : Come p) where
+  module _ (p : ℕ) (g : Here p) where
     none-left : t .count ≤ p → Nothing ≡ foundIn t u ch s
-    none-left h = sym (g .same ∙ first-over wanted (places t) p (omega arith))
+    unfolding foundIn
+    none-left h = come-over wanted At Nothing (places t) p g (omega arith)
 
     no-place : mostControls ≤ p → Nothing ≡ foundIn t u ch s
-    no-place h = sym (g .same ∙ first-over wanted (places t) p (omega arith))
+    unfolding foundIn
+    no-place h = come-over wanted At Nothing (places t) p g (omega arith)
 
     module _ (h : p < mostControls) (k : p < t .count) (b : Bool) (e : b ≡ wanted p) where
       here : b ≡ true → At p ≡ foundIn t u ch s
-      here f = sym (g .same ∙ first-here wanted (places t) p (omega arith) (sym e ∙ f))
+      unfolding foundIn
+      here = come-here wanted At Nothing (places t) p g (omega arith) b e
 
-      on : b ≡ false → Come (p + 1)
-      on f = record { low = omega arith; same = g .same ∙ first-on wanted (places t) p (omega arith) (sym e ∙ f) }
+      on : b ≡ false → Here (p + 1)
+      on = come-more wanted At Nothing (places t) p g (omega arith) b e
 
 ruleset laws = (start, none-left, no-place, here, on, needs)
 
 abbrev Inv-loop : tie.InvT-loop
-Inv-loop unit channel selector table count place₀ place = Come table unit channel selector place
+Inv-loop unit channel selector table count place₀ place = Here table unit channel selector place
 
 abbrev μ-loop : tie.MeasureT-loop
 μ-loop unit channel selector table count place₀ place = mostControls - place

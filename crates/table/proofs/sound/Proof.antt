@@ -1,16 +1,13 @@
 -- The test has come to a place, and what is left of it is the whole test.
 use borrow.Author.Needs.{needs}
 use Prim.Native.Nat.{ℕ, _+_, _-_, _≤_, _<_}
-use mathlib.Core.Path.{_≡_, sym, ap, _∙_}
+use mathlib.Core.Path.{_≡_, refl, sym, _∙_}
 use mathlib.Core.Bool.{Bool, true, false, not}
-use native.Mathlib.Nat.{sub-zero}
 use native.Mathlib.Omega.{arith}
 use borrow.Author.Tests.{le-leb, lt-leb, not-true, not-false}
 use Rattle.table.specs.declared.Table.{Table}
-use Rattle.table.specs.declared.Found.{Found}
 use Rattle.table.specs.Controls.{mostControls, at}
-use Rattle.table.specs.First.{firstFrom, isSome}
-use Rattle.table.specs.FirstLaws.{first-here, first-on, first-over}
+use Rattle.ground.specs.Places.{firstIn, Come, come-none, come-here, come-more, come-over, everywhere}
 use Rattle.table.specs.Sound.{soundControl, firstThere, soundPlace, soundOf}
 use Rattle.table.proofs.sound.Statement.{statement}
 use Rattle.table.proofs.sound.Tie as tie
@@ -19,26 +16,29 @@ module _ (t : Table) where
   abbrev bad : ℕ → Bool
   bad p = not (soundPlace t p)
 
-  record Come (p : ℕ) : Type 0 where
+  record Here (p : ℕ) : Type 0 where
     few : t .count ≤ mostControls
-    low : p ≤ t .count
-    same : soundOf t ≡ not (isSome (firstFrom bad (t .count - p) p))
+    come : Come bad (λ i. false) true (t .count) p
 
   too-many : mostControls < t .count → false ≡ soundOf t
   unfolding soundOf
   too-many h = simp (lt-leb _ _ h)
 
-  start : t .count ≤ mostControls → Come 0
-  unfolding soundOf
-  start h = record { few = h; low = omega arith; same = rw (sub-zero, le-leb _ _ h) }
+  start : t .count ≤ mostControls → Here 0
+  start h = record { few = h; come = come-none bad (λ i. false) true (t .count) }
 
-  module _ (p : ℕ) (g : Come p) where
+  -- with few enough controls the test is the search
+  is-search : t .count ≤ mostControls → (r : Bool) → r ≡ firstIn bad (λ i. false) true 0 (t .count) → r ≡ soundOf t
+  unfolding soundOf everywhere
+  is-search h r e = e ∙ rw (le-leb _ _ h)
+
+  module _ (p : ℕ) (g : Here p) where
     over : t .count ≤ p → true ≡ soundOf t
-    over h = sym (g .same ∙ ap (λ (f : Found). not (isSome f)) (first-over bad (t .count) p h))
+    over h = is-search (g .few) true (come-over bad (λ i. false) true (t .count) p (g .come) h)
 
     module _ (k : p < t .count) (a : Bool) (e : a ≡ soundControl (at t p)) where
       stop : bad p ≡ true → false ≡ soundOf t
-      stop f = sym (g .same ∙ ap (λ (x : Found). not (isSome x)) (first-here bad (t .count) p k f))
+      stop f = is-search (g .few) false (come-here bad (λ i. false) true (t .count) p (g .come) k true (sym f) refl)
 
       unsound : not a ≡ true → false ≡ soundOf t
       unfolding soundPlace
@@ -49,24 +49,20 @@ module _ (t : Table) where
         unfolding soundPlace
         twin h = stop (simp (sym e ∙ not-false a ok, sym f ∙ not-true b h))
 
-        on : not b ≡ false → Come (p + 1)
+        on : not b ≡ false → Here (p + 1)
         unfolding soundPlace
         on h =
             let s : bad p ≡ false = simp (sym e ∙ not-false a ok, sym f ∙ not-false b h) in
-            record {
-              few = g .few;
-              low = omega arith;
-              same = g .same ∙ ap (λ (x : Found). not (isSome x)) (first-on bad (t .count) p k s);
-            }
+            record { few = g .few; come = come-more bad (λ i. false) true (t .count) p (g .come) k false (sym s) refl }
 
 -- a place of the table is one of the array
-inside : (t : Table) (p : ℕ) → Come t p → p < t .count → p < mostControls
+inside : (t : Table) (p : ℕ) → Here t p → p < t .count → p < mostControls
 inside t p g h = let k = g .few in omega arith
 
 ruleset laws = (too-many, start, over, unsound, twin, on, inside, needs)
 
 abbrev Inv-loop : tie.InvT-loop
-Inv-loop table count place₀ place = Come table place
+Inv-loop table count place₀ place = Here table place
 
 abbrev μ-loop : tie.MeasureT-loop
 μ-loop table count place₀ place = table .count - place
