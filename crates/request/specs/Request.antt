@@ -21,7 +21,7 @@
 --   setBy, getBy            ==  the same by what the control holds; setFrom, getFrom: by the place or the number of an address
 --   setOf, getOf            ==  a Set and a Get of what a target names; answerAsked: of whatever a setup asks
 --   requestOf t n s d room  ==  the whole request; room is the reply's length
-use Prim.Native.Nat.{ℕ, _+_, _*_}
+use Prim.Native.Nat.{ℕ}
 use mathlib.Core.List.{List}
 use mathlib.Core.Bool.{Bool, true, false, not, _&&_, _||_}
 use lib.Dec.{eqb, leb, ltb}
@@ -53,19 +53,19 @@ use Rattle.request.specs.Load.{storedIn}
 
 abbrev pub targetOf : List ℕ → Target
 targetOf s =
-    record { interface = byte s 4; unit = byte s 5; channel = byte s 2; selector = byte s 3; length = byte s 6 + byte s 7 * 256 }
+    record { interface = byte s 4; unit = byte s 5; channel = byte s 2; selector = byte s 3; length = word s 6 }
 
 unfoldable pub getAsked : ℕ → Target → Asked
 getAsked b g =
-    pick (eqb b 129) (asks.Get Cur g)
-    (pick (eqb b 130) (asks.Get Min g)
-    (pick (eqb b 131) (asks.Get Max g)
-    (pick (eqb b 132) (asks.Get Res g)
+    pick (eqb b 0x81) (asks.Get Cur g)
+    (pick (eqb b 0x82) (asks.Get Min g)
+    (pick (eqb b 0x83) (asks.Get Max g)
+    (pick (eqb b 0x84) (asks.Get Res g)
     asks.Unknown)))
 
 unfoldable pub askedBy : Target → ℕ → ℕ → Asked
 askedBy g a b =
-    pick (eqb a 33) (pick (eqb b 1) (asks.Set g) asks.Unknown) (pick (eqb a 161) (getAsked b g) asks.Unknown)
+    pick (eqb a 0x21) (pick (eqb b 1) (asks.Set g) asks.Unknown) (pick (eqb a 0xA1) (getAsked b g) asks.Unknown)
 
 unfoldable pub askedOf : List ℕ → Asked
 askedOf s = pick (eqb (length s) 8) (askedBy (targetOf s) (byte s 0) (byte s 1)) asks.Unknown

@@ -144,20 +144,20 @@ fn word(low: u8, high: u8) -> u16
 fn asked_of(target: Target, kind: u8, code: u8) -> Asked
     ensures { λ r. ⌜ r ≡ askedBy target kind code ⌝ }
 {
-    if kind == 33 {
+    if kind == 0x21 {
         if code == 1 {
             return Asked::Set(target);
         }
         return Asked::Unknown;
     }
-    if kind != 161 {
+    if kind != 0xA1 {
         return Asked::Unknown;
     }
     match code {
-        129 => Asked::Get(Part::Cur, target),
-        130 => Asked::Get(Part::Min, target),
-        131 => Asked::Get(Part::Max, target),
-        132 => Asked::Get(Part::Res, target),
+        0x81 => Asked::Get(Part::Cur, target),
+        0x82 => Asked::Get(Part::Min, target),
+        0x83 => Asked::Get(Part::Max, target),
+        0x84 => Asked::Get(Part::Res, target),
         _ => Asked::Unknown,
     }
 }

@@ -1,8 +1,10 @@
 -- The refusals 10 to 16 in a row, behind those of the cutting layer: what comes behind a row is reached exactly where none of it is given.
+--   refusalNumber r  ==  the number of the refusal r
 --   connected-chain, rest-chain, run-chain  ==  the rows 10 to 13, 14 to 16 and 10 to 16 are such
 use Prim.Native.Nat.{ℕ}
 use mathlib.Core.List.{List}
 use native.Mathlib.Omega.{arith}
+use Rattle.ground.specs.declared.Refusal.{Refusal}
 use Rattle.ground.specs.Refuse.{Chain, chain-end, chain-more, chain-both}
 use Rattle.layout.specs.declared.Cluster.{Cluster}
 use Rattle.entities.specs.declared.Run.{Run}
@@ -13,6 +15,9 @@ use Rattle.clusters.specs.Audio.{audio}
 use Rattle.connections.specs.Judgement.{judged}
 use Rattle.table.specs.declared.Table.{Table}
 use Rattle.topology.specs.Reading.{restJudged, runJudged}
+
+abbrev pub refusalNumber : Refusal → ℕ
+refusalNumber r = r .number
 
 pub connected-chain : (run : Run) → Chain (judged run)
 unfolding judged

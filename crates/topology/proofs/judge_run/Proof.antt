@@ -10,21 +10,18 @@ use Rattle.entities.specs.declared.Run.{Run}
 use Rattle.connections.specs.Judgement.{judged}
 use Rattle.table.specs.declared.Table.{Table}
 use Rattle.topology.specs.Reading.{restJudged, runJudged}
-use Rattle.topology.specs.Verdict.{connected-chain}
+use Rattle.topology.specs.Verdict.{refusalNumber, connected-chain}
 use Rattle.topology.proofs.judge_run.Statement.{statement}
 use Rattle.topology.proofs.judge_run.Tie as tie
-
-abbrev numberOf : Refusal → ℕ
-numberOf r = r .number
 
 module _ (s : List ℕ) (run : Run) (cs : List Cluster) (t : Table) (header room : ℕ) (a : Refusal) (e : a ≡ judged run none) where
   turned-away : (a .number ≡ 0 → ⊥) → a ≡ runJudged s run cs t header room none
   unfolding runJudged
-  turned-away n = e ∙ sym (connected-chain run .stays (λ q. n (ap numberOf e ∙ q)) (restJudged s run cs t header room none))
+  turned-away n = e ∙ sym (connected-chain run .stays (λ q. n (ap refusalNumber e ∙ q)) (restJudged s run cs t header room none))
 
   on : a .number ≡ 0 → (b : Refusal) → b ≡ restJudged s run cs t header room none → b ≡ runJudged s run cs t header room none
   unfolding runJudged
-  on z b f = f ∙ sym (connected-chain run .on (sym (ap numberOf e) ∙ z) (restJudged s run cs t header room none))
+  on z b f = f ∙ sym (connected-chain run .on (sym (ap refusalNumber e) ∙ z) (restJudged s run cs t header room none))
 
 ruleset laws = (turned-away, on, needs)
 

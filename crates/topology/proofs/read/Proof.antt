@@ -17,11 +17,9 @@ use Rattle.groups.specs.Reading.{frameOf}
 use Rattle.records.specs.Records.{shownIn}
 use Rattle.topology.specs.declared.Reading.{Reading}
 use Rattle.topology.specs.Reading.{surveyJudged, clustersAt, verdictOf, refusedReading, takenReading, readingFrom, sheetFrom, readingOf, sheetOf}
+use Rattle.topology.specs.Verdict.{refusalNumber}
 use Rattle.topology.proofs.read.Statement.{statement}
 use Rattle.topology.proofs.read.Tie as tie
-
-abbrev numberOf : Refusal → ℕ
-numberOf r = r .number
 
 module _ (s d : List ℕ) (v : Survey) (e : v ≡ surveyOf s) where
   -- the survey's refusal is the cutting layer's verdict
@@ -36,14 +34,14 @@ module _ (s d : List ℕ) (v : Survey) (e : v ≡ surveyOf s) where
   turned-away : (v .refusal .number ≡ 0 → ⊥) → (r : Reading) → r ≡ refusedReading (v .refusal) → (r ≡ readingOf s (length d)) × (d ≡ sheetOf s d)
   unfolding readingOf sheetOf verdictOf verdict
   turned-away n r k =
-      let same : verdictOf s (length d) ≡ v .refusal = verdict-chain s .stays (λ q. n (ap numberOf refusal-told ∙ q)) (surveyJudged s (surveyOf s) (length d) none) ∙ sym refusal-told in
-      let m : verdictOf s (length d) .number ≡ 0 → ⊥ = λ q. n (sym (ap numberOf same) ∙ q) in
+      let same : verdictOf s (length d) ≡ v .refusal = verdict-chain s .stays (λ q. n (ap refusalNumber refusal-told ∙ q)) (surveyJudged s (surveyOf s) (length d) none) ∙ sym refusal-told in
+      let m : verdictOf s (length d) .number ≡ 0 → ⊥ = λ q. n (sym (ap refusalNumber same) ∙ q) in
       (k ∙ sym (no _ _ (ne-eqb _ _ m) ∙ ap refusedReading same), sym (no _ _ (ne-eqb _ _ m)))
 
   on : v .refusal .number ≡ 0 → (r : Reading) (x : List ℕ) → (r ≡ readingFrom s v (length d)) × (x ≡ sheetFrom s v d) → (r ≡ readingOf s (length d)) × (x ≡ sheetOf s d)
   unfolding readingOf sheetOf verdictOf verdict readingFrom sheetFrom
   on z r x k =
-      let same : verdictOf s (length d) ≡ surveyJudged s (surveyOf s) (length d) none = verdict-chain s .on (sym (ap numberOf refusal-told) ∙ z) (surveyJudged s (surveyOf s) (length d) none) in (
+      let same : verdictOf s (length d) ≡ surveyJudged s (surveyOf s) (length d) none = verdict-chain s .on (sym (ap refusalNumber refusal-told) ∙ z) (surveyJudged s (surveyOf s) (length d) none) in (
         k .0 ∙ ap (λ (y : Survey). readingFrom s y (length d)) e ∙ sym (ap (λ (y : Refusal). pick (eqb (y .number) 0) (takenReading s (surveyOf s)) (refusedReading y)) same),
         k .1 ∙ ap (λ (y : Survey). sheetFrom s y d) e ∙ sym (ap (λ (y : Refusal). pick (eqb (y .number) 0) (shownIn (surveyOf s .run) (clustersAt (surveyOf s)) d) d) same),
       )

@@ -18,11 +18,9 @@ use Rattle.records.specs.Records.{shownIn}
 use Rattle.table.specs.declared.Table.{Table}
 use Rattle.topology.specs.declared.Reading.{Reading}
 use Rattle.topology.specs.Reading.{runJudged, surveyJudged, tableAt, refusedReading, takenReading, readingFrom, sheetFrom}
+use Rattle.topology.specs.Verdict.{refusalNumber}
 use Rattle.topology.proofs.read_survey.Statement.{statement}
 use Rattle.topology.proofs.read_survey.Tie as tie
-
-abbrev numberOf : Refusal → ℕ
-numberOf r = r .number
 
 module _ (s : List ℕ) (v : Survey) (d : List ℕ) (cs : List Cluster) (e : cs ≡ clustersOf audio (v .run)) (t : Table) (f : t ≡ tableOf (controlsOfRun s (v .run) cs)) (r : Refusal) (g : r ≡ runJudged s (v .run) cs t (v .header) (length d) none) where
   table-told : t ≡ tableAt s v
@@ -35,13 +33,13 @@ module _ (s : List ℕ) (v : Survey) (d : List ℕ) (cs : List Cluster) (e : cs 
   turned-away : (r .number ≡ 0 → ⊥) → (x : Reading) → x ≡ refusedReading r → (x ≡ readingFrom s v (length d)) × (d ≡ sheetFrom s v d)
   unfolding readingFrom sheetFrom
   turned-away n x k =
-      let m : surveyJudged s v (length d) none .number ≡ 0 → ⊥ = λ q. n (ap numberOf judged-told ∙ q) in
+      let m : surveyJudged s v (length d) none .number ≡ 0 → ⊥ = λ q. n (ap refusalNumber judged-told ∙ q) in
       (k ∙ ap refusedReading judged-told ∙ sym (no _ _ (ne-eqb _ _ m)), sym (no _ _ (ne-eqb _ _ m)))
 
   taken : r .number ≡ 0 → (x : List ℕ) → x ≡ shownIn (v .run) cs d → (record { number = 0; place = 0; control = v .control; entities = v .run .count; controls = t .count; table = t } ≡ readingFrom s v (length d)) × (x ≡ sheetFrom s v d)
   unfolding readingFrom sheetFrom takenReading
   taken z x k =
-      let m : surveyJudged s v (length d) none .number ≡ 0 = sym (ap numberOf judged-told) ∙ z in
+      let m : surveyJudged s v (length d) none .number ≡ 0 = sym (ap refusalNumber judged-told) ∙ z in
       (rw table-told (sym (yes _ _ (eq-eqb _ _ m))), k ∙ ap (λ (y : List Cluster). shownIn (v .run) y d) e ∙ sym (yes _ _ (eq-eqb _ _ m)))
 
 ruleset laws = (turned-away, taken, needs)
