@@ -7,22 +7,22 @@ use Rattle.lend.proofs.step.Tie as tie
 ruleset laws = (front, long-enough, needs)
 
 returns : tie.Need-returns
-returns c = search needs
+returns c = search laws
 
 sheet-space-requires : tie.Need-sheet-space-requires
-sheet-space-requires c κs = search needs
+sheet-space-requires c κs = search laws
 
 array-borrow-prefix-sheet : tie.Need-array-borrow-prefix-sheet
-array-borrow-prefix-sheet c = search needs
+array-borrow-prefix-sheet c = search laws
 
 slice-aggregate-read-into : tie.Need-slice-aggregate-read-into
 slice-aggregate-read-into c = search laws
 
 read-into-requires : tie.Need-read-into-requires
-read-into-requires c κs = search needs
+read-into-requires c κs = search laws
 
 returns-2 : tie.Need-returns-2
-returns-2 c = search needs
+returns-2 c = search laws
 
 pub step-spec : {M : Type 1} → statement M
 step-spec =
