@@ -138,9 +138,6 @@ module _ (d : List ℕ) (c : ℕ) where
   carries (laid.feature k q l) o x (feature a b i p r f g) = of-channels (byte d 3) (byte d 5) d (suc c) 0 a b (omega arith) (omega arith) r f g
   carries (laid.feature k q l) o x (selector i) = absurd (omega arith)
 
-  pub entity-carries : LaidOut d → (x : Control) → List·Memᴰ x (entityControls (entityOf d) d c) ↔ Carries d c x
-  entity-carries o x = (carried (told d) x, carries (told d) o x)
-
 -- THE LAW: a control stands in the list exactly where some entity carries it
 pub stands-of : (ds : List (List ℕ)) (cs : List Cluster) (x : Control) → List·Memᴰ x (controlsOf ds cs) → Stands ds cs x
 unfolding controlsOf

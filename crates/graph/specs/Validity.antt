@@ -4,25 +4,20 @@
 -- which a node gives one out and the test of what enters it ("all pins have the same c") are any. It asks that each source
 -- of a node is a node (rule 11) and that there are at most k nodes (rule 8).
 --   Kept src fits nodes cluster          ==  what enters each node passes its test
---   Clusters src rule fits nodes         ==  clusters that are made by the rule and pass the tests
 --   Valid src rule fits nodes            ==  a rank, and such clusters
 --   Accepted src rule fits start k nodes ==  k rounds settle every node, and their clusters pass the tests
 --   Decided                              ==  the theorem: valid exactly where accepted; with the computed clusters; uniquely
 --   decided-by-rounds                    ==  .. and its proof, by valid-accepted, valid-cluster and valid-unique
---   valid-parts              ==  valid is: there are a rank and clusters
 --   fits-settled             ==  a settled node's test may be read off the rounds' clusters
---   reads-fits               ==  .. so where `test` decides `fits`, the test at the rounds' clusters decides it of any others
---                                that are made by the rule: for one node, what names the first offender
 use Prim.Native.Nat.{ℕ, _≤_}
 use mathlib.Core.Path.{_≡_, sym, _∙_, subst}
 use mathlib.Core.List.{List}
 use mathlib.Core.Logic.{_↔_}
-use mathlib.Core.Bool.{Bool, true}
+use mathlib.Core.Bool.{true}
 use lib.ListN.{length}
-use Rattle.ground.specs.Pick.{Reads}
 use Rattle.graph.specs.Members.{_∈_}
 use Rattle.graph.specs.Chains.{settled}
-use Rattle.graph.specs.Ranks.{Closed, Ranked, Ranks, AllSettled, ranks-of, ranked-settled}
+use Rattle.graph.specs.Ranks.{Closed, Ranked, AllSettled, ranks-of, ranked-settled}
 use Rattle.graph.specs.Clusters.{entering, Made, after, after-made, made-settled, entering-settled}
 
 abbrev pub Kept : {A C : Type 0} → (A → List A) → (A → List C → Type 0) → List A → (A → C) → Type 0
@@ -35,15 +30,6 @@ module _ {A C : Type 0} (src : A → List A) (rule : A → List C → C) (fits :
     pub cluster : A → C
     pub made : Made src rule nodes cluster
     pub kept : Kept src fits nodes cluster
-
-  abbrev pub Clusters : List A → Type 0
-  Clusters nodes = (cluster : A → C) × Made src rule nodes cluster × Kept src fits nodes cluster
-
-  pub valid-parts : (nodes : List A) → Valid nodes ↔ (Ranks src nodes × Clusters nodes)
-  valid-parts nodes = (
-    λ v. ((v .rank, v .ranked), (v .cluster, v .made, v .kept)),
-    λ p. record { rank = p .0 .0; ranked = p .0 .1; cluster = p .1 .0; made = p .1 .1; kept = p .1 .2 },
-  )
 
   module _ (start : C) (k : ℕ) where
     pub record Accepted (nodes : List A) : Type 0 where
@@ -90,11 +76,3 @@ module _ {A C : Type 0} (src : A → List A) (rule : A → List C → C) (fits :
 
         pub decided-by-rounds : Decided
         decided-by-rounds = record { exactly = valid-accepted; computed = valid-cluster; unique = valid-unique }
-
-module _ {A C : Type 0} (src : A → List A) (rule : A → List C → C) (fits : A → List C → Type 0) (start : C) (k : ℕ) (nodes : List A) where
-  module _ (test : A → List C → Bool) (reads : (a : A) (cs : List C) → Reads (test a cs) (fits a cs)) (closed : Closed src nodes) where
-    pub reads-fits : (cluster : A → C) → Made src rule nodes cluster → (a : A) → a ∈ nodes → settled src k a ≡ true → Reads (test a (entering src (after src rule start k) a)) (fits a (entering src cluster a))
-    reads-fits cluster made a l h =
-        let both = fits-settled src rule fits start k nodes closed cluster made a l h in
-        let r = reads a (entering src (after src rule start k) a) in
-        record { says = λ e. both .1 (r .says e); denies = λ e f. r .denies e (both .0 f) }

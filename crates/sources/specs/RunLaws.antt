@@ -1,11 +1,10 @@
 -- The run that is read from descriptors, one after another from place p on: what stands at each of its places.
 --   held-in, node-in    ==  it holds as many entities as there are descriptors, and at place i what the layout says of descriptor i
 --   id-read, sources-read, place-read  ==  its ID, its source IDs, and its place: the lengths before it, from p on
---   ids-read            ==  the IDs of the run are those of the descriptors
 --   places-rise         ==  an entity that stands before another has the lower place: the first by number is the first by place
 use Prim.Native.Nat.{ℕ, zero, suc, _+_, _≤_, _<_}
 use mathlib.Core.Path.{_≡_, refl, sym, ap, _∙_}
-use mathlib.Core.List.{List, [], _∷_, map, List·Memᴰ, List·Memᴰ·head, List·Memᴰ·tail}
+use mathlib.Core.List.{List, [], _∷_, List·Memᴰ, List·Memᴰ·head, List·Memᴰ·tail}
 use native.Mathlib.Omega.{arith}
 use native.Mathlib.Nat.{add-zero, le-of-suc-le-suc}
 use lib.ListN.{length, getD, take}
@@ -15,9 +14,7 @@ use Rattle.layout.specs.Sources.{sourceList, sourcesOf, sourcesIn}
 use Rattle.layout.specs.SourcesLaws.{sources-few}
 use Rattle.entities.specs.declared.Node.{Node}
 use Rattle.entities.specs.Run.{mostEntities, nodeOf, nodesFrom, blankNode, runIn, held, nodeAt, idAt, placeAt}
-use Rattle.graph.specs.Tables.{tabulate, tabulate-same, tabulate-getD, map-tabulate}
 use Rattle.sources.specs.Pins.{sourcesAt}
-use Rattle.sources.specs.Lookup.{idsOf}
 
 nodes-at : (p : ℕ) (ds : List (List ℕ)) (i : ℕ) → i < length ds → getD (nodesFrom p ds) i blankNode ≡ nodeOf (p + total (take i ds)) (getD ds i [])
 unfolding nodesFrom total
@@ -54,14 +51,6 @@ module _ (p : ℕ) (ds : List (List ℕ)) (few : length ds ≤ mostEntities) whe
   pub sources-read : (i : ℕ) → i < length ds → sourcesAt (runIn p ds) i ≡ sourceList (entityOf (getD ds i [])) (getD ds i [])
   unfolding nodeOf sourcesOf sourcesIn
   sources-read i l = ap (λ (n : Node). take (n .sources .pins) (n .sources .ids)) (node-in i l) ∙ pad-front 0 mostPins (sourceList (entityOf (getD ds i [])) (getD ds i [])) (sources-few (getD ds i []))
-
-  pub ids-read : idsOf (runIn p ds) ≡ map (λ d. idOf (entityOf d)) ds
-  ids-read =
-      map-tabulate (idAt (runIn p ds)) (held (runIn p ds)) (λ i. i)
-      ∙ ap (λ (n : ℕ). tabulate n (idAt (runIn p ds))) held-in
-      ∙ tabulate-same (length ds) (idAt (runIn p ds)) (λ i. idOf (entityOf (getD ds i []))) id-read
-      ∙ sym (map-tabulate (λ d. idOf (entityOf d)) (length ds) (λ i. getD ds i []))
-      ∙ ap (map (λ d. idOf (entityOf d))) (tabulate-getD ds [])
 
   pub places-rise : ((d : List ℕ) → List·Memᴰ d ds → 0 < length d) → (j i : ℕ) → j < i → i < length ds → placeAt (runIn p ds) j < placeAt (runIn p ds) i
   places-rise full j i l m =
