@@ -2,8 +2,7 @@
 -- addressed control: CUR is the closest setting to the last accepted Set or load of that control, or its first value where
 -- there was none; MIN, MAX and RES are those of its last accepted load; a yes/no and a pin are what the last accepted Set made
 -- them.
---   Settles s range x v    ==  of a ranged control of sort s with that range, which is legal, v is stored where x, not too wide, is wanted
---                              (Stored, of crate setting, says so over the integers); settles-one: no other number is
+--   settles-one            ==  one number is settled where a number is wanted
 --   CurMeans k range x v   ==  v is what CUR must be where the control holds k, has that range and x was asked last: of a ranged
 --                              control the closest setting (Settles), of another x
 --   Means k part c rs ns v ==  v is what a Get of that part must give, where c is the control at the start, rs are the ranges of
@@ -12,16 +11,14 @@
 --                              first, the number that Means asks
 --   run-found              ==  every control is found where it was
 --   get-answers            ==  every Get that is answered after a run is answered so
-use Prim.Native.Nat.{ℕ, _<_}
+use Prim.Native.Nat.{ℕ}
 use mathlib.Core.Path.{_≡_, refl, sym, ap, _∙_}
 use mathlib.Core.List.{List, [], _∷_}
 use mathlib.Core.Bool.{false}
 use borrow.Author.Tests.{not-false}
 use Rattle.ground.specs.Pick.{shows}
-use Rattle.setting.specs.Setting.{spanOf}
-use Rattle.setting.specs.Meaning.{value, Legal, Stored}
 use Rattle.setting.specs.Legal.{fits-reads, legal-means}
-use Rattle.setting.specs.Closest.{closest-self, closest-means, closest-only}
+use Rattle.setting.specs.Closest.{closest-self, closest-only}
 use Rattle.setting.specs.declared.Sort.{Sort}
 use Rattle.setting.specs.declared.Range.{Range}
 use Rattle.table.specs.declared.Control.{Control}
@@ -39,19 +36,12 @@ use Rattle.request.specs.declared.Asked.the-variants.{Get}
 use Rattle.request.specs.Outcome.{lowFirst}
 use Rattle.request.specs.Outcome.Outcome.{got}
 use Rattle.request.specs.Request.{askedOf, partOf, unready, requestOf}
-use Rattle.runs.specs.Runs.{Key, whereIs, keyOf, Step, tableNext, after, rangesIn, numbersIn, told, lastOf, StandsFor, Wired}
+use Rattle.runs.specs.Runs.{Key, whereIs, keyOf, Step, tableNext, after, rangesIn, numbersIn, told, lastOf, Settles, StandsFor, Wired}
 use Rattle.runs.proofs.Taken.{GetTaken, get-taken}
-use Rattle.runs.proofs.Kept.{place-below}
+use Rattle.runs.proofs.Kept.{place-below, settles-closest}
 use Rattle.runs.proofs.Moved.{Moved, whole-run, sense-at}
 use Rattle.runs.proofs.Alone.{alone}
 
-pub record Settles (s : Sort) (range : Range) (x v : ℕ) : Type 0 where
-  pub legal : Legal s range
-  pub asked : x < spanOf s
-  pub fits : v < spanOf s
-  pub means : Stored s range (value s x) (value s v)
-
--- so there is one such number
 pub settles-one : (s : Sort) (range : Range) (x v w : ℕ) → Settles s range x v → Settles s range x w → v ≡ w
 settles-one s range x v w a b =
     let l = shows (legal-means s range) (a .legal) in
@@ -93,24 +83,16 @@ run-found t (st ∷ run) k =
 stands-first : (k : Sense) (c : Control) → SoundAs k c → StandsFor k c (c .cur)
 stands-first Unknown c h = refl
 stands-first YesNo c h = refl
-stands-first (Ranged s) c h = λ l. let a = h .loaded l in record { fits = loaded-fits s c a; closest = sym (closest-self s (rangeOf c) (c .cur) (loaded-setting s c a)) }
+stands-first (Ranged s) c h = λ l. let a = h .loaded l in settles-closest s (rangeOf c) (c .cur) (c .cur) (loaded-legal s c a) (loaded-fits s c a) (sym (closest-self s (rangeOf c) (c .cur) (loaded-setting s c a)))
 stands-first Pin c h = refl
 
 -- what stands for a number means that number
-stands-means : (k : Sense) (c : Control) (x : ℕ) → SoundAs k c → unready k c ≡ false → StandsFor k c x → CurMeans k (rangeOf c) x (c .cur)
+stands-means : (k : Sense) (c : Control) (x : ℕ) → unready k c ≡ false → StandsFor k c x → CurMeans k (rangeOf c) x (c .cur)
 unfolding unready
-stands-means Unknown c x h r e = e
-stands-means YesNo c x h r e = e
-stands-means (Ranged s) c x h r e =
-    let l = not-false (c .loaded) r in
-    let a = e l in
-    record {
-      legal = h .loaded l .legal;
-      asked = fits-reads s x .says (a .fits);
-      fits = h .loaded l .fits;
-      means = rw (a .closest) (closest-means s (rangeOf c) (loaded-legal s c (h .loaded l)) x (a .fits));
-    }
-stands-means Pin c x h r e = e
+stands-means Unknown c x r e = e
+stands-means YesNo c x r e = e
+stands-means (Ranged s) c x r e = e (not-false (c .loaded) r)
+stands-means Pin c x r e = e
 
 part-means : (part : Part) (k : Sense) (c : Control) (range : Range) (x : ℕ) → rangeOf c ≡ range → CurMeans k (rangeOf c) x (c .cur)
     → (rs : List Range) (ns : List ℕ) (b : Control) → lastOf (rangeOf b) rs ≡ range → lastOf (b .cur) ns ≡ x → Means k part b rs ns (partOf part c)
@@ -131,7 +113,7 @@ get-answers t run h w n s d room bytes e = record {
   given = a .given ∙ ap (λ (k : Sense). lowFirst (sizeOf k) (partOf (a .part) now)) held;
   means =
       part-means (a .part) (senseOf (key .selector)) now (rangeOf now) _ refl
-      (stands-means (senseOf (key .selector)) now _ (rw (← held) (m .sound .each (a .place) (place-below v key (a .place) (a .there)))) (rw (← held) (a .ready)) (m .stands (at t (a .place) .cur) (stands-first (senseOf (key .selector)) (at t (a .place)) was)))
+      (stands-means (senseOf (key .selector)) now _ (rw (← held) (a .ready)) (m .stands (at t (a .place) .cur) (stands-first (senseOf (key .selector)) (at t (a .place)) was)))
       _ _ (at t (a .place)) (sym (m .ranges)) refl;
   first = λ z. ap (partOf (a .part)) (m .unmoved z);
 }

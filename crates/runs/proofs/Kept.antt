@@ -4,6 +4,7 @@
 --   place-below, place-inside  ==  a control that is found stands below the count, and in the array
 --   place-answers          ==  and is the one that was sought
 --   between-only           ==  what a Set of a yes/no or a pin stores is what was asked, within its bounds
+--   settles-closest        ==  the closest setting is what is to be stored, by crate setting's statements
 --   sent-fits              ==  the data of a Set are not too wide for the control
 use Prim.Native.Nat.{ℕ, _+_, _*_, _≤_, _<_, min}
 use mathlib.Core.Path.{_≡_, refl}
@@ -15,8 +16,8 @@ use lib.ListN.{length, getD}
 use borrow.Author.Tests.{eq-eqb, ne-eqb}
 use Rattle.ground.specs.Pick.{pick, yes, no, shows, reads-and, reads-le}
 use Rattle.setting.specs.Setting.{fitsOf, legalOf, closestTo}
-use Rattle.setting.specs.Legal.{fits-reads}
-use Rattle.setting.specs.Closest.{closest-fits, closest-available}
+use Rattle.setting.specs.Legal.{fits-reads, legal-means}
+use Rattle.setting.specs.Closest.{closest-fits, closest-means, closest-available}
 use Rattle.setting.specs.declared.Sort.{Sort}
 use Rattle.setting.specs.declared.Sort.the-variants.{Volume, Tone, Delay}
 use Rattle.setting.specs.declared.Range.{Range}
@@ -31,7 +32,7 @@ use Rattle.table.specs.Meaning.{Same, SoundAs, SoundRanged, SoundLoaded, Sound,
 use Rattle.request.specs.declared.Settled.the-variants.{NoSetting, To}
 use Rattle.request.specs.Load.{loadedWith}
 use Rattle.request.specs.Request.{unready, valueIn, settledBetween, settledOf, withCur}
-use Rattle.runs.specs.Runs.{Key, whereIs, Bytes}
+use Rattle.runs.specs.Runs.{Key, whereIs, Settles, Bytes}
 
 pub load-same : (s : Sort) (range : Range) (w : ℕ) (c : Control) → Same (loadedWith s range w c) c
 load-same s range w c = record { unit = refl; channel = refl; selector = refl }
@@ -71,6 +72,15 @@ pub sent-fits : (s : Sort) (d : List ℕ) → Bytes d → length d ≡ sizeOf (R
 sent-fits Volume d h l = shows (fits-reads Volume (valueIn d)) (two-bytes d h l)
 sent-fits Tone d h l = shows (fits-reads Tone (valueIn d)) (one-byte d h l)
 sent-fits Delay d h l = shows (fits-reads Delay (valueIn d)) (two-bytes d h l)
+
+-- what is computed is what is to be stored
+pub settles-closest : (s : Sort) (range : Range) (x v : ℕ) → legalOf s range ≡ true → fitsOf s x ≡ true → v ≡ closestTo s range x → Settles s range x v
+settles-closest s range x v l f e = record {
+  legal = legal-means s range .says l;
+  asked = fits-reads s x .says f;
+  fits = rw e (fits-reads s (closestTo s range x) .says (closest-fits s range x f));
+  means = rw e (closest-means s range l x f);
+}
 
 -- a loaded control is a setting's again, whatever is wanted of it
 settled-loaded : (s : Sort) (c : Control) (range : Range) (w : ℕ) → rangeOf c ≡ range → c .cur ≡ closestTo s range w → legalOf s range ≡ true

@@ -14,7 +14,7 @@ use mathlib.Core.Bool.{Bool, true, false, _||_, or-true, or-false, or-assoc}
 use native.Mathlib.Omega.{arith}
 use lib.ListN.{length}
 use Rattle.ground.specs.Pick.{pick, Reads, reads-and, reads-eq}
-use Rattle.setting.specs.Setting.{fitsOf}
+use Rattle.setting.specs.Setting.{fitsOf, legalOf, closestTo}
 use Rattle.setting.specs.declared.Sort.{Sort}
 use Rattle.setting.specs.declared.Range.{Range}
 use Rattle.table.specs.declared.Control.{Control}
@@ -23,7 +23,7 @@ use Rattle.table.specs.declared.Sense.{Sense}
 use Rattle.table.specs.declared.Sense.the-variants as sense
 use Rattle.table.specs.declared.Found.the-variants as found
 use Rattle.table.specs.Controls.{at, placed, senseOf, sizeOf, rangeOf, answersTo}
-use Rattle.table.specs.Meaning.{Same, SoundAs, Sound}
+use Rattle.table.specs.Meaning.{Same, SoundAs, Sound, loaded-legal}
 use Rattle.table.specs.Placed.{same-self, same-by, placed-here, placed-elsewhere, placed-found, placed-sound}
 use Rattle.request.specs.declared.Settled.the-variants.{To}
 use Rattle.request.specs.Outcome.{Outcome, tableAfter}
@@ -33,7 +33,7 @@ use Rattle.request.specs.Request.{askedOf, valueIn, settledOf, withCur, request
 use Rattle.runs.specs.Runs.{Key, whereIs, keyOf, Step, accepted, tableNext, after, sameKey, rangesIn, numbersAsked, numbersIn, heard, told, lastOf, some, StandsFor, Bytes, sent, Wired}
 use Rattle.runs.specs.Runs.Step.{load, request}
 use Rattle.runs.proofs.Taken.{LoadTaken, SetTaken, load-taken, set-taken, get-taken, load-not-got}
-use Rattle.runs.proofs.Kept.{load-same, set-same, load-sound, set-sound, place-answers, place-below, place-inside, sent-fits, between-only}
+use Rattle.runs.proofs.Kept.{load-same, set-same, load-sound, set-sound, place-answers, place-below, place-inside, settles-closest, sent-fits, between-only}
 
 pub record Moved (t : Table) (k : Key) (p : ℕ) (rs : List Range) (ns : List ℕ) (v : Table) : Type 0 where
   pub sound : Sound v
@@ -186,18 +186,20 @@ pub sense-at : (t : Table) (k : Key) (p : ℕ) → whereIs t k ≡ found.At p �
 sense-at t k p f = ap senseOf (selector-at t k p f)
 
 -- a load of the control tells it a range and a number
-load-stands : (k : Sense) (s : Sort) → k ≡ sense.Ranged s → (range : Range) (w : ℕ) (c : Control) → fitsOf s w ≡ true
+load-stands : (k : Sense) (s : Sort) → k ≡ sense.Ranged s → (range : Range) (w : ℕ) (c : Control) → legalOf s range ≡ true → fitsOf s w ≡ true
     → StandsFor k (loadedWith s range w c) w
-load-stands k s e range w c f = rw e (λ z. record { fits = f; closest = refl })
+load-stands k s e range w c l f = rw e (λ z. settles-closest s range w (closestTo s range w) l f refl)
 
 -- a Set tells it a number
-set-stands : (k : Sense) (c : Control) (d : List ℕ) (x : ℕ) → Bytes d → length d ≡ sizeOf k → settledOf k c (valueIn d) ≡ To x
+set-stands : (k : Sense) (c : Control) (d : List ℕ) (x : ℕ) → SoundAs k c → Bytes d → length d ≡ sizeOf k → settledOf k c (valueIn d) ≡ To x
     → StandsFor k (withCur x c) (valueIn d)
 unfolding settledOf
-set-stands sense.Unknown c d x b l e = absurd (let z : _≡_ {A = ℕ} 0 1 = cc in omega arith)
-set-stands sense.YesNo c d x b l e = between-only 0 1 (valueIn d) x e .0
-set-stands (sense.Ranged s) c d x b l e = λ z. record { fits = sent-fits s d b l; closest = cc }
-set-stands sense.Pin c d x b l e = between-only 1 (c .pins) (valueIn d) x e .0
+set-stands sense.Unknown c d x h b l e = absurd (let z : _≡_ {A = ℕ} 0 1 = cc in omega arith)
+set-stands sense.YesNo c d x h b l e = between-only 0 1 (valueIn d) x e .0
+set-stands (sense.Ranged s) c d x h b l e =
+    let f : x ≡ closestTo s (rangeOf c) (valueIn d) = cc in
+    λ z. settles-closest s (rangeOf c) (valueIn d) x (loaded-legal s c (h .loaded z)) (sent-fits s d b l) f
+set-stands sense.Pin c d x h b l e = between-only 1 (c .pins) (valueIn d) x e .0
 
 module _ (t : Table) (k : Key) (p : ℕ) (s : Sound t) (f : whereIs t k ≡ found.At p) where
   load-moves : (l : Key) (range : Range) (w : ℕ) (v : Table) → LoadTaken t (l .unit) (l .channel) (l .selector) range w v
@@ -217,7 +219,7 @@ module _ (t : Table) (k : Key) (p : ℕ) (s : Sound t) (f : whereIs t k ≡ foun
       go true e =
           here t k p s f l (a .place) (a .there) _ (load-same (a .sort) range w (at t (a .place))) ok e (range ∷ []) (w ∷ []) refl (sym (or-true (at t (a .place) .loaded))) refl (some-not-none w [])
           (λ x y.
-          load-stands (senseOf (k .selector)) (a .sort) (ap senseOf (reads-key k l .says e .selector) ∙ a .sense) range w (at t (a .place)) (a .fits))
+          load-stands (senseOf (k .selector)) (a .sort) (ap senseOf (reads-key k l .says e .selector) ∙ a .sense) range w (at t (a .place)) (a .legal) (a .fits))
       go false e = elsewhere t k p s f l (a .place) (a .there) _ (load-same (a .sort) range w (at t (a .place))) ok e
 
   set-moves : (su d : List ℕ) (v : Table) → Bytes d → SetTaken t su d v → Moved t k p [] (numbersAsked k d (askedOf su)) v
@@ -230,15 +232,18 @@ module _ (t : Table) (k : Key) (p : ℕ) (s : Sound t) (f : whereIs t k ≡ foun
       c : Control
       c = at t (a .place)
 
+      whole : SoundAs (senseOf (c .selector)) c
+      whole = s .each (a .place) (place-below t l (a .place) (a .there))
+
       ok : SoundAs (senseOf (withCur (a .value) c .selector)) (withCur (a .value) c)
-      ok = set-sound c d (a .value) (s .each (a .place) (place-below t l (a .place) (a .there))) (a .ready) b (a .sized) (a .settled)
+      ok = set-sound c d (a .value) whole (a .ready) b (a .sized) (a .settled)
 
       stands : sameKey k l ≡ true → StandsFor (senseOf (k .selector)) (withCur (a .value) c) (valueIn d)
       stands e =
           let i : senseOf (k .selector) ≡ senseOf (c .selector) =
           ap senseOf (reads-key k l .says e .selector) ∙ sym (sense-at t l (a .place) (a .there))
           in
-          rw i (set-stands (senseOf (c .selector)) c d (a .value) b (a .sized) (a .settled))
+          rw i (set-stands (senseOf (c .selector)) c d (a .value) whole b (a .sized) (a .settled))
 
       go : (y : Bool) → sameKey k l ≡ y → Moved t k p [] (pick y (valueIn d ∷ []) []) (placed t (a .place) (withCur (a .value) c))
       go true e =

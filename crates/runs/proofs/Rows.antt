@@ -200,13 +200,13 @@ module _ (t : Table) (sound : Sound t) (s d : List ℕ) (room : ℕ) (p : ℕ) (
     settled-rows Unknown e =
         let z : SoundAs held (at t p) = rw (← (m .selector)) (rw (m .is) at (sound .each (m .place) (m .inside))) in
         absurd (rw e at z)
-    settled-rows YesNo e =
-        settled-row (leb 0 (valueIn d) && leb (valueIn d) 1)
-        (λ h o. let l = reads-within 0 (valueIn d) 1 .says h in let q : 1 < valueIn d = rw e at o in omega arith)
-        (λ h. rw e (let n = reads-within 0 (valueIn d) 1 .denies h in more n))
+    settled-rows YesNo e = settled-row (leb 0 (valueIn d) && leb (valueIn d) 1) (λ h o. taken (reads-within 0 (valueIn d) 1 .says h) (rw e at o)) (λ h. rw e (other (reads-within 0 (valueIn d) 1 .denies h)))
       where
-        more : ((0 ≤ valueIn d) × (valueIn d ≤ 1) → ⊥) → 1 < valueIn d
-        more n = ⊎-elim (λ (l : 1 < valueIn d). l) (λ (l : 1 < valueIn d → ⊥). absurd (n (omega arith, omega arith))) (decided (ltb 1 (valueIn d)) (reads-lt _ _))
+        taken : (0 ≤ valueIn d) × (valueIn d ≤ 1) → Outside YesNo (at t p) (valueIn d) → ⊥
+        taken l o = omega arith
+
+        other : ((0 ≤ valueIn d) × (valueIn d ≤ 1) → ⊥) → Outside YesNo (at t p) (valueIn d)
+        other n = ⊎-elim (λ (l : 1 < valueIn d). omega arith) (λ (l : 1 < valueIn d → ⊥). absurd (n (omega arith, omega arith))) (decided (ltb 1 (valueIn d)) (reads-lt _ _))
     settled-rows (Ranged k) e = passed (λ x. let o : Outside (Ranged k) (x .1 .control) (valueIn d) = rw e at (x .1 .outside) in o) (passed no-get refl)
     settled-rows Pin e =
         settled-row (leb 1 (valueIn d) && leb (valueIn d) (at t p .pins))

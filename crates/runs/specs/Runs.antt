@@ -17,7 +17,8 @@
 --   told f t run      ==  what f finds in the accepted steps of the run, in their order
 --   lastOf x xs       ==  the last of xs, or x where there is none
 --   some xs           ==  there is one
---   Held s c x        ==  the ranged control's CUR is the closest setting to x, which is not too wide; silence as it is
+--   Settles s range x v ==  of a ranged control of sort s with that range, which is legal, v is stored where x, not too wide, is wanted
+--                         (Stored, of crate setting, says so over the integers)
 --   StandsFor k c x   ==  the control's CUR is what is stored where x is wanted: of a ranged control that is loaded the
 --                         closest setting to x, of another x itself
 --   Bytes d           ==  every element of d is a byte, as in every lent slice
@@ -30,7 +31,8 @@ use mathlib.Core.Bool.{Bool, true, false, _&&_}
 use lib.Dec.{eqb}
 use lib.ListN.{getD}
 use Rattle.ground.specs.Pick.{pick}
-use Rattle.setting.specs.Setting.{fitsOf, closestTo}
+use Rattle.setting.specs.Setting.{spanOf}
+use Rattle.setting.specs.Meaning.{value, Legal, Stored}
 use Rattle.setting.specs.declared.Range.{Range}
 use Rattle.setting.specs.declared.Sort.{Sort}
 use Rattle.table.specs.declared.Control.{Control}
@@ -114,14 +116,16 @@ abbrev pub some : {A : Type 0} → List A → Bool
 some [] = false
 some (x ∷ xs) = true
 
-pub record Held (s : Sort) (c : Control) (x : ℕ) : Type 0 where
-  pub fits : fitsOf s x ≡ true
-  pub closest : c .cur ≡ closestTo s (rangeOf c) x
+pub record Settles (s : Sort) (range : Range) (x v : ℕ) : Type 0 where
+  pub legal : Legal s range
+  pub asked : x < spanOf s
+  pub fits : v < spanOf s
+  pub means : Stored s range (value s x) (value s v)
 
 abbrev pub StandsFor : Sense → Control → ℕ → Type 0
 StandsFor sense.Unknown c x = c .cur ≡ x
 StandsFor sense.YesNo c x = c .cur ≡ x
-StandsFor (sense.Ranged s) c x = c .loaded ≡ true → Held s c x
+StandsFor (sense.Ranged s) c x = c .loaded ≡ true → Settles s (rangeOf c) x (c .cur)
 StandsFor sense.Pin c x = c .cur ≡ x
 
 abbrev pub Bytes : List ℕ → Type 0
