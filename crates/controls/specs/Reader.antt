@@ -3,21 +3,22 @@
 --   controls-run     ==  the controls of a run as the reader has it are those of its descriptors
 --   table-stands     ==  a control stands in the table exactly where some entity of the run carries it
 --   table-ordered    ==  of two places of the table the earlier holds the control that is Before the other
---   reader-sound     ==  refusal 30 has nothing against the table
+--   reader-fresh     ==  its controls are as they are made: nothing loaded, first values, spare places zero
 use Prim.Native.Nat.{ℕ, zero, suc, _+_, _≤_, _<_}
 use mathlib.Core.Path.{_≡_, refl, sym, ap, _∙_}
-use mathlib.Core.Logic.{_↔_}
+use mathlib.Core.Logic.{⊎-elim, _↔_}
 use mathlib.Core.List.{List, [], _∷_, _++_, flatten, append-assoc, List·Memᴰ, List·Memᴰ·head, List·Memᴰ·tail}
 use native.Mathlib.Omega.{arith}
-use lib.ListN.{length, getD, drop, length-append}
+use lib.Dec.{ltb}
+use lib.ListN.{length, getD, drop, length-append, List·getD-eq-default}
 use lib.Seq.{getD-append-seam}
-use Rattle.ground.specs.Pick.{true≠false}
+use Rattle.ground.specs.Pick.{decided, reads-lt}
 use Rattle.ground.specs.Numbers.{byte}
-use Rattle.ground.specs.Lists.{part, pad-at, split-of}
+use Rattle.ground.specs.Lists.{part, pad, pad-length, pad-at, split-of}
 use Rattle.scan.specs.Cutting.{Descriptor, endAt}
 use Rattle.scan.specs.CuttingLaws.{starts-end, starts-part, starts-next}
 use Rattle.layout.specs.declared.Cluster.{Cluster}
-use Rattle.layout.specs.Layout.{LaidOut, entityOf}
+use Rattle.layout.specs.Layout.{Pins, LaidOut, entityOf}
 use Rattle.layout.specs.Layout as layout
 use Rattle.entities.specs.declared.Node.{Node}
 use Rattle.entities.specs.Run.{mostEntities, nodeOf, nodesFrom, runIn}
@@ -29,7 +30,7 @@ use Rattle.table.specs.declared.Table.{Table}
 use Rattle.table.specs.declared.Sense.{Sense}
 use Rattle.table.specs.declared.Sense.the-variants.{YesNo, Ranged}
 use Rattle.table.specs.Controls.{mostControls, blankControl, at, senseOf}
-use Rattle.table.specs.Meaning.{SoundAs, Sound}
+use Rattle.table.specs.Fresh.{FreshAs, Fresh}
 use Rattle.controls.specs.Controls.{unitControl, entityControls, controlsOf, nodeControls, controlsIn, controlsOfRun}
 use Rattle.controls.specs.Growth.{tableOf}
 use Rattle.controls.specs.Standing.{Carries, feature, selector, Stands, here, there, stands-of, control-stands}
@@ -57,6 +58,14 @@ at-place : (l : List Control) → length l ≤ mostControls → (p : ℕ) → p 
 unfolding tableOf
 at-place l few p h = pad-at blankControl mostControls l p (omega arith)
 
+spare-place : (l : List Control) (p : ℕ) → length l ≤ p → at (tableOf l) p ≡ blankControl
+unfolding tableOf
+spare-place l p h =
+    ⊎-elim
+    (λ (m : p < mostControls). pad-at blankControl mostControls l p m ∙ List·getD-eq-default l blankControl h)
+    (λ (n : p < mostControls → ⊥). let e = pad-length blankControl mostControls l in let m : length (pad blankControl mostControls l) ≤ p = omega arith in List·getD-eq-default (pad blankControl mostControls l) blankControl m)
+    (decided (ltb p mostControls) (reads-lt p mostControls))
+
 -- the control x stands at one of the places that the table counts
 pub record InTable (t : Table) (x : Control) : Type 0 where
   pub place : ℕ
@@ -82,11 +91,11 @@ known (suc (suc (suc (suc (suc (suc (suc (suc zero)))))))) h n = yes-no
 known (suc (suc (suc (suc (suc (suc (suc (suc (suc zero))))))))) h n = yes-no
 known (suc (suc (suc (suc (suc (suc (suc (suc (suc (suc b)))))))))) h n = absurd (omega arith)
 
-unit-sound : {held : Sense} → Held held → (u k v : ℕ) → k ≤ 16 → SoundAs held (unitControl u k v)
-unit-sound yes-no u k v h = record { channel = h; narrow = record { min = omega arith; max = omega arith; res = omega arith; cur = omega arith }; setting = omega arith }
-unit-sound (ranged s) u k v h = record { channel = h; loaded = λ e. absurd (true≠false (sym e)) }
+unit-fresh : {held : Sense} → Held held → (u k v : ℕ) → k ≤ 16 → FreshAs held (unitControl u k v)
+unit-fresh yes-no u k v h = record { channel = h; pins = refl; unused = record { unloaded = refl; min = refl; max = refl; res = refl }; first = refl }
+unit-fresh (ranged s) u k v h = record { channel = h; pins = refl; unused = record { unloaded = refl; min = refl; max = refl; res = refl }; first = refl }
 
-selector-pins : (d : List ℕ) → LaidOut d → byte d 2 ≡ 5 → (1 ≤ byte d 4) × (byte d 4 ≤ 8)
+selector-pins : (d : List ℕ) → LaidOut d → byte d 2 ≡ 5 → Pins (byte d 4)
 selector-pins d (layout.input k l) e = absurd (omega arith)
 selector-pins d (layout.output k l) e = absurd (omega arith)
 selector-pins d (layout.mixer k q l) e = absurd (omega arith)
@@ -94,12 +103,11 @@ selector-pins d (layout.selector k q l) e = q
 selector-pins d (layout.printed k q l z) e = q
 selector-pins d (layout.feature k q l) e = absurd (omega arith)
 
-carried-sound : {d : List ℕ} {c : ℕ} {x : Control} → LaidOut d → c ≤ 16 → Carries d c x → SoundAs (senseOf (x .selector)) x
+carried-fresh : {d : List ℕ} {c : ℕ} {x : Control} → LaidOut d → c ≤ 16 → Carries d c x → FreshAs (senseOf (x .selector)) x
 unfolding senseOf
-carried-sound {d} o h (feature k b i p q f g) = unit-sound (known b q f) (byte d 3) k (b + 1) (omega arith)
-carried-sound {d} o h (selector i) =
-    let r = selector-pins d o i in
-    record { channel = refl; pins = r; narrow = record { min = omega arith; max = omega arith; res = omega arith; cur = omega arith }; setting = (omega arith, r .0) }
+carried-fresh {d} o h (feature k b i p q f g) = unit-fresh (known b q f) (byte d 3) k (b + 1) (omega arith)
+carried-fresh {d} o h (selector i) =
+    record { channel = refl; pins = selector-pins d o i; unused = record { unloaded = refl; min = refl; max = refl; res = refl }; first = refl }
 
 -- where a control's entity stands
 stands-at : (z : Cluster) {ds : List (List ℕ)} {cs : List Cluster} {x : Control} → Stands ds cs x → (i : ℕ) × (i < length ds) × Carries (getD ds i []) (getD cs i z .channels) x
@@ -140,12 +148,12 @@ module _ (ds : List (List ℕ)) (cs : List Cluster) (laid : (d : List ℕ) → L
   table-ordered p q l h =
       rw (at-place listed few p (omega arith), at-place listed few q h) (pairs-at (Before ds) blankControl (controls-ordered ds cs) p q l h)
 
-  -- THE THEOREM: with at most 16 channels at each place, refusal 30 does not turn the table away
-  pub reader-sound : (z : Cluster) → ((i : ℕ) → i < length ds → getD cs i z .channels ≤ 16) → Sound (tableOf listed)
+  -- THE THEOREM: with at most 16 channels at each place, the table is as document 01 has it at first; so refusal 30 does not turn it away
+  pub reader-fresh : (z : Cluster) → ((i : ℕ) → i < length ds → getD cs i z .channels ≤ 16) → Fresh (tableOf listed)
   unfolding tableOf
-  reader-sound z channels = record { few = few; once = λ p q l h. before-other ds distinct _ _ (table-ordered p q l h); each = each }
+  reader-fresh z channels = record { few = few; once = λ p q l h. before-other ds distinct _ _ (table-ordered p q l h); each = each; spare = spare-place listed }
     where
-      each : (p : ℕ) → p < tableOf listed .count → SoundAs (senseOf (at (tableOf listed) p .selector)) (at (tableOf listed) p)
+      each : (p : ℕ) → p < tableOf listed .count → FreshAs (senseOf (at (tableOf listed) p .selector)) (at (tableOf listed) p)
       each p h =
           let r = stands-at z (stands-of ds cs (getD listed p blankControl) (member-at blankControl listed p h)) in
-          rw (at-place listed few p h) (carried-sound (laid (getD ds (r .0) []) (member-at [] ds (r .0) (r .1))) (channels (r .0) (r .1)) (r .2))
+          rw (at-place listed few p h) (carried-fresh (laid (getD ds (r .0) []) (member-at [] ds (r .0) (r .1))) (channels (r .0) (r .1)) (r .2))

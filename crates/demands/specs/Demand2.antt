@@ -2,7 +2,8 @@
 -- the one its definition gives: a Get returns the addressed control, an accepted Set stores the closest available setting (silence as
 -- itself), and changes that control alone." What the reading is stands in Demand3; here are the runs that begin with the reader's table.
 --   few-channels   ==  a cluster that keeps the rules has at most 16 channels, on every entity's output
---   reader-table   ==  refusal 30 has nothing against the reader's table, whatever the configuration and the sheet
+--   reader-table   ==  the reader's table, whatever the configuration and the sheet, is as document 01 has it before any load: first
+--                      values, nothing loaded, spare places zero; so refusal 30 has nothing against it (`fresh-sound`)
 --   ReaderRun t st ==  what is true of every run st of loads and requests from the table t: refusal 30 has nothing against the table
 --                      it leaves; each Get that is then answered is answered as its definition says; each control is what the
 --                      last accepted load and Set made it; the next step changes the addressed control alone
@@ -28,9 +29,10 @@ use Rattle.clusters.specs.Edition.{Connected, enteringAt}
 use Rattle.clusters.specs.Audio.{firstOf, giveOut, Keeps, audio}
 use Rattle.table.specs.declared.Table.{Table}
 use Rattle.table.specs.declared.Found.the-variants as found
-use Rattle.table.specs.Meaning.{Sound, sound-empty}
+use Rattle.table.specs.Meaning.{Sound}
+use Rattle.table.specs.Fresh.{Fresh, fresh-sound, fresh-empty}
 use Rattle.controls.specs.Growth.{tableOf}
-use Rattle.controls.specs.Reader.{reader-sound}
+use Rattle.controls.specs.Reader.{reader-fresh}
 use Rattle.request.specs.Outcome.Outcome.{got}
 use Rattle.request.specs.Request.{requestOf}
 use Rattle.runs.specs.Runs.{Key, whereIs, Step, tableNext, after, stepKey, rangesIn, numbersIn, told, Wired}
@@ -76,19 +78,19 @@ module _ (r : Run) (c : Connected audio r) where
   pub few-channels : (i : ℕ) → i < held r → c .cluster (idAt r i) .channels ≤ mostChannels
   few-channels i l = few-below (suc (c .rank (idAt r i))) i l (omega arith)
 
-configuration-table : (s : List ℕ) (t : Configuration s) → Sound (tableOf (controls s t))
+configuration-table : (s : List ℕ) (t : Configuration s) → Fresh (tableOf (controls s t))
 configuration-table s t =
-    reader-sound (run s t) (clusters s t) (t .kept .rule9) (distinct-ids s (t .kept) (t .connected)) (t .rule15) noCluster
+    reader-fresh (run s t) (clusters s t) (t .kept .rule9) (distinct-ids s (t .kept) (t .connected)) (t .rule15) noCluster
     (λ i h. let e = held-all s (t .kept) in
     subst (λ (k : Cluster). k .channels ≤ mostChannels) (sym (cluster-shows s t i h))
     (few-channels (entitiesOf (t .kept)) (t .connected) i (omega arith)))
 
-pub reader-table : (s d : List ℕ) → Sound (readingOf s (length d) .table)
+pub reader-table : (s d : List ℕ) → Fresh (readingOf s (length d) .table)
 reader-table s d = go (reader-answers s d)
   where
-    go : ((readingOf s (length d) .number ≡ 0) × Shown s (length d)) ⊎ RefusedReading s d → Sound (readingOf s (length d) .table)
-    go (inl (e, (t, room))) = subst Sound (sym (ap (λ (x : Reading). x .table) (answer-shows s t (length d) room))) (configuration-table s t)
-    go (inr k) = subst Sound (sym (k .no-table)) sound-empty
+    go : ((readingOf s (length d) .number ≡ 0) × Shown s (length d)) ⊎ RefusedReading s d → Fresh (readingOf s (length d) .table)
+    go (inl (e, (t, room))) = subst Fresh (sym (ap (λ (x : Reading). x .table) (answer-shows s t (length d) room))) (configuration-table s t)
+    go (inr k) = subst Fresh (sym (k .no-table)) fresh-empty
 
 pub record ReaderRun (t : Table) (steps : List Step) : Type 0 where
   pub sound : Sound (after t steps)
@@ -98,7 +100,7 @@ pub record ReaderRun (t : Table) (steps : List Step) : Type 0 where
 
 pub reader-runs : (s d : List ℕ) (steps : List Step) → Wired steps → ReaderRun (readingOf s (length d) .table) steps
 reader-runs s d steps w =
-    let h = reader-table s d in
+    let h = fresh-sound (readingOf s (length d) .table) (reader-table s d) in
     record {
       sound = run-sound (readingOf s (length d) .table) steps w h;
       gets = λ n setup «data» room bytes e. get-answers (readingOf s (length d) .table) steps h w n setup «data» room bytes e;

@@ -5,20 +5,22 @@
 --   FreshAs k c   ==  a control that holds k, as it is made
 --   Fresh t       ==  a table whose controls are as they are made, no more than 128 and none twice, and whose other places are spare
 --   fresh-sound   ==  30 has nothing against it
---   fresh-passes, empty-passes  ==  so the test lets it pass
+--   fresh-empty   ==  the table with no control is one
 use Prim.Native.Nat.{ℕ, _≤_, _<_}
 use mathlib.Core.Path.{_≡_, sym, _∙_}
-use mathlib.Core.Bool.{true, false}
+use mathlib.Core.Bool.{false}
+use mathlib.Core.Logic.{⊎-elim}
 use native.Mathlib.Omega.{arith}
-use Rattle.ground.specs.Pick.{shows, true≠false}
+use lib.Dec.{ltb}
+use lib.ListN.{length, replicate, length-replicate, getD-replicate, List·getD-eq-default}
+use Rattle.ground.specs.Pick.{decided, reads-lt, true≠false}
 use Rattle.layout.specs.Layout.{Pins}
 use Rattle.table.specs.declared.Control.{Control}
 use Rattle.table.specs.declared.Table.{Table}
 use Rattle.table.specs.declared.Sense.{Sense}
 use Rattle.table.specs.declared.Sense.the-variants.{Unknown, YesNo, Ranged, Pin}
 use Rattle.table.specs.Controls.{mostControls, blankControl, emptyTable, at, senseOf}
-use Rattle.table.specs.Sound.{soundOf}
-use Rattle.table.specs.Meaning.{Narrow, Same, SoundAs, Sound, sound-reads, sound-empty}
+use Rattle.table.specs.Meaning.{Narrow, Same, SoundAs, Sound}
 
 pub record Unused (c : Control) : Type 0 where
   pub unloaded : c .loaded ≡ false
@@ -76,8 +78,12 @@ fresh-as Pin c h =
 pub fresh-sound : (t : Table) → Fresh t → Sound t
 fresh-sound t h = record { few = h .few; once = h .once; each = λ p l. fresh-as (senseOf (at t p .selector)) (at t p) (h .each p l) }
 
-pub fresh-passes : (t : Table) → Fresh t → soundOf t ≡ true
-fresh-passes t h = shows (sound-reads t) (fresh-sound t h)
-
-pub empty-passes : soundOf emptyTable ≡ true
-empty-passes = shows (sound-reads emptyTable) sound-empty
+pub fresh-empty : Fresh emptyTable
+fresh-empty = record { few = omega arith; once = λ p q l m. absurd (omega arith); each = λ p l. absurd (omega arith); spare = λ p l. blank-at p }
+  where
+    blank-at : (p : ℕ) → at emptyTable p ≡ blankControl
+    blank-at p =
+        ⊎-elim
+        (λ (m : p < mostControls). getD-replicate mostControls p blankControl blankControl m)
+        (λ (n : p < mostControls → ⊥). let e = length-replicate mostControls blankControl in let l : length (replicate mostControls blankControl) ≤ p = omega arith in List·getD-eq-default (replicate mostControls blankControl) blankControl l)
+        (decided (ltb p mostControls) (reads-lt p mostControls))

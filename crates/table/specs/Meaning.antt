@@ -14,7 +14,6 @@
 --   Sound t         ==  30 has nothing against the table
 --   sound-control   ==  the test of one control decides what it asks of that control
 --   sound-reads     ==  the test holds exactly there
---   sound-empty     ==  the empty table is one
 --   sound-counted   ==  each control of such a table stands in the array
 use Prim.Native.Nat.{ℕ, _≤_, _<_, min}
 use mathlib.Core.Path.{_≡_, refl, sym, ap, _∙_}
@@ -37,7 +36,7 @@ use Rattle.table.specs.declared.Sense.{Sense}
 use Rattle.table.specs.declared.Sense.the-variants.{Unknown, YesNo, Ranged, Pin}
 use Rattle.table.specs.declared.Found.{Found}
 use Rattle.table.specs.declared.Found.the-variants.{Nothing, At}
-use Rattle.table.specs.Controls.{mostControls, blankControl, emptyTable, at, senseOf, rangeOf, answersTo}
+use Rattle.table.specs.Controls.{mostControls, blankControl, at, senseOf, rangeOf, answersTo}
 use Rattle.ground.specs.Places.{firstIn, first-some, reads-everywhere}
 use Rattle.table.specs.First.{places, foundIn, found-first}
 use Rattle.table.specs.Sound.{narrowOf, soundYesNo, soundPin, soundRanged, soundBy, soundControl, isAt, firstThere, soundPlace, soundOf}
@@ -204,9 +203,6 @@ sound-reads t =
       each = λ p l. reads-place t (h .0) p l .says (h .1 p l) .0;
     })
     (λ h. (h .few, λ p l. shows (reads-place t (h .few) p l) (h .each p l, λ q m. h .once q p m l)))
-
-pub sound-empty : Sound emptyTable
-sound-empty = record { few = omega arith; once = λ p q l m. absurd (omega arith); each = λ p l. absurd (omega arith) }
 
 -- past the array's end the model reads a spare place, and 30 has something against that as a control
 pub sound-counted : (t : Table) → Sound t → (p : ℕ) → p < t .count → p < length (t .controls)
