@@ -1,5 +1,5 @@
 -- The run's descriptors as the reader hands them on, and what is looked at of a run, place by place.
---   mostEntities     ==  a run has at most 32 entities
+--   mostEntities     ==  the most entities that a run may have: 32
 --   nodeOf p d       ==  the descriptor d at place p: its place, what its layout says, its sources
 --   nodesFrom p ds   ==  one descriptor after another from place p on
 --   blankNode        ==  a spare place: all zeros, of no kind

@@ -74,7 +74,8 @@ pub record Rule6 (header : List ℕ) (others : List (List ℕ)) : Type 0 where
   pub after : List (List ℕ)
   pub split : others ≡ run ++ (later ++ after)
   pub class : (d : List ℕ) → List·Memᴰ d run → Class d
-  pub no-class : (d : List ℕ) → List·Memᴰ d later → (Class d → ⊥) × (Interface d → ⊥)
+  pub no-class : (d : List ℕ) → List·Memᴰ d later → Class d → ⊥
+  pub in-group : (d : List ℕ) → List·Memᴰ d later → Interface d → ⊥
   pub ends : GroupEnds after
   pub length-told : word header 5 ≡ length header + total run
 

@@ -187,13 +187,17 @@ module _ (s h : List ℕ) (header from : ℕ) (e : from ≡ header + length h) (
         after = p .after;
         split = r .split ∙ ap (λ (x : List (List ℕ)). r .run ++ x) (sym (r .here) ∙ p .split);
         class = r .class;
-        no-class = p .plain;
+        no-class = λ d m. p .plain d m .0;
+        in-group = λ d m. p .plain d m .1;
         ends = p .ends;
         length-told = omega arith;
       }
 
+  plain-of : (k : Rule6 h (rest s from)) (d : List ℕ) → List·Memᴰ d (k .later) → Plain d
+  plain-of k d m = (k .no-class d m, k .in-group d m)
+
   run-one : (k : Rule6 h (rest s from)) → (r .run ≡ k .run) × (r .beyond ≡ k .later ++ k .after)
-  run-one k = front-one Class (r .run) (r .beyond) (k .run) (k .later ++ k .after) (sym (r .split) ∙ k .split) (r .class) (k .class) (r .stops) (later-stops (k .later) (k .after) (k .no-class) (k .ends))
+  run-one k = front-one Class (r .run) (r .beyond) (k .run) (k .later ++ k .after) (sym (r .split) ∙ k .split) (r .class) (k .class) (r .stops) (later-stops (k .later) (k .after) (plain-of k) (k .ends))
 
   rule6-to : (k : Rule6 h (rest s from)) → (header + word h 5 ≡ runEnd s from) × Parted (rest s (runEnd s from))
   rule6-to k =
@@ -201,7 +205,7 @@ module _ (s h : List ℕ) (header from : ℕ) (e : from ≡ header + length h) (
       let t : total (r .run) ≡ total (k .run) = ap total (one .0) in
       let a = r .end in
       let w = k .length-told in
-      (omega arith, record { later = k .later; after = k .after; split = r .here ∙ one .1; plain = k .no-class; ends = k .ends })
+      (omega arith, record { later = k .later; after = k .after; split = r .here ∙ one .1; plain = plain-of k; ends = k .ends })
 
   pub reads-rule6 : Reads (eqb (header + word h 5) (runEnd s from) && not (straysFrom s (runEnd s from))) (Rule6 h (rest s from))
   reads-rule6 = reads-same (reads-and _ _ (reads-eq (header + word h 5) (runEnd s from)) (reads-strays s (runEnd s from) end-inside)) rule6-of rule6-to

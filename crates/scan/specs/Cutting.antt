@@ -15,10 +15,10 @@ use mathlib.Core.List.{List, [], _∷_, flatten, List·Memᴰ}
 use lib.ListN.{length, take}
 use lib.Dec.{ltb, eqb}
 use Rattle.ground.specs.declared.Place.{Place}
-use Rattle.ground.specs.declared.Place.the-variants.{Nowhere, At}
 use Rattle.ground.specs.Pick.{pick}
 use Rattle.ground.specs.Numbers.{byte}
 use Rattle.ground.specs.Lists.{part, total}
+use Rattle.ground.specs.Refuse.{keptAt}
 
 pub record Descriptor (d : List ℕ) : Type 0 where
   pub two : 2 ≤ length d
@@ -46,7 +46,7 @@ unfoldable pub reach : List ℕ → ℕ → ℕ
 reach s at = at + total (rest s at)
 
 unfoldable pub breach3 : List ℕ → Place
-breach3 s = pick (eqb (reach s 0) (length s)) Nowhere (At (reach s 0))
+breach3 s = keptAt (eqb (reach s 0) (length s)) (reach s 0)
 
 pub record Misfit (s : List ℕ) (p : ℕ) : Type 0 where
   pub before : List (List ℕ)

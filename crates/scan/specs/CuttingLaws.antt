@@ -25,9 +25,10 @@ use native.Mathlib.Omega.{arith}
 use native.Mathlib.Nat.{add-zero, add-assoc, add-sub-cancel-left}
 use borrow.Author.Tests.{eq-eqb, ne-eqb, le-ltb, ltb-true, ltb-false, eqb-true, eqb-false}
 use Rattle.ground.specs.declared.Place.the-variants.{Nowhere, At}
-use Rattle.ground.specs.Pick.{pick, yes, no}
+use Rattle.ground.specs.Pick.{pick, yes, no, Reads, shows}
 use Rattle.ground.specs.Numbers.{byte}
 use Rattle.ground.specs.Lists.{part, total, part-length, part-join, part-none, length-flatten}
+use Rattle.ground.specs.Refuse.{keptAt, kept-nowhere, kept-at}
 use Rattle.scan.specs.Cutting.{Descriptor, Cutting, Rule3, endAt, restFrom, rest, reach, breach3, Misfit}
 
 -- what endAt answers: at itself where no descriptor stands there, or where the one that does ends
@@ -195,52 +196,63 @@ none-at-reach s two room =
     let e = end-stands s p two room in
     cons≢nil (sym (rest-more s p (λ q. omega arith)) ∙ reach-stops s)
 
-pub cutting-exists : (s : List ℕ) → (breach3 s ≡ Nowhere) ↔ Rule3 s
-unfolding breach3 reach
-cutting-exists s = (λ e. of (eqb (reach s 0) (length s)) refl e, λ c. to (c .0) (c .1))
+reads-rule3 : (s : List ℕ) → Reads (eqb (reach s 0) (length s)) (Rule3 s)
+unfolding reach
+reads-rule3 s = record { says = λ e. (rest s 0, whole (eqb-true _ _ e)); denies = λ e c. eqb-false _ _ e (reached (c .0) (c .1)) }
   where
-    k : Standing s 0 (rest s 0)
-    k = standing s 0 (omega arith)
+    whole : 0 + total (rest s 0) ≡ length s → Cutting s (rest s 0)
+    whole h =
+        let k = standing s 0 (omega arith) in
+        record { whole = k .flat ∙ part-front s (0 + total (rest s 0)) ∙ take-all (0 + total (rest s 0)) s (omega arith); each = k .each }
 
-    of : (b : Bool) → eqb (reach s 0) (length s) ≡ b → pick b Nowhere (At (reach s 0)) ≡ Nowhere → Rule3 s
-    of true e q = (rest s 0, record { whole = k .flat ∙ part-front s (0 + total (rest s 0)) ∙ take-all (0 + total (rest s 0)) s (let h : 0 + total (rest s 0) ≡ length s = eqb-true _ _ e in omega arith); each = k .each })
-    of false e q = let z : _≡_ {A = ℕ} 0 1 = cc in absurd (omega arith)
-
-    to : (ds : List (List ℕ)) → Cutting s ds → pick (eqb (reach s 0) (length s)) Nowhere (At (reach s 0)) ≡ Nowhere
-    to ds c =
+    reached : (ds : List (List ℕ)) → Cutting s ds → 0 + total (rest s 0) ≡ length s
+    reached ds c =
         let l : total ds ≡ length s = sym (length-flatten ds) ∙ ap length (c .whole) in
         let m : total (rest s 0) ≡ total ds = ap total (cutting-rest s ds c) in
-        yes _ _ (eq-eqb (0 + total (rest s 0)) (length s) (omega arith))
+        omega arith
+
+-- where there is no cutting, the descriptors stop at a misfit
+at-reach : (s : List ℕ) → (Rule3 s → ⊥) → Misfit s (reach s 0)
+unfolding reach
+at-reach s n =
+    let k = standing s 0 (omega arith) in
+    let r = k .room in
+    let short : 0 + total (rest s 0) ≡ length s → ⊥ = λ q. n (reads-rule3 s .says (eq-eqb _ _ q)) in
+    record {
+      before = rest s 0;
+      stands = record { whole = k .flat ∙ part-front s (0 + total (rest s 0)); each = k .each };
+      inside = omega arith;
+      none = none-at-reach s;
+    }
+
+-- and they stop at no other
+misfit-reach : (s : List ℕ) (p : ℕ) → Misfit s p → p ≡ reach s 0
+unfolding reach
+misfit-reach s p m =
+    let c = m .stands in
+    let i = m .inside in
+    let b = m .before in
+    let l : total b ≡ p = sym (length-flatten b) ∙ ap length (c .whole) ∙ length-take-le p s (omega arith) in
+    let r : rest s 0 ≡ b ++ rest s (0 + total b) = rest-of s 0 b (drop p s) (sym (ap (λ (x : List ℕ). x ++ drop p s) (c .whole) ∙ take-append-drop p s)) (c .each) in
+    let z : 0 + total b ≡ p = omega arith in
+    let n : rest s (0 + total b) ≡ [] = rw z (rest-none s p (end-none s p (m .none))) in
+    let t : total (rest s 0) ≡ total b = ap total (r ∙ ap (λ (x : List (List ℕ)). b ++ x) n ∙ append-nil b) in
+    omega arith
+
+pub cutting-exists : (s : List ℕ) → (breach3 s ≡ Nowhere) ↔ Rule3 s
+unfolding breach3
+cutting-exists s = kept-nowhere _ (reads-rule3 s)
 
 pub cutting-misfit : (s : List ℕ) (p : ℕ) → (breach3 s ≡ At p) ↔ Misfit s p
-unfolding breach3 reach
-cutting-misfit s p = (λ e. of (eqb (reach s 0) (length s)) refl e, to)
+unfolding breach3
+cutting-misfit s p = (λ e. let k = both .0 e in rw (k .0) (at-reach s (k .1)), λ m. both .1 (misfit-reach s p m, uncut m))
   where
-    k : Standing s 0 (rest s 0)
-    k = standing s 0 (omega arith)
+    both : (keptAt (eqb (reach s 0) (length s)) (reach s 0) ≡ At p) ↔ ((p ≡ reach s 0) × (Rule3 s → ⊥))
+    both = kept-at (reach s 0) p (reads-rule3 s)
 
-    at-reach : (reach s 0 ≡ length s → ⊥) → Misfit s (reach s 0)
-    at-reach n =
-        let r = k .room in
-        record {
-          before = rest s 0;
-          stands = record { whole = k .flat ∙ part-front s (0 + total (rest s 0)); each = k .each };
-          inside = omega arith;
-          none = none-at-reach s;
-        }
-
-    of : (b : Bool) → eqb (reach s 0) (length s) ≡ b → pick b Nowhere (At (reach s 0)) ≡ At p → Misfit s p
-    of true e q = let z : _≡_ {A = ℕ} 0 1 = cc in absurd (omega arith)
-    of false e q = let z : reach s 0 ≡ p = cc in rw (← z) (at-reach (eqb-false _ _ e))
-
-    to : Misfit s p → pick (eqb (reach s 0) (length s)) Nowhere (At (reach s 0)) ≡ At p
-    to m =
-        let c = m .stands in
+    uncut : Misfit s p → Rule3 s → ⊥
+    uncut m c =
+        let q = misfit-reach s p m in
         let i = m .inside in
-        let b = m .before in
-        let l : total b ≡ p = sym (length-flatten b) ∙ ap length (c .whole) ∙ length-take-le p s (omega arith) in
-        let r : rest s 0 ≡ b ++ rest s (0 + total b) = rest-of s 0 b (drop p s) (sym (ap (λ (x : List ℕ). x ++ drop p s) (c .whole) ∙ take-append-drop p s)) (c .each) in
-        let z : 0 + total b ≡ p = omega arith in
-        let n : rest s (0 + total b) ≡ [] = rw z (rest-none s p (end-none s p (m .none))) in
-        let t : total (rest s 0) ≡ p = ap total (r ∙ ap (λ (x : List (List ℕ)). b ++ x) n ∙ append-nil b) ∙ l in
-        no _ _ (ne-eqb _ _ (λ (q : 0 + total (rest s 0) ≡ length s). omega arith)) ∙ ap At (let u : 0 + total (rest s 0) ≡ p = omega arith in u)
+        let w : reach s 0 ≡ length s = eqb-true _ _ (shows (reads-rule3 s) c) in
+        omega arith
