@@ -12,6 +12,7 @@
 --   ruleAt ed run i ==  the rule for the entity at place i
 --   clustersAt now l  ==  the clusters that stand at the places l
 --   clustersOf ed run ==  what each place of the run gives out after 32 rounds
+--   keepsAt ed run i ==  whether the entity at place i passes its test there
 --   breach13 ed run ==  the place of the first entity that breaks its test, by what the reader computes
 use Prim.Native.Nat.{ℕ, _<_}
 use mathlib.Core.Path.{_≡_}

@@ -2,6 +2,7 @@
 -- Unit sourcing itself is refused by 12, with its ID made 1 by 10, with its source made 3 by 11. And a source may stand after its user.
 --   feature i s      ==  case A's Feature Unit with the ID i and the source s
 --   caseA f          ==  case A's run with the Feature Unit f
+--   forward          ==  the same entities, each before its source; Cases: what is judged of all of these
 use Prim.Native.Nat.{ℕ}
 use mathlib.Core.Path.{_≡_, refl}
 use mathlib.Core.List.{List, [], _∷_}

@@ -7,11 +7,14 @@
 --   bitSet m b              ==  bit b of the mask m is set, the low byte first
 --   bitCarries m b          ==  bit b of the mask m, which is 0 to 9, carries a control
 --   bitControls m u k b     ==  that control, if it carries one
+--   bitsFrom n b m u k     ==  .. of the next n bits from bit b on
 --   maskControls m u k      ==  those of channel k's mask m
+--   channelsFrom j k u n d  ==  .. of the next j channels from channel k on
 --   featureControls u n c d ==  those of the Feature Unit d with ID u and control size n, whose cluster has c channels
 --   entityControls e d c    ==  those of the entity e, which d is
 --   controlsOf ds cs        ==  those of the run ds with the clusters cs at its places
 --   controlsOfRun s r cs    ==  the same, as the reader has the run: entities that stand at places of the configuration s
+--   nodeControls s n c, controlsIn s ns cs  ==  .. of one such entity, of a list of them
 --   breach15 k p            ==  where rule 15 is broken by k controls: nowhere, or at the header's place p
 use Prim.Native.Nat.{ℕ, zero, suc, _+_, _*_, _/_, _%_, _^_}
 use mathlib.Core.Bool.{Bool, false, not, _&&_}

@@ -1,6 +1,7 @@
 -- Masks computed: document 01's case A, and bits that carry no control.
 --   unitA    ==  case A's Feature Unit, ID 2, control size 1: master mute, volume of channel 1
 --   wideUnit ==  a Feature Unit of control size 2 and one channel, with these two bytes as its master mask
+--   Masks, masks  ==  what is listed of each; computed
 use Prim.Native.Nat.{ℕ}
 use mathlib.Core.Path.{_≡_, refl}
 use mathlib.Core.List.{List, [], _∷_}

@@ -1,5 +1,7 @@
 -- "The table goes by entity place, channel, selector" (document 01).
 --   Pairs R l        ==  each element of l is related by R to each that stands behind it
+--   pairs-as, pairs-at ==  elements that have P, related by R, are related by S; the elements at two places are related
+--   member-at        ==  what stands at a place of a list is an element
 --   Lower a b        ==  a has the lower channel, or the same channel and the lower selector
 --   Earlier ds u v   ==  in the run ds an entity with ID u stands before one with ID v
 --   Before ds a b    ==  a's entity stands earlier, or the two are of one unit and a is Lower

@@ -1,6 +1,7 @@
 -- Rule 15. Document 01, refusal 15: "more than 128 controls". Counted are the controls that stand, whoever lists them.
 --   Rule15 ds cs     ==  some list of at most 128 has every control that stands
 --   pairs-fit        ==  a list whose elements are apart, each an element of another list, is no longer than that one
+--   before-other     ==  of two controls the one that is Before the other is another
 --   controls-apart   ==  no control stands twice in the reader's list, where the entities have distinct IDs
 --   listed-few       ==  so the rule is kept exactly where that list has at most 128
 --   rule15-kept      ==  the reader answers nowhere exactly where the rule is kept

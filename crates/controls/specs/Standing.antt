@@ -3,6 +3,10 @@
 --   Carries d c x    ==  the entity d, whose cluster has c channels, carries the control x: "Channel k's mask (0 is master), bit b:
 --                        control with selector b+1, for b from 0 to 9 except 5", k at most c; "Each Selector has one control"
 --   Stands ds cs x   ==  some entity of the run ds, with the cluster at its place among cs, carries x
+--   FromBit m u k b x, FromUnit u n d from to x  ==  x is what bit b of the mask m carries; what some channel from .. to of a Feature Unit does
+--   bit-of, bits-of, of-mask, channels-of  ==  what is listed of a bit, of bits, of a mask, of channels, is such
+--   carried          ==  what is listed of an entity, it carries
+--   stands-of        ==  what is listed of the run stands
 --   control-stands   ==  a control stands in the list exactly where some entity carries it
 use Prim.Native.Nat.{ℕ, zero, suc, _+_, _/_, _%_, _^_, _≤_, _<_}
 use mathlib.Core.Path.{_≡_, refl}

@@ -1,8 +1,11 @@
 -- What the reader's array of clusters holds where the entities are connected: the clusters that keep every rule. So the Terminals, the
 -- controls and the room for the records are those of the rules.
 --   clusters-shown  ==  the array's places of the run hold those clusters, in the entities' order
+--   clusters-long, held-all  ==  the array has 32 places; the run, as the reader hands it on, holds all of its descriptors
+--   clusters-run    ==  .. the same, of the run by its length
 --   terminals-same, controls-same  ==  the Terminals and the controls that the reader has are those with these clusters
 --   distinct-ids    ==  the descriptors of the run have distinct IDs
+--   one-terminal    ==  no two Terminals of it bear one ID
 --   reads-room      ==  the test of room decides rule 16
 use Prim.Native.Nat.{ℕ, _*_, _≤_}
 use mathlib.Core.Path.{_≡_, refl, sym, ap, _∙_}

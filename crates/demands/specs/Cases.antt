@@ -7,6 +7,7 @@
 --   Together         ==  the single statement; together: its proof, computed from the definitions
 --   PrintedA         ==  the whole answer for case A, and the sheet as the document prints it
 --   caseB, AnswerB   ==  case A with a second Output Terminal and volume on the master channel too, and what is answered to it
+--   lent             ==  the sheet of 512 bytes that the program lends; printed-a, answer-b: the proofs of the two
 use Prim.Native.Nat.{ℕ}
 use mathlib.Core.Path.{_≡_, refl}
 use mathlib.Core.Bool.{true, false}

@@ -3,6 +3,7 @@
 --   Connected audio run ==  (clusters/specs/Edition) the rules 10 to 13: right IDs and sources, a rank on each entity, lower at a source
 --                           than at its user, and a cluster on each entity's output, given out by the rule, that keep every test
 --   clustersBy run c    ==  those clusters, in the entities' order
+--   Streams k c, FewControls k c  ==  the rules 14 and 15, with the clusters of c
 --   Configuration s     ==  the bytes s are a configuration: a cutting that keeps the rules 1 to 9, and entities that are connected,
 --                           with the rules 14 and 15
 --   Rule16 ds room      ==  the sheet of that many bytes has 16 for each entity

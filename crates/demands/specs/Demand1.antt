@@ -7,6 +7,7 @@
 --                           gives, "interface number 0, zero counts and an empty table; the sheet keeps its bytes"
 --   reader-refuses      ==  so it is wherever the number is not 0
 --   reader-answers      ==  the number is 0, and the bytes are a configuration with room for its records; or it refuses so
+--   RefusedAnswer Named t r  ==  what an answer r says where it refuses: one of the papers' numbers, nothing written, and t, the table as it stood
 --   load-refuses, request-refuses  ==  every answer that the contract of a load or a request allows and whose number is not 0 has one
 --                                      of the papers' numbers, and leaves table and reply as they stood
 --   load-number, request-number    ==  .. which is that of the first row of the papers' table that applies; 0 where none does

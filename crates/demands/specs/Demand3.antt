@@ -10,6 +10,8 @@
 --   entity-shows, id-shows, sources-show, cluster-shows  ==  .. which is what the i-th descriptor of the run says: its kind and
 --                       place, the ID at its byte 3, its sources, and the cluster on that ID
 --   controls-stand, controls-order  ==  a control is in the table exactly where an entity carries it; and the table's order
+--   wholeSheet      ==  512 bytes; room-enough: they hold the records of every configuration
+--   number-told     ==  the number in the answer is that of the refusal
 use Prim.Native.Nat.{ℕ, zero, suc, _+_, _*_, _≤_, _<_}
 use mathlib.Core.Path.{_≡_, refl, sym, ap, _∙_, subst}
 use mathlib.Core.List.{List, [], _++_, append-assoc}

@@ -2,6 +2,7 @@
 -- a configuration": "the lowest number that applies is given, at no other time." For every configuration and every room of the
 -- sheet: the number and the place, exactly.
 --   Refused s room n p  ==  every rule before n is kept, n is not, and p is the place that document 01 gives
+--   Shown s room        ==  s is a configuration, and the sheet has room for its records
 --   accepted-exactly    ==  nothing is refused exactly where s is a configuration and the sheet has room for its records
 --   refused-exactly     ==  number n is given at place p exactly where Refused s room n p
 use Prim.Native.Nat.{ℕ}

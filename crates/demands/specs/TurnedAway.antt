@@ -5,6 +5,8 @@
 --   Reads answers leaves  ==  these answer as the reader's contract says, and leave the sheet so
 --   Responds answers leaves  ==  these answer as the request's contract says, and leave the reply so
 --   ReadersTurnedAway, RespondersTurnedAway  ==  none of the wrong ones is such; with their proofs
+--   case-a                ==  there is a configuration
+--   readers-turned-away, responders-turned-away  ==  the proofs, of whatever keeps the contracts
 use Prim.Native.Nat.{ℕ, _<_}
 use mathlib.Core.Path.{_≡_, refl, sym, ap, _∙_}
 use mathlib.Core.List.{List, [], _∷_}

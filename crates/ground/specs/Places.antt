@@ -11,6 +11,7 @@
 --   somewhere t n, everywhere t n  ==  t holds at some place below n, at each; reads-somewhere, reads-everywhere: what they decide
 --   NoneWrong n Wrong         ==  none below n is wrong
 --   FirstPlace n place Wrong q  ==  q is the place of the first below n that is wrong, where place gives each its place
+--   placeOfFirst t            ==  the place of the first that passes t; nowhere where none does
 --   breach-nowhere, breach-at ==  the search's answer as a place is nowhere exactly where nothing is wrong, and at q exactly
 --                                 where q is the first offender's
 use Prim.Native.Nat.{ℕ, zero, suc, _+_, _-_, _≤_, _<_}

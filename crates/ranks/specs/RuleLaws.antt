@@ -1,6 +1,7 @@
 -- Rule 12 and what the reader computes: the two are one, place included, where the rules 10 and 11 are kept. The laws of graph name an
 -- entity by its ID; rule 10 makes the ID its own, and rule 11 has every source borne, so that chains of IDs are chains of entities.
 --   chain-upstream, upstream-chain  ==  .. so it is, step by step
+--   closed-ids       ==  each source ID of an entity of the run is the ID of one
 --   rule12-nowhere, rule12-at  ==  breach12 is nowhere exactly where rule 12 is kept, and at q exactly where q is the place of the first
 --                        entity that has such a chain above it
 --   rule12-ranks     ==  rule 12 is kept exactly where there is a rank on each entity, lower at each source than at its user

@@ -3,6 +3,7 @@
 --   Rule10 run         ==  no ID is zero, and each is its entity's own
 --   WrongId run i      ==  the ID at place i is zero or borne by an earlier entity; wrongId run i: as a test
 --   breach10 run       ==  the place of the first such
+--   isFound f, noOutput run f  ==  a lookup found an entity; it found none, or an Output Terminal
 --   Bears run s i      ==  the entity at place i bears the ID s
 --   WrongSource run s  ==  a source ID s is 0, unknown, or an Output Terminal's; wrongSource run s: as a test
 --   WrongSources run i ==  a source ID of the entity at place i is such; wrongSources run s: as a test of the sources s
