@@ -14,24 +14,24 @@ abbrev pub cluster : ℕ → ℕ → ℕ → Cluster
 cluster c b i = record { channels = c; locations = b; names = i }
 
 pub record FourClusters : Type 0 where
-  pub spare-kept : clusterKept (cluster 5 81 254) ≡ true
-  pub spare-broken : clusterKept (cluster 5 81 255) ≡ false
-  pub full-kept : clusterKept (cluster 4 263 0) ≡ true
-  pub full-broken : clusterKept (cluster 4 263 1) ≡ false
+  pub spare-kept : clusterKept (cluster 5 0x0051 254) ≡ true
+  pub spare-broken : clusterKept (cluster 5 0x0051 255) ≡ false
+  pub full-kept : clusterKept (cluster 4 0x0107 0) ≡ true
+  pub full-broken : clusterKept (cluster 4 0x0107 1) ≡ false
 
 pub four-clusters : FourClusters
 unfolding clusterKept namesKept ones onesIn
 four-clusters = record { spare-kept = refl; spare-broken = refl; full-kept = refl; full-broken = refl }
 
 -- the same as the rule says it
-pub kept-254 : ClusterKept (cluster 5 81 254)
-kept-254 = reads-cluster (cluster 5 81 254) .says (four-clusters .spare-kept)
+pub kept-254 : ClusterKept (cluster 5 0x0051 254)
+kept-254 = reads-cluster (cluster 5 0x0051 254) .says (four-clusters .spare-kept)
 
-pub broken-255 : ClusterKept (cluster 5 81 255) → ⊥
-broken-255 = reads-cluster (cluster 5 81 255) .denies (four-clusters .spare-broken)
+pub broken-255 : ClusterKept (cluster 5 0x0051 255) → ⊥
+broken-255 = reads-cluster (cluster 5 0x0051 255) .denies (four-clusters .spare-broken)
 
-pub kept-0 : ClusterKept (cluster 4 263 0)
-kept-0 = reads-cluster (cluster 4 263 0) .says (four-clusters .full-kept)
+pub kept-0 : ClusterKept (cluster 4 0x0107 0)
+kept-0 = reads-cluster (cluster 4 0x0107 0) .says (four-clusters .full-kept)
 
-pub broken-1 : ClusterKept (cluster 4 263 1) → ⊥
-broken-1 = reads-cluster (cluster 4 263 1) .denies (four-clusters .full-broken)
+pub broken-1 : ClusterKept (cluster 4 0x0107 1) → ⊥
+broken-1 = reads-cluster (cluster 4 0x0107 1) .denies (four-clusters .full-broken)

@@ -1,5 +1,6 @@
 -- The rule of a declared cluster. Document 01, "Clusters": "c is 1 to 16; bits 12 to 15 are 0; the ones in the bitmap are at most c; if
 -- equal, the index is 0; if fewer and the index is not 0, index + c − ones − 1 is at most 255." The ones are the language's count.
+-- Bits 12 to 15 of the 16 are 0 exactly where, as a number, they are below 4,096.
 --   mostChannels       ==  16
 --   ClusterKept k      ==  the cluster k keeps the rule
 --   clusterKept k      ==  what the reader computes; namesKept c ones index: of the index alone

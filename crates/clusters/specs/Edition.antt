@@ -1,6 +1,8 @@
 -- An edition is a value: which rule gives an entity's cluster, and which test it must pass, each from what enters the entity.
 -- What is said here, and the theorem on it, does not know which edition it is. Clusters are on entities, named by their IDs, and what
 -- is asked of them is asked at each place of the run, of its own source IDs.
+-- The run is the reader's array of entities: what stands at its place i is the i-th descriptor's (sources/specs/RunLaws: id-read,
+-- sources-read, place-read).
 --   Edition         ==  the rule, the test as a statement and as what the reader computes, and that these agree
 --   enteringAt run cluster i  ==  the clusters that enter the entity at place i, pin by pin
 --   GivenOut ed run cluster   ==  each entity's cluster is what its rule makes of those that enter it

@@ -46,7 +46,8 @@ use Rattle.streaming.specs.Tests.{opensAs, isGeneral, isFormat, samplesRight, r
 use Rattle.controls.specs.Controls.{bitCarries, bitSet, bitControls, bitsFrom, maskControls, channelsFrom, featureControls, entityControls, nodeControls, controlsIn, controlsOfRun, breach15}
 use Rattle.controls.specs.Growth.{tableOf}
 use Rattle.records.specs.Records.{headOf, recordOf, recordsTo, roomFor, shownIn}
-use Rattle.setting.specs.Cases.{Case, found, cases, cases-hold}
+use lib.IntN.{pos}
+use Rattle.setting.specs.Cases.{minus, found, volume, bass, cases-hold}
 use Rattle.topology.specs.Reading.{restJudged, runJudged, surveyJudged, verdictOf, refusedReading, takenReading, readingOf, sheetOf}
 use Rattle.runs.proofs.Case.{caseTable}
 
@@ -78,7 +79,7 @@ pub record Configurations : Type 0 where
 pub record Together : Type 0 where
   pub configurations : Configurations
   pub clusters : map clusterKept (cluster 5 0x0051 254 ∷ cluster 5 0x0051 255 ∷ cluster 4 0x0107 0 ∷ cluster 4 0x0107 1 ∷ []) ≡ true ∷ false ∷ true ∷ false ∷ []
-  pub settings : map found cases ≡ map (λ (t : Case). t .stored) cases
+  pub settings : map found (volume (minus 300) ∷ volume (minus 384) ∷ volume (pos 500) ∷ volume (minus 32768) ∷ bass (pos 9) ∷ []) ≡ minus 256 ∷ minus 512 ∷ pos 0 ∷ minus 32768 ∷ pos 6 ∷ []
 
 -- the sheet of 512 bytes that the program lends, all zeros
 abbrev pub lent : List ℕ

@@ -4,6 +4,7 @@
 -- keeps the contract: functions that answer what the entry points' contracts say.
 --   Reads answers leaves  ==  these answer as the reader's contract says, and leave the sheet so
 --   Responds answers leaves  ==  these answer as the request's contract says, and leave the reply so
+--   (stores-first is told of one control and two Sets; that every accepted Set of every run is stored is Demand2's)
 --   ReadersTurnedAway, RespondersTurnedAway  ==  none of the wrong ones is such; with their proofs
 --   case-a                ==  there is a configuration
 --   readers-turned-away, responders-turned-away  ==  the proofs, of whatever keeps the contracts

@@ -79,7 +79,7 @@ entityOf d =
     (pick (eqb (byte d 2) 6) (featureOf d) Unknown))))
 
 abbrev pub printedKind : ℕ
-printedKind = 21
+printedKind = 0x15
 
 unfoldable pub kindOf : Entity → ℕ
 kindOf Unknown = 0

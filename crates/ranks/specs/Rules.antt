@@ -1,6 +1,8 @@
 -- Document 01, refusal 12: "some upstream chain of sources is longer than 32 steps (no ranks exist)". A chain goes from an entity to one
 -- that bears one of its source IDs, and so on from there; it may meet an entity twice. Wrong is each entity with such a chain above it, on a
 -- loop or below one; the first by place is named.
+-- The run is the reader's array of entities: what stands at its place i is the i-th descriptor's (sources/specs/RunLaws: id-read,
+-- sources-read, place-read).
 --   mostSteps        ==  32
 --   Upstream run d i ==  a chain of d steps goes upstream from the entity at place i
 --   Endless run i    ==  a chain of more than 32 steps does

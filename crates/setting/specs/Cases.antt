@@ -1,10 +1,10 @@
 -- The cases of document 01 ("Cases to prove together") that speak of settings, as a table under a single statement.
---   Case           ==  a range, a wanted value and the value stored, as the document prints them
+--   Case           ==  a range and a wanted value, as the document prints them
 --   number s z     ==  the number on the wire that says the integer z
 --   minus n        ==  −n
 --   found t        ==  the value stored in the case t, computed by the definitions from the numbers on the wire
---   volume x v     ==  "Volume −5120..0 by 256": x gives v
---   bass x v       ==  "Bass −10..9 by 4": x gives v
+--   volume x       ==  "Volume −5120..0 by 256": x is wanted
+--   bass x         ==  "Bass −10..9 by 4": x is wanted
 --   cases          ==  the document's five
 --   cases-hold     ==  in each case what is found is what the document says
 use Prim.Native.Nat.{ℕ}
@@ -25,7 +25,6 @@ pub record Case : Type 0 where
   pub max : ℤ
   pub res : ℤ
   pub wanted : ℤ
-  pub stored : ℤ
 
 abbrev pub number : Sort → ℤ → ℕ
 number Volume z = ofZ w16 z
@@ -41,22 +40,16 @@ found t =
     let range : Range = record { min = number s (t .min); max = number s (t .max); res = number s (t .res) } in
     value s (closestTo s range (number s (t .wanted)))
 
-abbrev pub volume : ℤ → ℤ → Case
-volume wanted stored = record { sort = Volume; min = minus 5120; max = pos 0; res = pos 256; wanted = wanted; stored = stored }
+abbrev pub volume : ℤ → Case
+volume wanted = record { sort = Volume; min = minus 5120; max = pos 0; res = pos 256; wanted = wanted }
 
-abbrev pub bass : ℤ → ℤ → Case
-bass wanted stored = record { sort = Tone; min = minus 10; max = pos 9; res = pos 4; wanted = wanted; stored = stored }
+abbrev pub bass : ℤ → Case
+bass wanted = record { sort = Tone; min = minus 10; max = pos 9; res = pos 4; wanted = wanted }
 
 -- "Volume −5120..0 by 256: −300 gives −256, −384 gives −512, 500 gives 0, −32768 stays. Bass −10..9 by 4: 9 gives 6."
-unfoldable pub cases : List Case
-cases =
-    volume (minus 300) (minus 256)
-    ∷ volume (minus 384) (minus 512)
-    ∷ volume (pos 500) (pos 0)
-    ∷ volume (minus 32768) (minus 32768)
-    ∷ bass (pos 9) (pos 6)
-    ∷ []
+abbrev pub cases : List Case
+cases = volume (minus 300) ∷ volume (minus 384) ∷ volume (pos 500) ∷ volume (minus 32768) ∷ bass (pos 9) ∷ []
 
-pub cases-hold : map found cases ≡ map (λ (t : Case). t .stored) cases
-unfolding cases found fitsOf legalOf wholeSteps nearer closestHeight closestSetting closestTo
+pub cases-hold : map found cases ≡ minus 256 ∷ minus 512 ∷ pos 0 ∷ minus 32768 ∷ pos 6 ∷ []
+unfolding found fitsOf legalOf wholeSteps nearer closestHeight closestSetting closestTo
 cases-hold = refl

@@ -1,5 +1,7 @@
 -- Document 01, refusal 10: "ID zero or borne by an earlier entity"; refusal 11: "a source ID is 0, unknown, or an Output Terminal's".
 -- Each as a rule, and as what the reader computes; the laws that tie them are in RuleLaws.
+-- The run is the reader's array of entities: what stands at its place i is the i-th descriptor's (sources/specs/RunLaws: id-read,
+-- sources-read, place-read).
 --   Rule10 run         ==  no ID is zero, and each is its entity's own
 --   WrongId run i      ==  the ID at place i is zero or borne by an earlier entity; wrongId run i: as a test
 --   breach10 run       ==  the place of the first such
