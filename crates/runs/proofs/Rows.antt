@@ -1,5 +1,7 @@
 -- Each refusal exactly where the paper gives it: the number of a load or a request is that of the first row of the paper's table
 -- that is given, and 0 where none is; and no other number is.
+--   set-bytes, get-bytes       ==  a setup that is read as a Set, or as a Get of a part, has type and request of that, and names what its bytes name
+--   set-no-get                 ==  no setup is both
 --   named-one                  ==  in a table that 30 does not turn away a control stands once
 --   request-rows, load-rows    ==  the number that is answered is the one that the rows say
 --   request-row-one, load-row-one ==  the rows say one number
@@ -28,6 +30,7 @@ use Rattle.ground.specs.Places.{reads-somewhere}
 use Rattle.table.specs.First.{places, foundIn, found-first, none-found, unitIn, lookupBy, lookedUp}
 use Rattle.table.specs.Sound.{soundOf}
 use Rattle.table.specs.Meaning.{SoundAs, Sound, sound-reads}
+use Rattle.request.specs.declared.Target.{Target}
 use Rattle.request.specs.declared.Part.{Part}
 use Rattle.request.specs.declared.Part.the-variants.{Cur, Min, Max, Res}
 use Rattle.request.specs.declared.Asked.{Asked}
@@ -39,7 +42,7 @@ use Rattle.request.specs.Outcome.{Outcome, numberOf}
 use Rattle.request.specs.Outcome.Outcome.{refused}
 use Rattle.request.specs.Load.{loadRange, loadBy, loadAt, loadOf}
 use Rattle.request.specs.Request.{targetOf, getAsked, askedBy, askedOf, placeOf, addressedIn, isRanged, ofRange, lacking, unready, valueIn, settledBetween, settledOf, setTo, setBy, setFrom, getBy, getFrom, answerAsked, requestOf}
-use Rattle.runs.specs.Rows.{Row, given, passed, NoRow, AsksSet, AsksGet, WellAsked, Owned, Named, RangedThere, Unready, Outside, InRange, lastRows, controlRows, unitRows, askedRows, requestRows, loadRows}
+use Rattle.runs.specs.Rows.{Row, given, passed, NoRow, AsksSet, AsksGet, codeOf, WellAsked, Owned, Named, RangedThere, Unready, Outside, InRange, lastRows, controlRows, unitRows, askedRows, requestRows, loadRows}
 
 -- a refusal that is given where a test holds, and one that is given where it does not
 module _ {rest : ℕ → Type 0} where
@@ -68,15 +71,15 @@ reads-false false = record { says = λ e. refl; denies = λ e. absurd (true≠fa
 data Asking (s : List ℕ) : Asked → Type 0 where
   none : (WellAsked s → ⊥) → Asking s asks.Unknown
   sets : length s ≡ 8 → AsksSet s → Asking s (asks.Set (targetOf s))
-  gets : (part : Part) → length s ≡ 8 → AsksGet s → Reads (ofRange part) (0x82 ≤ byte s 1) → Asking s (asks.Get part (targetOf s))
+  gets : (part : Part) → length s ≡ 8 → AsksGet s → byte s 1 ≡ codeOf part → Asking s (asks.Get part (targetOf s))
 
-set-no-get : (s : List ℕ) → AsksSet s → AsksGet s → ⊥
+pub set-no-get : (s : List ℕ) → AsksSet s → AsksGet s → ⊥
 set-no-get s a b = let e = a .0 in let f = b .0 in omega arith
 
 module _ (s : List ℕ) (long : length s ≡ 8) where
-  asked-get : byte s 0 ≡ 0xA1 → (part : Part) (b : ℕ) → byte s 1 ≡ b → leb 129 b ≡ true → leb b 132 ≡ true → leb 130 b ≡ ofRange part → Asking s (asks.Get part (targetOf s))
-  asked-get a part b e l m o =
-      gets part long (a, (rw e (reads-le 129 b .says l), rw e (reads-le b 132 .says m))) (rw (e, ← o) (reads-le 130 b))
+  asked-get : byte s 0 ≡ 0xA1 → (part : Part) → byte s 1 ≡ codeOf part → leb 129 (codeOf part) ≡ true → leb (codeOf part) 132 ≡ true → Asking s (asks.Get part (targetOf s))
+  asked-get a part e l m =
+      gets part long (a, (rw e (reads-le 129 (codeOf part) .says l), rw e (reads-le (codeOf part) 132 .says m))) e
 
   asking-get : byte s 0 ≡ 0xA1 → Asking s (getAsked (byte s 1) (targetOf s))
   unfolding getAsked
@@ -86,19 +89,19 @@ module _ (s : List ℕ) (long : length s ≡ 8) where
       other i j k m = none (λ w. ⊎-elim (λ (x : AsksSet s). let e = x .0 in omega arith) (λ (x : AsksGet s). let l = x .1 .0 in let u = x .1 .1 in omega arith) (w .1))
 
       res : (x : Bool) → Reads x (byte s 1 ≡ 132) → (byte s 1 ≡ 129 → ⊥) → (byte s 1 ≡ 130 → ⊥) → (byte s 1 ≡ 131 → ⊥) → Asking s (pick x (asks.Get Res (targetOf s)) asks.Unknown)
-      res true r i j k = asked-get a Res 132 (r .says refl) refl refl refl
+      res true r i j k = asked-get a Res (r .says refl) refl refl
       res false r i j k = other i j k (r .denies refl)
 
       max : (x : Bool) → Reads x (byte s 1 ≡ 131) → (byte s 1 ≡ 129 → ⊥) → (byte s 1 ≡ 130 → ⊥) → Asking s (pick x (asks.Get Max (targetOf s)) (pick (eqb (byte s 1) 132) (asks.Get Res (targetOf s)) asks.Unknown))
-      max true r i j = asked-get a Max 131 (r .says refl) refl refl refl
+      max true r i j = asked-get a Max (r .says refl) refl refl
       max false r i j = res (eqb (byte s 1) 132) (reads-eq (byte s 1) 132) i j (r .denies refl)
 
       min : (x : Bool) → Reads x (byte s 1 ≡ 130) → (byte s 1 ≡ 129 → ⊥) → Asking s (pick x (asks.Get Min (targetOf s)) (pick (eqb (byte s 1) 131) (asks.Get Max (targetOf s)) (pick (eqb (byte s 1) 132) (asks.Get Res (targetOf s)) asks.Unknown)))
-      min true r i = asked-get a Min 130 (r .says refl) refl refl refl
+      min true r i = asked-get a Min (r .says refl) refl refl
       min false r i = max (eqb (byte s 1) 131) (reads-eq (byte s 1) 131) i (r .denies refl)
 
       cur : (x : Bool) → Reads x (byte s 1 ≡ 129) → Asking s (pick x (asks.Get Cur (targetOf s)) (pick (eqb (byte s 1) 130) (asks.Get Min (targetOf s)) (pick (eqb (byte s 1) 131) (asks.Get Max (targetOf s)) (pick (eqb (byte s 1) 132) (asks.Get Res (targetOf s)) asks.Unknown))))
-      cur true r = asked-get a Cur 129 (r .says refl) refl refl refl
+      cur true r = asked-get a Cur (r .says refl) refl refl
       cur false r = min (eqb (byte s 1) 130) (reads-eq (byte s 1) 130) (r .denies refl)
 
   asking-by : Asking s (askedBy (targetOf s) (byte s 0) (byte s 1))
@@ -124,6 +127,31 @@ asking s = go (eqb (length s) 8) (reads-eq (length s) 8)
     go : (x : Bool) → Reads x (length s ≡ 8) → Asking s (pick x (askedBy (targetOf s) (byte s 0) (byte s 1)) asks.Unknown)
     go true r = asking-by s (r .says refl)
     go false r = none (λ w. r .denies refl (w .0))
+
+-- what a setup asks is said by its bytes
+module _ (s : List ℕ) (g : Target) where
+  pub set-bytes : askedOf s ≡ asks.Set g → AsksSet s × (g ≡ targetOf s)
+  set-bytes e = go (askedOf s) (asking s) e
+    where
+      go : (k : Asked) → Asking s k → k ≡ asks.Set g → AsksSet s × (g ≡ targetOf s)
+      go _ (none w) e = absurd (let z : _≡_ {A = ℕ} 0 1 = cc in omega arith)
+      go _ (sets l a) e = (a, let q : g ≡ targetOf s = cc in q)
+      go _ (gets part l a c) e = absurd (let z : _≡_ {A = ℕ} 0 1 = cc in omega arith)
+
+  pub get-bytes : (part : Part) → askedOf s ≡ asks.Get part g → AsksGet s × ((byte s 1 ≡ codeOf part) × (g ≡ targetOf s))
+  get-bytes part e = go (askedOf s) (asking s) e
+    where
+      go : (k : Asked) → Asking s k → k ≡ asks.Get part g → AsksGet s × ((byte s 1 ≡ codeOf part) × (g ≡ targetOf s))
+      go _ (none w) e = absurd (let z : _≡_ {A = ℕ} 0 1 = cc in omega arith)
+      go _ (sets l a) e = absurd (let z : _≡_ {A = ℕ} 0 1 = cc in omega arith)
+      go _ (gets p l a c) e = let i : p ≡ part = cc in (a, (c ∙ ap codeOf i, let q : g ≡ targetOf s = cc in q))
+
+-- MIN, MAX and RES are the requests from 82 on
+range-code : (part : Part) → leb 0x82 (codeOf part) ≡ ofRange part
+range-code Cur = refl
+range-code Min = refl
+range-code Max = refl
+range-code Res = refl
 
 -- what stands in a table that 30 does not turn away
 module _ (t : Table) (sound : Sound t) where
@@ -282,7 +310,7 @@ module _ (t : Table) (sound : Sound t) (n : ℕ) (s d : List ℕ) (room : ℕ) w
   asked-rows _ (gets part l a r) =
       passed (λ k. k (l, inr a))
       (address-rows t sound n s (λ x. getFrom t x part (word s 6) room) (get-from-refused t part (word s 6) room) _
-      (λ p m. rw (m .selector) (get-rows t sound s d room p m a part r)))
+      (λ p m. rw (m .selector) (get-rows t sound s d room p m a part (rw (r, ← range-code part) (reads-le 0x82 (codeOf part))))))
 
 pub request-rows : (t : Table) (n : ℕ) (s d : List ℕ) (room : ℕ) → requestRows t n s d room (numberOf (requestOf t n s d room))
 unfolding requestOf requestRows

@@ -3,6 +3,7 @@
 --   Row n When rest m        ==  m is the number answered by the row n, which is given when When, and behind it the rows rest
 --   NoRow m                  ==  behind the last row m is 0
 --   AsksSet s, AsksGet s     ==  type and request of the setup s are 21/01; A1/81 to A1/84
+--   codeOf part              ==  the request of a Get of that part: 81 CUR, 82 MIN, 83 MAX, 84 RES
 --   WellAsked s              ==  8 bytes, and "21/01, A1/81, A1/82, A1/83 or A1/84"
 --   Owned t u                ==  u is a "unit with controls" of the table t
 --   Named t u ch s c         ==  c is the control of the table t that has unit u, channel ch and selector s
@@ -33,6 +34,8 @@ use Rattle.table.specs.declared.Sense.{Sense}
 use Rattle.table.specs.declared.Sense.the-variants.{Unknown, YesNo, Ranged, Pin}
 use Rattle.table.specs.Controls.{at, senseOf, sizeOf}
 use Rattle.table.specs.Meaning.{Sound}
+use Rattle.request.specs.declared.Part.{Part}
+use Rattle.request.specs.declared.Part.the-variants.{Cur, Min, Max, Res}
 use Rattle.request.specs.Request.{isRanged, valueIn}
 
 pub data Row (n : ℕ) (When : Type 0) (rest : ℕ → Type 0) (m : ℕ) : Type 0 where
@@ -47,6 +50,13 @@ AsksSet s = (byte s 0 ≡ 0x21) × (byte s 1 ≡ 1)
 
 abbrev pub AsksGet : List ℕ → Type 0
 AsksGet s = (byte s 0 ≡ 0xA1) × ((0x81 ≤ byte s 1) × (byte s 1 ≤ 0x84))
+
+-- the Audio 1.0 class definition's GET_CUR, GET_MIN, GET_MAX and GET_RES
+abbrev pub codeOf : Part → ℕ
+codeOf Cur = 0x81
+codeOf Min = 0x82
+codeOf Max = 0x83
+codeOf Res = 0x84
 
 abbrev pub WellAsked : List ℕ → Type 0
 WellAsked s = (length s ≡ 8) × (AsksSet s ⊎ AsksGet s)
