@@ -3,7 +3,7 @@
 --   set-bytes, get-bytes       ==  a setup that is read as a Set, or as a Get of a part, has type and request of that, and names what its bytes name
 --   set-no-get                 ==  no setup is both
 --   named-one                  ==  in a table that 30 does not turn away a control stands once
---   request-rows, load-rows    ==  the number that is answered is the one that the rows say
+--   request-rows, load-rows    ==  the number that is answered is the one that the rows say; step-rows: so it is of every step
 --   request-row-one, load-row-one ==  the rows say one number
 use Prim.Native.Nat.{ℕ, _≤_, _<_}
 use mathlib.Core.Path.{_≡_, refl, sym, ap, _∙_}
@@ -13,7 +13,7 @@ use mathlib.Core.Logic.{_⊎_, inl, inr, ⊎-elim}
 use native.Mathlib.Omega.{arith}
 use lib.Dec.{eqb, leb, ltb}
 use lib.ListN.{length}
-use Rattle.ground.specs.Pick.{pick, true≠false, Reads, decided, reads-same, reads-true, reads-eq, reads-lt, reads-le, reads-and, reads-or, reads-not, reads-within}
+use Rattle.ground.specs.Pick.{pick, true≠false, Reads, decided, reads-same, reads-eq, reads-lt, reads-le, reads-and, reads-or, reads-not, reads-within}
 use Rattle.ground.specs.Numbers.{byte, word}
 use Rattle.setting.specs.Setting.{fitsOf, legalOf}
 use Rattle.setting.specs.Legal.{fits-reads, legal-means}
@@ -42,7 +42,9 @@ use Rattle.request.specs.Outcome.{Outcome, numberOf}
 use Rattle.request.specs.Outcome.Outcome.{refused}
 use Rattle.request.specs.Load.{loadRange, loadBy, loadAt, loadOf}
 use Rattle.request.specs.Request.{targetOf, getAsked, askedBy, askedOf, placeOf, addressedIn, isRanged, ofRange, lacking, unready, valueIn, settledBetween, settledOf, setTo, setBy, setFrom, getBy, getFrom, answerAsked, requestOf}
-use Rattle.runs.specs.Rows.{Row, given, passed, NoRow, AsksSet, AsksGet, codeOf, WellAsked, Owned, Named, RangedThere, Unready, Outside, InRange, lastRows, controlRows, unitRows, askedRows, requestRows, loadRows}
+use Rattle.runs.specs.Rows.{Row, given, passed, NoRow, AsksSet, AsksGet, codeOf, WellAsked, Owned, Named, RangedThere, Unready, Outside, InRange, lastRows, controlRows, unitRows, askedRows, requestRows, loadRows, stepRows}
+use Rattle.runs.specs.Runs.{Step, stepOf}
+use Rattle.runs.specs.Runs.Step.{load, request}
 
 -- a refusal that is given where a test holds, and one that is given where it does not
 module _ {rest : ℕ → Type 0} where
@@ -66,6 +68,12 @@ no-row-one a b e f = e ∙ sym f
 reads-false : (b : Bool) → Reads (not b) (b ≡ false)
 reads-false true = record { says = λ e. absurd (true≠false (sym e)); denies = λ e f. true≠false f }
 reads-false false = record { says = λ e. refl; denies = λ e. absurd (true≠false e) }
+
+ranged-reads : (k : Sense) → Reads (isRanged k) ((r : Sort) × (k ≡ Ranged r))
+ranged-reads Unknown = record { says = λ e. absurd (true≠false (sym e)); denies = λ e h. true≠false (sym (ap isRanged (h .1))) }
+ranged-reads YesNo = record { says = λ e. absurd (true≠false (sym e)); denies = λ e h. true≠false (sym (ap isRanged (h .1))) }
+ranged-reads (Ranged r) = record { says = λ e. (r, refl); denies = λ e. absurd (true≠false e) }
+ranged-reads Pin = record { says = λ e. absurd (true≠false (sym e)); denies = λ e h. true≠false (sym (ap isRanged (h .1))) }
 
 -- what the setup asks
 data Asking (s : List ℕ) : Asked → Type 0 where
@@ -209,7 +217,7 @@ module _ (t : Table) (sound : Sound t) (s d : List ℕ) (room : ℕ) (p : ℕ) (
   unready-reads : Reads (unready held (at t p)) (Unready t (byte s 5) (byte s 2) (byte s 3))
   unfolding unready
   unready-reads =
-      reads-same (reads-and _ _ (reads-true (isRanged held)) (reads-false (at t p .loaded)))
+      reads-same (reads-and _ _ (ranged-reads held) (reads-false (at t p .loaded)))
       (λ h. record { control = at t p; named = m; of-range = h .0; unloaded = h .1 })
       (λ h. (h .of-range, ap (λ (c : Control). c .loaded) (sym (the-one (h .control) (h .named))) ∙ h .unloaded))
 
@@ -266,7 +274,7 @@ module _ (t : Table) (sound : Sound t) (s d : List ℕ) (room : ℕ) (p : ℕ) (
     unfolding getBy lacking
     get-rows =
         by-row 35 _ _
-        (reads-same (reads-and _ _ r (reads-not _ (reads-true (isRanged held)))) (λ h. (a, h)) (λ h. h .1))
+        (reads-same (reads-and _ _ r (reads-not _ (ranged-reads held))) (λ h. (a, h)) (λ h. h .1))
         (λ _.
         by-row 36 (unready held (at t p)) _ unready-reads (λ _.
         by-row 37 _ _
@@ -332,14 +340,14 @@ module _ (t : Table) (sound : Sound t) (u ch s : ℕ) (range : Range) (w : ℕ) 
       (λ h. let q : Ranged (h .sort) ≡ Ranged r = sym (h .ranged) ∙ e in let k : h .sort ≡ r = cc in (rw (← k) (h .legal), rw (← k) (h .fits)))
 
   unranged : (k : Sense) → senseOf s ≡ k → isRanged k ≡ false → RangedThere t u ch s → ⊥
-  unranged k e f h = true≠false (sym (h .ranged) ∙ ap isRanged e ∙ f)
+  unranged k e f h = true≠false (sym (ap isRanged (h .ranged .1)) ∙ ap isRanged e ∙ f)
 
   by-sense : (p : ℕ) → Named t u ch s (at t p) → (k : Sense) → senseOf s ≡ k → rangeRows (numberOf (loadBy t p k range w))
   unfolding loadBy loadRange
   by-sense p m Unknown e = given (unranged Unknown e refl) refl
   by-sense p m YesNo e = given (unranged YesNo e refl) refl
   by-sense p m (Ranged r) e =
-      passed (λ n. n (record { control = at t p; named = m; ranged = ap isRanged e })) (by-kept 21 (legalOf r range && fitsOf r w) _ (in-range r e) (λ _. refl))
+      passed (λ n. n (record { control = at t p; named = m; ranged = (r, e) })) (by-kept 21 (legalOf r range && fitsOf r w) _ (in-range r e) (λ _. refl))
   by-sense p m Pin e = given (unranged Pin e refl) refl
 
   by-place : (f : Found) → foundIn t u ch s ≡ f → rangeRows (numberOf (loadAt t (senseOf s) f range w))
@@ -354,3 +362,7 @@ load-rows t u ch s range w = by-kept 30 (soundOf t) _ (sound-reads t) (λ e. by-
 pub load-row-one : (t : Table) (u ch s : ℕ) (range : Range) (w a b : ℕ) → loadRows t u ch s range w a → loadRows t u ch s range w b → a ≡ b
 unfolding loadRows
 load-row-one t u ch s range w = row-one (row-one (row-one no-row-one))
+
+pub step-rows : (t : Table) (st : Step) → stepRows t st (numberOf (stepOf t st))
+step-rows t (load k range w) = load-rows t (k .unit) (k .channel) (k .selector) range w
+step-rows t (request n s d room) = request-rows t n s d room
