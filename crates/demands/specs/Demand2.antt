@@ -6,8 +6,8 @@
 --                      values, nothing loaded, spare places zero; so refusal 30 has nothing against it (`fresh-sound`)
 --   ReaderRun t st ==  what is true of every run st of loads and requests from the table t: refusal 30 has nothing against the table
 --                      it leaves; the next step, a load, a Set or a Get, has the number of the first row of the papers' table that
---                      applies, 0 where none does; each Get that is then accepted is answered as its definition says; each control is what the
---                      last accepted load and Set made it; the next step changes the addressed control alone
+--                      applies, 0 where none does; each Get that is accepted is answered as its definition says; each control is
+--                      what the last accepted load and Set made it; the next step changes the addressed control alone
 --   reader-runs    ==  so it is from every table that the reader answers, for every run whose data are bytes (Wired), as every lent
 --                      slice's are
 use Prim.Native.Nat.{ℕ, zero, suc, _≤_, _<_, zero-le}

@@ -1,6 +1,6 @@
 -- An accepted Set "changes that control alone" (demand 2): every other control, and every spare place, is what it was, and the
 -- addressed one is still the same control, with as many pins. And no step leaves a table that 30 turns away.
---   Alone t k v   ==  v differs from t in the numbers of the control k alone: every place stays that is not one of those that count and holds k
+--   Alone t k v   ==  v differs from t in the numbers of the control k alone: every place at which k does not stand is what it was
 --   alone         ==  so does every step's table
 --   step-sound, run-sound  ==  no step, and no run, leaves a table that 30 turns away
 use Prim.Native.Nat.{ℕ}

@@ -1,7 +1,7 @@
 -- Demand 2 over every run: a Get that is accepted after any run of loads and requests whose data are bytes, from any table that 30
--- does not turn away, answers the addressed control: CUR is the closest setting to the last accepted Set or load of that control, or its first value where
--- there was none; MIN, MAX and RES are those of its last accepted load; a yes/no and a pin are what the last accepted Set made
--- them.
+-- does not turn away, answers the addressed control: CUR is the closest setting to the last accepted Set or load of that control, or
+-- its first value where there was none; MIN, MAX and RES are those of its last accepted load; a yes/no and a pin are what the last
+-- accepted Set made them.
 --   settles-one            ==  one number is settled where a number is wanted
 --   CurMeans k range x v   ==  v is what CUR must be where the control holds k, has that range and x was asked last: of a ranged
 --                              control the closest setting (Settles), of another x

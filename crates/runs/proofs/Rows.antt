@@ -1,6 +1,7 @@
 -- Each refusal exactly where the paper gives it: the number of a load or a request is that of the first row of the paper's table
 -- that is given, and 0 where none is; and no other number is.
---   set-bytes, get-bytes       ==  a setup that is read as a Set, or as a Get of a part, has type and request of that, and names what its bytes name
+--   set-bytes, get-bytes       ==  a setup that is read as a Set, or as a Get of a part, has the type and the request of that, and
+--                                  what it addresses is what its bytes name
 --   set-no-get                 ==  no setup is both
 --   named-one                  ==  in a table that 30 does not turn away a control stands once
 --   request-rows, load-rows    ==  the number that is answered is the one that the rows say; step-rows: so it is of every step
