@@ -2,8 +2,8 @@
 --   load-same, set-same    ==  the control that is stored is the same control
 --   load-sound, set-sound  ==  30 has nothing against it
 --   place-below, place-inside  ==  a control that is found stands below the count, and in the array
---   place-answers          ==  and is the one that was sought
---   found-stands, stands-found  ==  a control is found where it stands, if 30 does not turn the table away
+--   found-stands, stands-found, none-stands  ==  a control stands where it is found; it is found where it stands, and stands
+--                              nowhere if it is not found, in a table that 30 does not turn away; stands-one: it stands at one place
 --   between-only           ==  what a Set of a yes/no or a pin stores is what was asked, within its bounds
 --   settles-closest        ==  the closest setting is what is to be stored, by crate setting's statements
 --   sent-fits              ==  the data of a Set are not too wide for the control
@@ -45,7 +45,7 @@ set-same x c = record { unit = refl; channel = refl; selector = refl }
 
 -- a place that was found
 module _ (t : Table) (k : Key) (p : ℕ) (f : whereIs t k ≡ found.At p) where
-  pub place-answers : answersTo (k .unit) (k .channel) (k .selector) (at t p) ≡ true
+  place-answers : answersTo (k .unit) (k .channel) (k .selector) (at t p) ≡ true
   unfolding foundIn
   place-answers = found-first _ (places t) p f .passes
 
@@ -76,22 +76,24 @@ module _ (t : Table) (sound : Sound t) (k : Key) where
       sound .once p q l (b .inside)
       (record { unit = a .unit ∙ sym (b .unit); channel = a .channel ∙ sym (b .channel); selector = a .selector ∙ sym (b .selector) })
 
-  pub stands-found : (p : ℕ) → Stands t k p → whereIs t k ≡ found.At p
+  pub stands-one : (p q : ℕ) → Stands t k p → Stands t k q → p ≡ q
+  stands-one p q a b =
+      ⊎-elim (λ (i : p ≡ q). i) (λ (i : p ≡ q → ⊥). absurd (apart p q i (stands-once q p b a) (stands-once p q a b))) (decided (eqb p q) (reads-eq p q))
+
+  pub none-stands : whereIs t k ≡ found.Nothing → (p : ℕ) → Stands t k p → ⊥
   unfolding foundIn
+  none-stands e p h =
+      let few = sound .few in
+      let i = h .inside in
+      let n = none-found (λ q. answersTo (k .unit) (k .channel) (k .selector) (at t q)) (places t) e p (omega arith) in
+      answers-reads k (at t p) .denies n (h .unit, (h .channel, h .selector))
+
+  pub stands-found : (p : ℕ) → Stands t k p → whereIs t k ≡ found.At p
   stands-found p h = go (whereIs t k) refl
     where
       go : (f : Found) → whereIs t k ≡ f → whereIs t k ≡ found.At p
-      go found.Nothing e =
-          let few = sound .few in
-          let i = h .inside in
-          let n = none-found (λ q. answersTo (k .unit) (k .channel) (k .selector) (at t q)) (places t) e p (omega arith) in
-          absurd (answers-reads k (at t p) .denies n (h .unit, (h .channel, h .selector)))
-      go (found.At q) e =
-          let b = found-stands t k q e in
-          let m = stands-once p q h b in
-          let n = stands-once q p b h in
-          let i : q ≡ p = ⊎-elim (λ (i : q ≡ p). i) (λ (i : q ≡ p → ⊥). absurd (apart q p i m n)) (decided (eqb q p) (reads-eq q p)) in
-          e ∙ ap found.At i
+      go found.Nothing e = absurd (none-stands e p h)
+      go (found.At q) e = e ∙ ap found.At (stands-one q p (found-stands t k q e) h)
 
 -- the number of one byte, and of two
 one-byte : (d : List ℕ) → Bytes d → length d ≡ 1 → valueIn d < 256

@@ -22,7 +22,7 @@ use Rattle.table.specs.declared.Table.{Table}
 use Rattle.table.specs.declared.Sense.{Sense}
 use Rattle.table.specs.declared.Sense.the-variants as sense
 use Rattle.table.specs.declared.Found.the-variants as found
-use Rattle.table.specs.Controls.{at, placed, senseOf, sizeOf, rangeOf, answersTo}
+use Rattle.table.specs.Controls.{at, placed, senseOf, sizeOf, rangeOf}
 use Rattle.table.specs.Meaning.{Same, SoundAs, Sound, loaded-legal}
 use Rattle.table.specs.Placed.{same-self, same-by, placed-here, placed-elsewhere, placed-found, placed-sound}
 use Rattle.request.specs.declared.Settled.the-variants.{To}
@@ -33,7 +33,7 @@ use Rattle.request.specs.Request.{askedOf, valueIn, settledOf, withCur, request
 use Rattle.runs.specs.Runs.{Key, whereIs, Stands, keyOf, Step, accepted, tableNext, after, sameKey, rangesIn, numbersAsked, numbersIn, heard, told, lastOf, some, StandsFor, Bytes, sent, Wired}
 use Rattle.runs.specs.Runs.Step.{load, request}
 use Rattle.runs.proofs.Taken.{LoadTaken, SetTaken, load-taken, set-taken, get-taken, load-not-got}
-use Rattle.runs.proofs.Kept.{load-same, set-same, load-sound, set-sound, place-answers, place-below, place-inside, found-stands, stands-found, settles-closest, sent-fits, between-only}
+use Rattle.runs.proofs.Kept.{load-same, set-same, load-sound, set-sound, place-below, place-inside, found-stands, stands-found, settles-closest, sent-fits, between-only}
 
 pub record Moved (t : Table) (k : Key) (p : ℕ) (rs : List Range) (ns : List ℕ) (v : Table) : Type 0 where
   pub sound : Sound v
@@ -107,11 +107,6 @@ reads-key k l =
       denies = λ e h. r .denies e (h .unit, (h .channel, h .selector));
     }
 
-answers-key : (k : Key) (c : Control) → answersTo (k .unit) (k .channel) (k .selector) c ≡ true
-    → OneKey (record { unit = c .unit; channel = c .channel; selector = c .selector }) k
-unfolding answersTo
-answers-key k c e = reads-key (record { unit = c .unit; channel = c .channel; selector = c .selector }) k .says e
-
 found-at-one : {p q : ℕ} → found.At p ≡ found.At q → p ≡ q
 found-at-one e = cc
 
@@ -125,10 +120,8 @@ module _ (t : Table) (k l : Key) (p q : ℕ) (f : whereIs t k ≡ found.At p) (g
 
   two-places : sameKey k l ≡ false → p ≡ q → ⊥
   two-places e i =
-      let a = answers-key k (at t p) (place-answers t k p f) in
-      let b : OneKey (record { unit = at t p .unit; channel = at t p .channel; selector = at t p .selector }) l =
-      rw i (answers-key l (at t q) (place-answers t l q g))
-      in
+      let a = found-stands t k p f in
+      let b : Stands t l p = rw i (found-stands t l q g) in
       reads-key k l .denies e
       (record {
         unit = sym (a .unit) ∙ b .unit;
@@ -180,7 +173,7 @@ module _ (t : Table) (k : Key) (p : ℕ) (s : Sound t) (f : whereIs t k ≡ foun
 
 -- a key's control has the key's selector
 selector-at : (t : Table) (k : Key) (p : ℕ) → whereIs t k ≡ found.At p → at t p .selector ≡ k .selector
-selector-at t k p f = answers-key k (at t p) (place-answers t k p f) .selector
+selector-at t k p f = found-stands t k p f .selector
 
 pub sense-at : (t : Table) (k : Key) (p : ℕ) → whereIs t k ≡ found.At p → senseOf (at t p .selector) ≡ senseOf (k .selector)
 sense-at t k p f = ap senseOf (selector-at t k p f)

@@ -26,9 +26,9 @@ use Rattle.table.specs.declared.Sense.{Sense}
 use Rattle.table.specs.declared.Sense.the-variants.{Unknown, YesNo, Ranged, Pin}
 use Rattle.table.specs.declared.Found.{Found}
 use Rattle.table.specs.declared.Found.the-variants as found
-use Rattle.table.specs.Controls.{at, senseOf, sizeOf, answersTo}
+use Rattle.table.specs.Controls.{at, senseOf, sizeOf}
 use Rattle.ground.specs.Places.{reads-somewhere}
-use Rattle.table.specs.First.{places, foundIn, found-first, none-found, unitIn, lookupBy, lookedUp}
+use Rattle.table.specs.First.{places, foundIn, unitIn, lookupBy, lookedUp}
 use Rattle.table.specs.Sound.{soundOf}
 use Rattle.table.specs.Meaning.{SoundAs, Sound, sound-reads}
 use Rattle.request.specs.declared.Target.{Target}
@@ -44,8 +44,9 @@ use Rattle.request.specs.Outcome.Outcome.{refused}
 use Rattle.request.specs.Load.{loadRange, loadBy, loadAt, loadOf}
 use Rattle.request.specs.Request.{targetOf, getAsked, askedBy, askedOf, placeOf, addressedIn, isRanged, ofRange, lacking, unready, valueIn, settledBetween, settledOf, setTo, setBy, setFrom, getBy, getFrom, answerAsked, requestOf}
 use Rattle.runs.specs.Rows.{Row, given, passed, NoRow, AsksSet, AsksGet, codeOf, WellAsked, Owned, Named, RangedThere, Unready, Outside, InRange, lastRows, controlRows, unitRows, askedRows, requestRows, loadRows, stepRows}
-use Rattle.runs.specs.Runs.{Step, stepOf}
+use Rattle.runs.specs.Runs.{Key, Stands, Step, stepOf}
 use Rattle.runs.specs.Runs.Step.{load, request}
+use Rattle.runs.proofs.Kept.{found-stands, none-stands, stands-one}
 
 -- a refusal that is given where a test holds, and one that is given where it does not
 module _ {rest : ℕ → Type 0} where
@@ -173,39 +174,23 @@ module _ (t : Table) (sound : Sound t) where
       (λ o. let i = o .inside in (o .place, omega arith, o .unit))
 
   module _ (u ch s : ℕ) where
-    answers-reads : (c : Control) → Reads (answersTo u ch s c) ((c .unit ≡ u) × ((c .channel ≡ ch) × (c .selector ≡ s)))
-    unfolding answersTo
-    answers-reads c = reads-and _ _ (reads-eq (c .unit) u) (reads-and _ _ (reads-eq (c .channel) ch) (reads-eq (c .selector) s))
+    abbrev key : Key
+    key = record { unit = u; channel = ch; selector = s }
 
     found-named : (p : ℕ) → foundIn t u ch s ≡ found.At p → Named t u ch s (at t p)
-    unfolding foundIn
     found-named p e =
-        let a = found-first (λ q. answersTo u ch s (at t q)) (places t) p e in
-        let i = a .inside in
-        let k = answers-reads (at t p) .says (a .passes) in
-        record { place = p; inside = omega arith; is = refl; unit = k .0; channel = k .1 .0; selector = k .1 .1 }
+        let a = found-stands t key p e in
+        record { place = p; inside = a .inside; is = refl; unit = a .unit; channel = a .channel; selector = a .selector }
+
+    named-stands : (c : Control) (m : Named t u ch s c) → Stands t key (m .place)
+    named-stands c m = record { inside = m .inside; unit = rw (m .is) (m .unit); channel = rw (m .is) (m .channel); selector = rw (m .is) (m .selector) }
 
     found-none : foundIn t u ch s ≡ found.Nothing → (c : Control) → Named t u ch s c → ⊥
-    unfolding foundIn
-    found-none e c m =
-        let few = sound .few in
-        let i = m .inside in
-        let n : answersTo u ch s (at t (m .place)) ≡ false = none-found (λ q. answersTo u ch s (at t q)) (places t) e (m .place) (omega arith) in
-        answers-reads c .denies (rw (m .is) at n) (m .unit, (m .channel, m .selector))
+    found-none e c m = none-stands t sound key e (m .place) (named-stands c m)
 
     -- a control stands at one place
     pub named-one : (a b : Control) → Named t u ch s a → Named t u ch s b → a ≡ b
-    named-one a b m n = go (decided (eqb (m .place) (n .place)) (reads-eq _ _)) (decided (ltb (m .place) (n .place)) (reads-lt _ _))
-      where
-        apart : (c d : Control) (k : Named t u ch s c) (l : Named t u ch s d) → k .place < l .place → ⊥
-        apart c d k l h =
-            sound .once (k .place) (l .place) h (l .inside)
-            (rw (k .is, l .is) (record { unit = k .unit ∙ sym (l .unit); channel = k .channel ∙ sym (l .channel); selector = k .selector ∙ sym (l .selector) }))
-
-        go : (m .place ≡ n .place) ⊎ (m .place ≡ n .place → ⊥) → (m .place < n .place) ⊎ (m .place < n .place → ⊥) → a ≡ b
-        go (inl e) h = sym (m .is) ∙ ap (at t) e ∙ n .is
-        go (inr e) (inl h) = absurd (apart a b m n h)
-        go (inr e) (inr h) = absurd (apart b a n m (let l : n .place < m .place = omega arith in l))
+    named-one a b m n = sym (m .is) ∙ ap (at t) (stands-one t sound key (m .place) (n .place) (named-stands a m) (named-stands b n)) ∙ n .is
 
 -- rows 35 to 39, of the control at place p
 module _ (t : Table) (sound : Sound t) (s d : List ℕ) (room : ℕ) (p : ℕ) (m : Named t (byte s 5) (byte s 2) (byte s 3) (at t p)) where
