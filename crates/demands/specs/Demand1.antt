@@ -7,10 +7,11 @@
 --                           gives, "interface number 0, zero counts and an empty table; the sheet keeps its bytes"
 --   reader-refuses      ==  so it is wherever the number is not 0
 --   reader-answers      ==  the number is 0, and the bytes are a configuration with room for its records; or it refuses so
---   RefusedAnswer Named t r  ==  what an answer r says where it refuses: one of the papers' numbers, nothing written, and t, the table as it stood
---   load-refuses, request-refuses  ==  every answer that the contract of a load or a request allows and whose number is not 0 has one
---                                      of the papers' numbers, and leaves table and reply as they stood
---   load-number, request-number    ==  .. which is that of the first row of the papers' table that applies; 0 where none does
+--   RefusedAnswer Rows t r  ==  what an answer r says where it refuses: the number of the first of the Rows that applies, nothing
+--                               written, and t, the table as it stood
+--   load-refuses, request-refuses  ==  every answer that the contract of a load or a request allows and whose number is not 0 has the
+--                                      number of the first row of the papers' table that applies, and leaves table and reply as they stood
+--   load-number, request-number    ==  refused or not: the number of the first row that applies; 0 where none does
 use Prim.Native.Nat.{ℕ}
 use mathlib.Core.Path.{_≡_, refl, sym, ap, _∙_}
 use mathlib.Core.List.{List}
@@ -29,7 +30,7 @@ use Rattle.request.specs.Load.{loadOf}
 use Rattle.request.specs.Request.{requestOf}
 use Rattle.runs.specs.Rows.{requestRows, loadRows}
 use Rattle.runs.proofs.Rows.{request-rows, load-rows}
-use Rattle.runs.proofs.Refusals.{refused-keeps, LoadNumber, RequestNumber, Numbered, load-numbers, request-numbers}
+use Rattle.runs.proofs.Refusals.{refused-keeps}
 use Rattle.topology.specs.declared.Reading.{Reading}
 use Rattle.topology.specs.Reading.{verdictOf, refusedReading, readingOf, sheetOf}
 use Rattle.demands.specs.Refusals.{Refused, Shown, accepted-exactly, refused-exactly}
@@ -68,27 +69,28 @@ module _ (s d : List ℕ) where
       go (inl e) = inl (e, accepted-exactly s (length d) .0 (sym (number-told s (length d)) ∙ e))
       go (inr n) = inr (reader-refuses n)
 
--- what r, an answer that the contract allows, says of a refusal: one of the papers' numbers, nothing written, and the table as it stood
-pub record RefusedAnswer (Named : ℕ → Type 0) (t : Table) (r : Answer) : Type 0 where
-  pub named : Named (r .number)
+-- the rows say which number it is, of r, any answer that the contract allows
+pub record RefusedAnswer (Rows : ℕ → Type 0) (t : Table) (r : Answer) : Type 0 where
+  pub row : Rows (r .number)
   pub none-written : r .written ≡ 0
   pub table : r .table ≡ t
 
-answer-refuses : (Named : ℕ → Type 0) (t : Table) (o : Outcome) → Numbered Named o → (r : Answer) → r ≡ answerOf t o → (r .number ≡ 0 → ⊥) → RefusedAnswer Named t r
-unfolding Numbered answerOf
-answer-refuses Named t (refused n) named r e h = record { named = rw e (named n refl); none-written = ap (λ (x : Answer). x .written) e; table = ap (λ (x : Answer). x .table) e }
-answer-refuses Named t (got bytes) named r e h = absurd (h (ap (λ (x : Answer). x .number) e))
-answer-refuses Named t (done u) named r e h = absurd (h (ap (λ (x : Answer). x .number) e))
+answer-refuses : (Rows : ℕ → Type 0) (t : Table) (o : Outcome) → Rows (numberOf o) → (r : Answer) → r ≡ answerOf t o → (r .number ≡ 0 → ⊥) → RefusedAnswer Rows t r
+unfolding answerOf
+answer-refuses Rows t (refused n) row r e h = record { row = rw e row; none-written = ap (λ (x : Answer). x .written) e; table = ap (λ (x : Answer). x .table) e }
+answer-refuses Rows t (got bytes) row r e h = absurd (h (ap (λ (x : Answer). x .number) e))
+answer-refuses Rows t (done u) row r e h = absurd (h (ap (λ (x : Answer). x .number) e))
 
-pub load-refuses : (t : Table) (u c v : ℕ) (range : Range) (w : ℕ) (r : Answer) → r ≡ answerOf t (loadOf t u c v range w) → (r .number ≡ 0 → ⊥) → RefusedAnswer LoadNumber t r
-load-refuses t u c v range w = answer-refuses LoadNumber t (loadOf t u c v range w) (load-numbers t u c v range w)
+pub load-refuses : (t : Table) (u c v : ℕ) (range : Range) (w : ℕ) (r : Answer) → r ≡ answerOf t (loadOf t u c v range w) → (r .number ≡ 0 → ⊥) → RefusedAnswer (loadRows t u c v range w) t r
+load-refuses t u c v range w = answer-refuses (loadRows t u c v range w) t (loadOf t u c v range w) (load-rows t u c v range w)
 
 -- a is what the reply, which held b, holds afterwards
-pub request-refuses : (t : Table) (i : ℕ) (setup «data» b : List ℕ) (r : Answer) (a : List ℕ) → Answered t (requestOf t i setup «data» (length b)) b r a → (r .number ≡ 0 → ⊥) → RefusedAnswer RequestNumber t r × (a ≡ b)
+pub request-refuses : (t : Table) (i : ℕ) (setup «data» b : List ℕ) (r : Answer) (a : List ℕ) → Answered t (requestOf t i setup «data» (length b)) b r a → (r .number ≡ 0 → ⊥)
+    → RefusedAnswer (requestRows t i setup «data» (length b)) t r × (a ≡ b)
 unfolding answerOf
 request-refuses t i setup «data» b r a k h =
     let o = requestOf t i setup «data» (length b) in (
-      answer-refuses RequestNumber t o (request-numbers t i setup «data» (length b)) r (k .result) h,
+      answer-refuses (requestRows t i setup «data» (length b)) t o (request-rows t i setup «data» (length b)) r (k .result) h,
       k .lent ∙ refused-keeps t b o (λ e. h (ap (λ (x : Answer). x .number) (k .result) ∙ e)) .reply,
     )
 

@@ -5,9 +5,11 @@
 --   reader-table   ==  the reader's table, whatever the configuration and the sheet, is as document 01 has it before any load: first
 --                      values, nothing loaded, spare places zero; so refusal 30 has nothing against it (`fresh-sound`)
 --   ReaderRun t st ==  what is true of every run st of loads and requests from the table t: refusal 30 has nothing against the table
---                      it leaves; each Get that is then answered is answered as its definition says; each control is what the
---                      last accepted load and Set made it; the next step changes the addressed control alone
---   reader-runs    ==  so it is from every table that the reader answers
+--                      it leaves; the next step, a load, a Set or a Get, has the number of the first row of the papers' table that
+--                      applies, 0 where none does; each Get that is accepted is answered as its definition says; each control is
+--                      what the last accepted load and Set made it; the next step changes the addressed control alone
+--   reader-runs    ==  so it is from every table that the reader answers, for every run whose data are bytes (Wired), as every lent
+--                      slice's are
 use Prim.Native.Nat.{ℕ, zero, suc, _≤_, _<_, zero-le}
 use mathlib.Core.Path.{_≡_, refl, sym, ap, subst}
 use mathlib.Core.List.{List, [], _∷_, map, List·Memᴰ·head}
@@ -28,17 +30,18 @@ use Rattle.sources.specs.GraphLaws.{source-borne}
 use Rattle.clusters.specs.Edition.{Connected, enteringAt}
 use Rattle.clusters.specs.Audio.{firstOf, giveOut, Keeps, audio}
 use Rattle.table.specs.declared.Table.{Table}
-use Rattle.table.specs.declared.Found.the-variants as found
 use Rattle.table.specs.Meaning.{Sound}
 use Rattle.table.specs.Fresh.{Fresh, fresh-sound, fresh-empty}
 use Rattle.controls.specs.Growth.{tableOf}
 use Rattle.controls.specs.Reader.{reader-fresh}
-use Rattle.request.specs.Outcome.Outcome.{got}
+use Rattle.request.specs.Outcome.{numberOf, bytesOf}
 use Rattle.request.specs.Request.{requestOf}
-use Rattle.runs.specs.Runs.{Key, whereIs, Step, tableNext, after, stepKey, rangesIn, numbersIn, told, Wired}
+use Rattle.runs.specs.Rows.{AsksGet, stepRows}
+use Rattle.runs.specs.Runs.{Key, Stands, Step, stepOf, tableNext, after, stepKey, rangesIn, numbersIn, told, Wired}
 use Rattle.runs.proofs.Alone.{Alone, alone, run-sound}
 use Rattle.runs.proofs.Answers.{Answers, get-answers}
 use Rattle.runs.proofs.Moved.{Moved, whole-run}
+use Rattle.runs.proofs.Rows.{step-rows}
 use Rattle.topology.specs.declared.Reading.{Reading}
 use Rattle.topology.specs.Reading.{readingOf}
 use Rattle.demands.specs.Surveyed.{entitiesOf}
@@ -94,8 +97,10 @@ reader-table s d = go (reader-answers s d)
 
 pub record ReaderRun (t : Table) (steps : List Step) : Type 0 where
   pub sound : Sound (after t steps)
-  pub gets : (n : ℕ) (setup «data» : List ℕ) (room : ℕ) (bytes : List ℕ) → requestOf (after t steps) n setup «data» room ≡ got bytes → Answers t steps setup bytes
-  pub stored : (k : Key) (p : ℕ) → whereIs t k ≡ found.At p → Moved t k p (told (rangesIn k) t steps) (told (numbersIn k) t steps) (after t steps)
+  pub numbers : (next : Step) → stepRows (after t steps) next (numberOf (stepOf (after t steps) next))
+  pub gets : (n : ℕ) (setup «data» : List ℕ) (room : ℕ) → AsksGet setup → numberOf (requestOf (after t steps) n setup «data» room) ≡ 0
+      → Answers t steps setup (bytesOf (requestOf (after t steps) n setup «data» room))
+  pub stored : (k : Key) (p : ℕ) → Stands t k p → Moved t k p (told (rangesIn k) t steps) (told (numbersIn k) t steps) (after t steps)
   pub alone-next : (next : Step) → Alone (after t steps) (stepKey next) (tableNext (after t steps) next)
 
 pub reader-runs : (s d : List ℕ) (steps : List Step) → Wired steps → ReaderRun (readingOf s (length d) .table) steps
@@ -103,7 +108,8 @@ reader-runs s d steps w =
     let h = fresh-sound (readingOf s (length d) .table) (reader-table s d) in
     record {
       sound = run-sound (readingOf s (length d) .table) steps w h;
-      gets = λ n setup «data» room bytes e. get-answers (readingOf s (length d) .table) steps h w n setup «data» room bytes e;
+      numbers = step-rows (after (readingOf s (length d) .table) steps);
+      gets = get-answers (readingOf s (length d) .table) steps h w;
       stored = λ k p f. whole-run (readingOf s (length d) .table) k p steps h f w;
       alone-next = λ next. alone (after (readingOf s (length d) .table) steps) next;
     }

@@ -1,18 +1,17 @@
 -- An accepted Set "changes that control alone" (demand 2): every other control, and every spare place, is what it was, and the
 -- addressed one is still the same control, with as many pins. And no step leaves a table that 30 turns away.
---   Alone t k v   ==  v differs from t in the numbers of the control k alone
+--   Alone t k v   ==  v differs from t in the numbers of the control k alone: every place at which k does not stand is what it was
 --   alone         ==  so does every step's table
 --   step-sound, run-sound  ==  no step, and no run, leaves a table that 30 turns away
 use Prim.Native.Nat.{ℕ}
 use mathlib.Core.Path.{_≡_, refl, sym, ap, _∙_, subst}
 use mathlib.Core.List.{List, [], _∷_, List·Memᴰ·head, List·Memᴰ·tail}
-use mathlib.Core.Bool.{Bool, true, false}
+use mathlib.Core.Bool.{true}
 use mathlib.Core.Logic.{⊎-elim}
 use native.Mathlib.Omega.{arith}
 use lib.Dec.{eqb}
 use lib.ListN.{length, length-set}
-use Rattle.ground.specs.Pick.{pick, decided, reads-eq}
-use Rattle.ground.specs.Numbers.{byte}
+use Rattle.ground.specs.Pick.{decided, reads-eq}
 use Rattle.setting.specs.declared.Range.{Range}
 use Rattle.table.specs.declared.Control.{Control}
 use Rattle.table.specs.declared.Table.{Table}
@@ -22,24 +21,21 @@ use Rattle.table.specs.Sound.{soundOf}
 use Rattle.table.specs.Meaning.{Same, Sound, sound-reads}
 use Rattle.table.specs.Placed.{same-self, placed-here, placed-elsewhere}
 use Rattle.request.specs.declared.Target.{Target}
-use Rattle.request.specs.declared.Part.{Part}
-use Rattle.request.specs.declared.Part.the-variants.{Cur, Min, Max, Res}
-use Rattle.request.specs.declared.Asked.{Asked}
-use Rattle.request.specs.declared.Asked.the-variants as asks
 use Rattle.request.specs.Outcome.{Outcome, tableAfter}
 use Rattle.request.specs.Outcome.Outcome.{refused, got, done}
 use Rattle.request.specs.Load.{loadOf}
-use Rattle.request.specs.Request.{targetOf, getAsked, askedBy, askedOf, withCur, requestOf}
-use Rattle.runs.specs.Runs.{Key, whereIs, keyOf, Step, tableNext, after, stepKey, Bytes, sent, Wired}
+use Rattle.request.specs.Request.{withCur, requestOf}
+use Rattle.runs.specs.Runs.{Key, whereIs, Stands, keyOf, namedBy, Step, tableNext, after, stepKey, Bytes, sent, Wired}
 use Rattle.runs.specs.Runs.Step.{load, request}
 use Rattle.runs.proofs.Taken.{load-taken, set-taken}
-use Rattle.runs.proofs.Kept.{load-same, set-same, place-inside}
+use Rattle.runs.proofs.Kept.{load-same, set-same, place-inside, found-stands}
 use Rattle.runs.proofs.Moved.{one-step}
+use Rattle.runs.proofs.Rows.{set-bytes}
 
 pub record Alone (t : Table) (k : Key) (v : Table) : Type 0 where
   pub count : v .count ≡ t .count
   pub room : length (v .controls) ≡ length (t .controls)
-  pub others : (q : ℕ) → (whereIs t k ≡ found.At q → ⊥) → at v q ≡ at t q
+  pub others : (q : ℕ) → (Stands t k q → ⊥) → at v q ≡ at t q
   pub same : (q : ℕ) → Same (at v q) (at t q)
   pub pins : (q : ℕ) → at v q .pins ≡ at t q .pins
 
@@ -51,7 +47,7 @@ stored-alone : (t : Table) (k : Key) (p : ℕ) → Sound t → whereIs t k ≡ f
 stored-alone t k p s f c h e = record {
   count = refl;
   room = length-set (t .controls) p c;
-  others = λ q n. placed-elsewhere t p c q (λ i. n (f ∙ ap found.At (sym i)));
+  others = λ q n. placed-elsewhere t p c q (λ i. n (found-stands t k q (f ∙ ap found.At (sym i))));
   same = λ q.
       ⊎-elim
       (λ (i : q ≡ p). rw (i, placed-here t p (place-inside t k p f s) c) h)
@@ -64,46 +60,6 @@ stored-alone t k p s f c h e = record {
       (decided (eqb q p) (reads-eq q p));
 }
 
--- the target of a Set is what its setup names
-set-one : {g h : Target} → asks.Set g ≡ asks.Set h → h ≡ g
-set-one e = cc
-
-no-set : {P : Type 0} {h : Target} → asks.Unknown ≡ asks.Set h → P
-no-set e = absurd (let z : _≡_ {A = ℕ} 0 1 = cc in omega arith)
-
-getAsked-not : (b : ℕ) (g h : Target) → getAsked b g ≡ asks.Set h → ⊥
-unfolding getAsked
-getAsked-not b g h e =
-    by (eqb b 129) Cur _ (by (eqb b 130) Min _ (by (eqb b 131) Max _ (by (eqb b 132) Res _ no-set))) e
-  where
-    by : (x : Bool) (part : Part) (o : Asked) → (o ≡ asks.Set h → ⊥) → pick x (asks.Get part g) o ≡ asks.Set h → ⊥
-    by true part o f z = let w : _≡_ {A = ℕ} 0 1 = cc in omega arith
-    by false part o f z = f z
-
-askedBy-set : (g : Target) (a b : ℕ) (h : Target) → askedBy g a b ≡ asks.Set h → h ≡ g
-unfolding askedBy
-askedBy-set g a b h e = first (eqb a 33) e
-  where
-    second : (x : Bool) → pick x (asks.Set g) asks.Unknown ≡ asks.Set h → h ≡ g
-    second true z = set-one z
-    second false z = no-set z
-
-    third : (x : Bool) → pick x (getAsked b g) asks.Unknown ≡ asks.Set h → h ≡ g
-    third true z = absurd (getAsked-not b g h z)
-    third false z = no-set z
-
-    first : (x : Bool) → pick x (pick (eqb b 1) (asks.Set g) asks.Unknown) (pick (eqb a 161) (getAsked b g) asks.Unknown) ≡ asks.Set h → h ≡ g
-    first true z = second (eqb b 1) z
-    first false z = third (eqb a 161) z
-
-set-target : (s : List ℕ) (h : Target) → askedOf s ≡ asks.Set h → h ≡ targetOf s
-unfolding askedOf
-set-target s h e = go (eqb (length s) 8) e
-  where
-    go : (x : Bool) → pick x (askedBy (targetOf s) (byte s 0) (byte s 1)) asks.Unknown ≡ asks.Set h → h ≡ targetOf s
-    go true z = askedBy-set (targetOf s) (byte s 0) (byte s 1) h z
-    go false z = no-set z
-
 sound-of : (t : Table) → soundOf t ≡ true → Sound t
 sound-of t e = sound-reads t .says e
 
@@ -114,15 +70,15 @@ load-alone t k range w (done v) e =
     let a = load-taken t (k .unit) (k .channel) (k .selector) range w v e in
     rw (a .table) (stored-alone t k (a .place) (sound-of t (a .sound)) (a .there) _ (load-same (a .sort) range w (at t (a .place))) refl)
 
-request-alone : (t : Table) (n : ℕ) (s d : List ℕ) (room : ℕ) (o : Outcome) → requestOf t n s d room ≡ o → Alone t (keyOf (targetOf s)) (tableAfter t o)
-request-alone t n s d room (refused m) e = untouched t (keyOf (targetOf s))
-request-alone t n s d room (got bytes) e = untouched t (keyOf (targetOf s))
+request-alone : (t : Table) (n : ℕ) (s d : List ℕ) (room : ℕ) (o : Outcome) → requestOf t n s d room ≡ o → Alone t (namedBy s) (tableAfter t o)
+request-alone t n s d room (refused m) e = untouched t (namedBy s)
+request-alone t n s d room (got bytes) e = untouched t (namedBy s)
 request-alone t n s d room (done v) e =
     let a = set-taken t n s d room v e in
     let x : Alone t (keyOf (a .target)) (placed t (a .place) (withCur (a .value) (at t (a .place)))) =
     stored-alone t (keyOf (a .target)) (a .place) (sound-of t (a .sound)) (a .there) _ (set-same (a .value) (at t (a .place))) refl
     in
-    rw (a .table) (subst (λ (g : Target). Alone t (keyOf g) (placed t (a .place) (withCur (a .value) (at t (a .place))))) (set-target s (a .target) (a .asked)) x)
+    rw (a .table) (subst (λ (g : Target). Alone t (keyOf g) (placed t (a .place) (withCur (a .value) (at t (a .place))))) (set-bytes s (a .target) (a .asked) .1) x)
 
 pub alone : (t : Table) (st : Step) → Alone t (stepKey st) (tableNext t st)
 alone t (load k range w) = load-alone t k range w _ refl

@@ -53,6 +53,8 @@ caseRun =
     ∷ setCur 1 2 (0 ∷ 128 ∷ []) 2
     ∷ getCur 1 2 2
     ∷ request 0 (asks 161 130 1 2 2) [] 2
+    ∷ request 0 (asks 161 131 1 2 2) [] 2
+    ∷ request 0 (asks 161 132 1 2 2) [] 2
     ∷ getCur 0 1 1
     ∷ setCur 0 1 (1 ∷ []) 1
     ∷ getCur 0 1 1
@@ -76,6 +78,8 @@ pub case-run : outcomes caseTable caseRun
     ∷ (0 ∷ [])  -- silence
     ∷ (0 ∷ 0 ∷ 128 ∷ [])  -- as it is
     ∷ (0 ∷ 0 ∷ 236 ∷ [])  -- MIN, −5120
+    ∷ (0 ∷ 0 ∷ 0 ∷ [])  -- MAX, 0
+    ∷ (0 ∷ 0 ∷ 1 ∷ [])  -- RES, 256
     ∷ (0 ∷ 0 ∷ [])  -- mute, at first 0
     ∷ (0 ∷ [])  -- set
     ∷ (0 ∷ 1 ∷ [])  -- and got

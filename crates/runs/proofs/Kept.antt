@@ -2,19 +2,21 @@
 --   load-same, set-same    ==  the control that is stored is the same control
 --   load-sound, set-sound  ==  30 has nothing against it
 --   place-below, place-inside  ==  a control that is found stands below the count, and in the array
---   place-answers          ==  and is the one that was sought
+--   found-stands, stands-found, none-stands  ==  a control stands where it is found; it is found where it stands, and stands
+--                              nowhere if it is not found, in a table that 30 does not turn away; stands-one: it stands at one place
 --   between-only           ==  what a Set of a yes/no or a pin stores is what was asked, within its bounds
 --   settles-closest        ==  the closest setting is what is to be stored, by crate setting's statements
 --   sent-fits              ==  the data of a Set are not too wide for the control
 use Prim.Native.Nat.{ℕ, _+_, _*_, _≤_, _<_, min}
-use mathlib.Core.Path.{_≡_, refl}
+use mathlib.Core.Path.{_≡_, refl, sym, ap, _∙_}
 use mathlib.Core.List.{List}
 use mathlib.Core.Bool.{Bool, true, false, _&&_}
+use mathlib.Core.Logic.{⊎-elim}
 use native.Mathlib.Omega.{arith}
-use lib.Dec.{eqb, leb}
+use lib.Dec.{eqb, leb, ltb}
 use lib.ListN.{length, getD}
 use borrow.Author.Tests.{eq-eqb, ne-eqb}
-use Rattle.ground.specs.Pick.{pick, yes, no, shows, reads-and, reads-le}
+use Rattle.ground.specs.Pick.{pick, yes, no, Reads, shows, decided, reads-and, reads-eq, reads-lt, reads-le}
 use Rattle.setting.specs.Setting.{fitsOf, legalOf, closestTo}
 use Rattle.setting.specs.Legal.{fits-reads, legal-means}
 use Rattle.setting.specs.Closest.{closest-fits, closest-means, closest-available}
@@ -25,14 +27,15 @@ use Rattle.table.specs.declared.Control.{Control}
 use Rattle.table.specs.declared.Table.{Table}
 use Rattle.table.specs.declared.Sense.{Sense}
 use Rattle.table.specs.declared.Sense.the-variants.{Unknown, YesNo, Ranged, Pin}
+use Rattle.table.specs.declared.Found.{Found}
 use Rattle.table.specs.declared.Found.the-variants as found
 use Rattle.table.specs.Controls.{at, senseOf, sizeOf, rangeOf, answersTo}
-use Rattle.table.specs.First.{places, foundIn, found-first}
+use Rattle.table.specs.First.{places, foundIn, found-first, none-found}
 use Rattle.table.specs.Meaning.{Same, SoundAs, SoundRanged, SoundLoaded, Sound, loaded-legal, loaded-tested, sound-counted}
 use Rattle.request.specs.declared.Settled.the-variants.{NoSetting, To}
 use Rattle.request.specs.Load.{loadedWith}
 use Rattle.request.specs.Request.{unready, valueIn, settledBetween, settledOf, withCur}
-use Rattle.runs.specs.Runs.{Key, whereIs, Settles, Bytes}
+use Rattle.runs.specs.Runs.{Key, whereIs, Stands, Settles, Bytes}
 
 pub load-same : (s : Sort) (range : Range) (w : ℕ) (c : Control) → Same (loadedWith s range w c) c
 load-same s range w c = record { unit = refl; channel = refl; selector = refl }
@@ -42,7 +45,7 @@ set-same x c = record { unit = refl; channel = refl; selector = refl }
 
 -- a place that was found
 module _ (t : Table) (k : Key) (p : ℕ) (f : whereIs t k ≡ found.At p) where
-  pub place-answers : answersTo (k .unit) (k .channel) (k .selector) (at t p) ≡ true
+  place-answers : answersTo (k .unit) (k .channel) (k .selector) (at t p) ≡ true
   unfolding foundIn
   place-answers = found-first _ (places t) p f .passes
 
@@ -52,6 +55,45 @@ module _ (t : Table) (k : Key) (p : ℕ) (f : whereIs t k ≡ found.At p) where
 
   pub place-inside : Sound t → p < length (t .controls)
   place-inside s = sound-counted t s p place-below
+
+-- two numbers, neither of which is the less, are one
+apart : (q p : ℕ) → (q ≡ p → ⊥) → (p < q → ⊥) → (q < p → ⊥) → ⊥
+apart q p i m n = ⊎-elim (λ (l : p < q). m l) (λ (l : p < q → ⊥). n (omega arith)) (decided (ltb p q) (reads-lt p q))
+
+-- the search's place, in statements
+answers-reads : (k : Key) (c : Control) → Reads (answersTo (k .unit) (k .channel) (k .selector) c) ((c .unit ≡ k .unit) × ((c .channel ≡ k .channel) × (c .selector ≡ k .selector)))
+unfolding answersTo
+answers-reads k c = reads-and _ _ (reads-eq (c .unit) (k .unit)) (reads-and _ _ (reads-eq (c .channel) (k .channel)) (reads-eq (c .selector) (k .selector)))
+
+pub found-stands : (t : Table) (k : Key) (p : ℕ) → whereIs t k ≡ found.At p → Stands t k p
+found-stands t k p f =
+    let h = answers-reads k (at t p) .says (place-answers t k p f) in
+    record { inside = place-below t k p f; unit = h .0; channel = h .1 .0; selector = h .1 .1 }
+
+module _ (t : Table) (sound : Sound t) (k : Key) where
+  stands-once : (p q : ℕ) → Stands t k p → Stands t k q → p < q → ⊥
+  stands-once p q a b l =
+      sound .once p q l (b .inside)
+      (record { unit = a .unit ∙ sym (b .unit); channel = a .channel ∙ sym (b .channel); selector = a .selector ∙ sym (b .selector) })
+
+  pub stands-one : (p q : ℕ) → Stands t k p → Stands t k q → p ≡ q
+  stands-one p q a b =
+      ⊎-elim (λ (i : p ≡ q). i) (λ (i : p ≡ q → ⊥). absurd (apart p q i (stands-once q p b a) (stands-once p q a b))) (decided (eqb p q) (reads-eq p q))
+
+  pub none-stands : whereIs t k ≡ found.Nothing → (p : ℕ) → Stands t k p → ⊥
+  unfolding foundIn
+  none-stands e p h =
+      let few = sound .few in
+      let i = h .inside in
+      let n = none-found (λ q. answersTo (k .unit) (k .channel) (k .selector) (at t q)) (places t) e p (omega arith) in
+      answers-reads k (at t p) .denies n (h .unit, (h .channel, h .selector))
+
+  pub stands-found : (p : ℕ) → Stands t k p → whereIs t k ≡ found.At p
+  stands-found p h = go (whereIs t k) refl
+    where
+      go : (f : Found) → whereIs t k ≡ f → whereIs t k ≡ found.At p
+      go found.Nothing e = absurd (none-stands e p h)
+      go (found.At q) e = e ∙ ap found.At (stands-one q p (found-stands t k q e) h)
 
 -- the number of one byte, and of two
 one-byte : (d : List ℕ) → Bytes d → length d ≡ 1 → valueIn d < 256

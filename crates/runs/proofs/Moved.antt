@@ -22,7 +22,7 @@ use Rattle.table.specs.declared.Table.{Table}
 use Rattle.table.specs.declared.Sense.{Sense}
 use Rattle.table.specs.declared.Sense.the-variants as sense
 use Rattle.table.specs.declared.Found.the-variants as found
-use Rattle.table.specs.Controls.{at, placed, senseOf, sizeOf, rangeOf, answersTo}
+use Rattle.table.specs.Controls.{at, placed, senseOf, sizeOf, rangeOf}
 use Rattle.table.specs.Meaning.{Same, SoundAs, Sound, loaded-legal}
 use Rattle.table.specs.Placed.{same-self, same-by, placed-here, placed-elsewhere, placed-found, placed-sound}
 use Rattle.request.specs.declared.Settled.the-variants.{To}
@@ -30,14 +30,14 @@ use Rattle.request.specs.Outcome.{Outcome, tableAfter}
 use Rattle.request.specs.Outcome.Outcome.{refused, got, done}
 use Rattle.request.specs.Load.{loadedWith, loadOf}
 use Rattle.request.specs.Request.{askedOf, valueIn, settledOf, withCur, requestOf}
-use Rattle.runs.specs.Runs.{Key, whereIs, keyOf, Step, accepted, tableNext, after, sameKey, rangesIn, numbersAsked, numbersIn, heard, told, lastOf, some, StandsFor, Bytes, sent, Wired}
+use Rattle.runs.specs.Runs.{Key, whereIs, Stands, keyOf, Step, accepted, tableNext, after, sameKey, rangesIn, numbersAsked, numbersIn, heard, told, lastOf, some, StandsFor, Bytes, sent, Wired}
 use Rattle.runs.specs.Runs.Step.{load, request}
 use Rattle.runs.proofs.Taken.{LoadTaken, SetTaken, load-taken, set-taken, get-taken, load-not-got}
-use Rattle.runs.proofs.Kept.{load-same, set-same, load-sound, set-sound, place-answers, place-below, place-inside, settles-closest, sent-fits, between-only}
+use Rattle.runs.proofs.Kept.{load-same, set-same, load-sound, set-sound, place-below, place-inside, found-stands, stands-found, settles-closest, sent-fits, between-only}
 
 pub record Moved (t : Table) (k : Key) (p : ℕ) (rs : List Range) (ns : List ℕ) (v : Table) : Type 0 where
   pub sound : Sound v
-  pub there : whereIs v k ≡ found.At p
+  pub there : Stands v k p
   pub same : Same (at v p) (at t p)
   pub pins : at v p .pins ≡ at t p .pins
   pub loaded : at v p .loaded ≡ (at t p .loaded || some rs)
@@ -70,7 +70,7 @@ pub still : (t : Table) (k : Key) (p : ℕ) → Sound t → whereIs t k ≡ foun
 unfolding lastOf
 still t k p s f = record {
   sound = s;
-  there = f;
+  there = found-stands t k p f;
   same = same-self (at t p);
   pins = refl;
   loaded = sym (or-false (at t p .loaded));
@@ -107,11 +107,6 @@ reads-key k l =
       denies = λ e h. r .denies e (h .unit, (h .channel, h .selector));
     }
 
-answers-key : (k : Key) (c : Control) → answersTo (k .unit) (k .channel) (k .selector) c ≡ true
-    → OneKey (record { unit = c .unit; channel = c .channel; selector = c .selector }) k
-unfolding answersTo
-answers-key k c e = reads-key (record { unit = c .unit; channel = c .channel; selector = c .selector }) k .says e
-
 found-at-one : {p q : ℕ} → found.At p ≡ found.At q → p ≡ q
 found-at-one e = cc
 
@@ -125,10 +120,8 @@ module _ (t : Table) (k l : Key) (p q : ℕ) (f : whereIs t k ≡ found.At p) (g
 
   two-places : sameKey k l ≡ false → p ≡ q → ⊥
   two-places e i =
-      let a = answers-key k (at t p) (place-answers t k p f) in
-      let b : OneKey (record { unit = at t p .unit; channel = at t p .channel; selector = at t p .selector }) l =
-      rw i (answers-key l (at t q) (place-answers t l q g))
-      in
+      let a = found-stands t k p f in
+      let b : Stands t l p = rw i (found-stands t l q g) in
       reads-key k l .denies e
       (record {
         unit = sym (a .unit) ∙ b .unit;
@@ -151,7 +144,7 @@ module _ (t : Table) (k : Key) (p : ℕ) (s : Sound t) (f : whereIs t k ≡ foun
       let i : at (placed t q c) p ≡ at t p = placed-elsewhere t q c p (two-places t k l p q f g e) in
       record {
         sound = stored-sound;
-        there = stored-there;
+        there = found-stands _ k p stored-there;
         same = rw i (same-self (at t p));
         pins = rw i;
         loaded = rw i (sym (or-false (at t p .loaded)));
@@ -169,7 +162,7 @@ module _ (t : Table) (k : Key) (p : ℕ) (s : Sound t) (f : whereIs t k ≡ foun
       let i : at (placed t q c) p ≡ c = ap (at (placed t q c)) (sym j) ∙ placed-here t q (place-inside t l q g s) c in
       record {
         sound = stored-sound;
-        there = stored-there;
+        there = found-stands _ k p stored-there;
         same = rw (i, ← j) h;
         pins = rw (i, ← j) m;
         loaded = rw (i, ← j) n;
@@ -180,7 +173,7 @@ module _ (t : Table) (k : Key) (p : ℕ) (s : Sound t) (f : whereIs t k ≡ foun
 
 -- a key's control has the key's selector
 selector-at : (t : Table) (k : Key) (p : ℕ) → whereIs t k ≡ found.At p → at t p .selector ≡ k .selector
-selector-at t k p f = answers-key k (at t p) (place-answers t k p f) .selector
+selector-at t k p f = found-stands t k p f .selector
 
 pub sense-at : (t : Table) (k : Key) (p : ℕ) → whereIs t k ≡ found.At p → senseOf (at t p .selector) ≡ senseOf (k .selector)
 sense-at t k p f = ap senseOf (selector-at t k p f)
@@ -266,11 +259,11 @@ module _ (t : Table) (k : Key) (p : ℕ) (s : Sound t) (f : whereIs t k ≡ foun
   one-step (load l range w) b = load-step l range w _ refl
   one-step (request n su d room) b = request-step n su d room b _ refl
 
-pub whole-run : (t : Table) (k : Key) (p : ℕ) (run : List Step) → Sound t → whereIs t k ≡ found.At p → Wired run
+pub whole-run : (t : Table) (k : Key) (p : ℕ) (run : List Step) → Sound t → Stands t k p → Wired run
     → Moved t k p (told (rangesIn k) t run) (told (numbersIn k) t run) (after t run)
 unfolding told after
-whole-run t k p [] s f w = still t k p s f
+whole-run t k p [] s f w = still t k p s (stands-found t s k p f)
 whole-run t k p (st ∷ run) s f w =
-    let a = one-step t k p s f st (w st (List·Memᴰ·head refl)) in
+    let a = one-step t k p s (stands-found t s k p f) st (w st (List·Memᴰ·head refl)) in
     moved-then t (tableNext t st) (after (tableNext t st) run) k p _ _ _ _ a
     (whole-run (tableNext t st) k p run (a .sound) (a .there) (λ x m. w x (List·Memᴰ·tail m)))

@@ -1,7 +1,10 @@
 -- Each refusal exactly where the paper gives it: the number of a load or a request is that of the first row of the paper's table
 -- that is given, and 0 where none is; and no other number is.
+--   set-bytes, get-bytes       ==  a setup that is read as a Set, or as a Get of a part, has the type and the request of that, and
+--                                  what it addresses is what its bytes name
+--   set-no-get                 ==  no setup is both
 --   named-one                  ==  in a table that 30 does not turn away a control stands once
---   request-rows, load-rows    ==  the number that is answered is the one that the rows say
+--   request-rows, load-rows    ==  the number that is answered is the one that the rows say; step-rows: so it is of every step
 --   request-row-one, load-row-one ==  the rows say one number
 use Prim.Native.Nat.{ℕ, _≤_, _<_}
 use mathlib.Core.Path.{_≡_, refl, sym, ap, _∙_}
@@ -11,7 +14,7 @@ use mathlib.Core.Logic.{_⊎_, inl, inr, ⊎-elim}
 use native.Mathlib.Omega.{arith}
 use lib.Dec.{eqb, leb, ltb}
 use lib.ListN.{length}
-use Rattle.ground.specs.Pick.{pick, true≠false, Reads, decided, reads-same, reads-true, reads-eq, reads-lt, reads-le, reads-and, reads-or, reads-not, reads-within}
+use Rattle.ground.specs.Pick.{pick, true≠false, Reads, decided, reads-same, reads-eq, reads-lt, reads-le, reads-and, reads-or, reads-not, reads-within}
 use Rattle.ground.specs.Numbers.{byte, word}
 use Rattle.setting.specs.Setting.{fitsOf, legalOf}
 use Rattle.setting.specs.Legal.{fits-reads, legal-means}
@@ -23,11 +26,12 @@ use Rattle.table.specs.declared.Sense.{Sense}
 use Rattle.table.specs.declared.Sense.the-variants.{Unknown, YesNo, Ranged, Pin}
 use Rattle.table.specs.declared.Found.{Found}
 use Rattle.table.specs.declared.Found.the-variants as found
-use Rattle.table.specs.Controls.{at, senseOf, sizeOf, answersTo}
+use Rattle.table.specs.Controls.{at, senseOf, sizeOf}
 use Rattle.ground.specs.Places.{reads-somewhere}
-use Rattle.table.specs.First.{places, foundIn, found-first, none-found, unitIn, lookupBy, lookedUp}
+use Rattle.table.specs.First.{places, foundIn, unitIn, lookupBy, lookedUp}
 use Rattle.table.specs.Sound.{soundOf}
 use Rattle.table.specs.Meaning.{SoundAs, Sound, sound-reads}
+use Rattle.request.specs.declared.Target.{Target}
 use Rattle.request.specs.declared.Part.{Part}
 use Rattle.request.specs.declared.Part.the-variants.{Cur, Min, Max, Res}
 use Rattle.request.specs.declared.Asked.{Asked}
@@ -39,7 +43,10 @@ use Rattle.request.specs.Outcome.{Outcome, numberOf}
 use Rattle.request.specs.Outcome.Outcome.{refused}
 use Rattle.request.specs.Load.{loadRange, loadBy, loadAt, loadOf}
 use Rattle.request.specs.Request.{targetOf, getAsked, askedBy, askedOf, placeOf, addressedIn, isRanged, ofRange, lacking, unready, valueIn, settledBetween, settledOf, setTo, setBy, setFrom, getBy, getFrom, answerAsked, requestOf}
-use Rattle.runs.specs.Rows.{Row, given, passed, NoRow, AsksSet, AsksGet, WellAsked, Owned, Named, RangedThere, Unready, Outside, InRange, lastRows, controlRows, unitRows, askedRows, requestRows, loadRows}
+use Rattle.runs.specs.Rows.{Row, given, passed, NoRow, AsksSet, AsksGet, codeOf, WellAsked, Owned, Named, RangedThere, Unready, Outside, InRange, lastRows, controlRows, unitRows, askedRows, requestRows, loadRows, stepRows}
+use Rattle.runs.specs.Runs.{Key, Stands, Step, stepOf}
+use Rattle.runs.specs.Runs.Step.{load, request}
+use Rattle.runs.proofs.Kept.{found-stands, none-stands, stands-one}
 
 -- a refusal that is given where a test holds, and one that is given where it does not
 module _ {rest : ℕ → Type 0} where
@@ -64,19 +71,25 @@ reads-false : (b : Bool) → Reads (not b) (b ≡ false)
 reads-false true = record { says = λ e. absurd (true≠false (sym e)); denies = λ e f. true≠false f }
 reads-false false = record { says = λ e. refl; denies = λ e. absurd (true≠false e) }
 
+ranged-reads : (k : Sense) → Reads (isRanged k) ((r : Sort) × (k ≡ Ranged r))
+ranged-reads Unknown = record { says = λ e. absurd (true≠false (sym e)); denies = λ e h. true≠false (sym (ap isRanged (h .1))) }
+ranged-reads YesNo = record { says = λ e. absurd (true≠false (sym e)); denies = λ e h. true≠false (sym (ap isRanged (h .1))) }
+ranged-reads (Ranged r) = record { says = λ e. (r, refl); denies = λ e. absurd (true≠false e) }
+ranged-reads Pin = record { says = λ e. absurd (true≠false (sym e)); denies = λ e h. true≠false (sym (ap isRanged (h .1))) }
+
 -- what the setup asks
 data Asking (s : List ℕ) : Asked → Type 0 where
   none : (WellAsked s → ⊥) → Asking s asks.Unknown
   sets : length s ≡ 8 → AsksSet s → Asking s (asks.Set (targetOf s))
-  gets : (part : Part) → length s ≡ 8 → AsksGet s → Reads (ofRange part) (0x82 ≤ byte s 1) → Asking s (asks.Get part (targetOf s))
+  gets : (part : Part) → length s ≡ 8 → AsksGet s → byte s 1 ≡ codeOf part → Asking s (asks.Get part (targetOf s))
 
-set-no-get : (s : List ℕ) → AsksSet s → AsksGet s → ⊥
+pub set-no-get : (s : List ℕ) → AsksSet s → AsksGet s → ⊥
 set-no-get s a b = let e = a .0 in let f = b .0 in omega arith
 
 module _ (s : List ℕ) (long : length s ≡ 8) where
-  asked-get : byte s 0 ≡ 0xA1 → (part : Part) (b : ℕ) → byte s 1 ≡ b → leb 129 b ≡ true → leb b 132 ≡ true → leb 130 b ≡ ofRange part → Asking s (asks.Get part (targetOf s))
-  asked-get a part b e l m o =
-      gets part long (a, (rw e (reads-le 129 b .says l), rw e (reads-le b 132 .says m))) (rw (e, ← o) (reads-le 130 b))
+  asked-get : byte s 0 ≡ 0xA1 → (part : Part) → byte s 1 ≡ codeOf part → leb 129 (codeOf part) ≡ true → leb (codeOf part) 132 ≡ true → Asking s (asks.Get part (targetOf s))
+  asked-get a part e l m =
+      gets part long (a, (rw e (reads-le 129 (codeOf part) .says l), rw e (reads-le (codeOf part) 132 .says m))) e
 
   asking-get : byte s 0 ≡ 0xA1 → Asking s (getAsked (byte s 1) (targetOf s))
   unfolding getAsked
@@ -86,19 +99,19 @@ module _ (s : List ℕ) (long : length s ≡ 8) where
       other i j k m = none (λ w. ⊎-elim (λ (x : AsksSet s). let e = x .0 in omega arith) (λ (x : AsksGet s). let l = x .1 .0 in let u = x .1 .1 in omega arith) (w .1))
 
       res : (x : Bool) → Reads x (byte s 1 ≡ 132) → (byte s 1 ≡ 129 → ⊥) → (byte s 1 ≡ 130 → ⊥) → (byte s 1 ≡ 131 → ⊥) → Asking s (pick x (asks.Get Res (targetOf s)) asks.Unknown)
-      res true r i j k = asked-get a Res 132 (r .says refl) refl refl refl
+      res true r i j k = asked-get a Res (r .says refl) refl refl
       res false r i j k = other i j k (r .denies refl)
 
       max : (x : Bool) → Reads x (byte s 1 ≡ 131) → (byte s 1 ≡ 129 → ⊥) → (byte s 1 ≡ 130 → ⊥) → Asking s (pick x (asks.Get Max (targetOf s)) (pick (eqb (byte s 1) 132) (asks.Get Res (targetOf s)) asks.Unknown))
-      max true r i j = asked-get a Max 131 (r .says refl) refl refl refl
+      max true r i j = asked-get a Max (r .says refl) refl refl
       max false r i j = res (eqb (byte s 1) 132) (reads-eq (byte s 1) 132) i j (r .denies refl)
 
       min : (x : Bool) → Reads x (byte s 1 ≡ 130) → (byte s 1 ≡ 129 → ⊥) → Asking s (pick x (asks.Get Min (targetOf s)) (pick (eqb (byte s 1) 131) (asks.Get Max (targetOf s)) (pick (eqb (byte s 1) 132) (asks.Get Res (targetOf s)) asks.Unknown)))
-      min true r i = asked-get a Min 130 (r .says refl) refl refl refl
+      min true r i = asked-get a Min (r .says refl) refl refl
       min false r i = max (eqb (byte s 1) 131) (reads-eq (byte s 1) 131) i (r .denies refl)
 
       cur : (x : Bool) → Reads x (byte s 1 ≡ 129) → Asking s (pick x (asks.Get Cur (targetOf s)) (pick (eqb (byte s 1) 130) (asks.Get Min (targetOf s)) (pick (eqb (byte s 1) 131) (asks.Get Max (targetOf s)) (pick (eqb (byte s 1) 132) (asks.Get Res (targetOf s)) asks.Unknown))))
-      cur true r = asked-get a Cur 129 (r .says refl) refl refl refl
+      cur true r = asked-get a Cur (r .says refl) refl refl
       cur false r = min (eqb (byte s 1) 130) (reads-eq (byte s 1) 130) (r .denies refl)
 
   asking-by : Asking s (askedBy (targetOf s) (byte s 0) (byte s 1))
@@ -125,6 +138,31 @@ asking s = go (eqb (length s) 8) (reads-eq (length s) 8)
     go true r = asking-by s (r .says refl)
     go false r = none (λ w. r .denies refl (w .0))
 
+-- what a setup asks is said by its bytes
+module _ (s : List ℕ) (g : Target) where
+  pub set-bytes : askedOf s ≡ asks.Set g → AsksSet s × (g ≡ targetOf s)
+  set-bytes e = go (askedOf s) (asking s) e
+    where
+      go : (k : Asked) → Asking s k → k ≡ asks.Set g → AsksSet s × (g ≡ targetOf s)
+      go _ (none w) e = absurd (let z : _≡_ {A = ℕ} 0 1 = cc in omega arith)
+      go _ (sets l a) e = (a, let q : g ≡ targetOf s = cc in q)
+      go _ (gets part l a c) e = absurd (let z : _≡_ {A = ℕ} 0 1 = cc in omega arith)
+
+  pub get-bytes : (part : Part) → askedOf s ≡ asks.Get part g → AsksGet s × ((byte s 1 ≡ codeOf part) × (g ≡ targetOf s))
+  get-bytes part e = go (askedOf s) (asking s) e
+    where
+      go : (k : Asked) → Asking s k → k ≡ asks.Get part g → AsksGet s × ((byte s 1 ≡ codeOf part) × (g ≡ targetOf s))
+      go _ (none w) e = absurd (let z : _≡_ {A = ℕ} 0 1 = cc in omega arith)
+      go _ (sets l a) e = absurd (let z : _≡_ {A = ℕ} 0 1 = cc in omega arith)
+      go _ (gets p l a c) e = let i : p ≡ part = cc in (a, (c ∙ ap codeOf i, let q : g ≡ targetOf s = cc in q))
+
+-- MIN, MAX and RES are the requests from 82 on
+range-code : (part : Part) → leb 0x82 (codeOf part) ≡ ofRange part
+range-code Cur = refl
+range-code Min = refl
+range-code Max = refl
+range-code Res = refl
+
 -- what stands in a table that 30 does not turn away
 module _ (t : Table) (sound : Sound t) where
   owned-reads : (u : ℕ) → Reads (unitIn t u) (Owned t u)
@@ -136,39 +174,23 @@ module _ (t : Table) (sound : Sound t) where
       (λ o. let i = o .inside in (o .place, omega arith, o .unit))
 
   module _ (u ch s : ℕ) where
-    answers-reads : (c : Control) → Reads (answersTo u ch s c) ((c .unit ≡ u) × ((c .channel ≡ ch) × (c .selector ≡ s)))
-    unfolding answersTo
-    answers-reads c = reads-and _ _ (reads-eq (c .unit) u) (reads-and _ _ (reads-eq (c .channel) ch) (reads-eq (c .selector) s))
+    abbrev key : Key
+    key = record { unit = u; channel = ch; selector = s }
 
     found-named : (p : ℕ) → foundIn t u ch s ≡ found.At p → Named t u ch s (at t p)
-    unfolding foundIn
     found-named p e =
-        let a = found-first (λ q. answersTo u ch s (at t q)) (places t) p e in
-        let i = a .inside in
-        let k = answers-reads (at t p) .says (a .passes) in
-        record { place = p; inside = omega arith; is = refl; unit = k .0; channel = k .1 .0; selector = k .1 .1 }
+        let a = found-stands t key p e in
+        record { place = p; inside = a .inside; is = refl; unit = a .unit; channel = a .channel; selector = a .selector }
+
+    named-stands : (c : Control) (m : Named t u ch s c) → Stands t key (m .place)
+    named-stands c m = record { inside = m .inside; unit = rw (m .is) (m .unit); channel = rw (m .is) (m .channel); selector = rw (m .is) (m .selector) }
 
     found-none : foundIn t u ch s ≡ found.Nothing → (c : Control) → Named t u ch s c → ⊥
-    unfolding foundIn
-    found-none e c m =
-        let few = sound .few in
-        let i = m .inside in
-        let n : answersTo u ch s (at t (m .place)) ≡ false = none-found (λ q. answersTo u ch s (at t q)) (places t) e (m .place) (omega arith) in
-        answers-reads c .denies (rw (m .is) at n) (m .unit, (m .channel, m .selector))
+    found-none e c m = none-stands t sound key e (m .place) (named-stands c m)
 
     -- a control stands at one place
     pub named-one : (a b : Control) → Named t u ch s a → Named t u ch s b → a ≡ b
-    named-one a b m n = go (decided (eqb (m .place) (n .place)) (reads-eq _ _)) (decided (ltb (m .place) (n .place)) (reads-lt _ _))
-      where
-        apart : (c d : Control) (k : Named t u ch s c) (l : Named t u ch s d) → k .place < l .place → ⊥
-        apart c d k l h =
-            sound .once (k .place) (l .place) h (l .inside)
-            (rw (k .is, l .is) (record { unit = k .unit ∙ sym (l .unit); channel = k .channel ∙ sym (l .channel); selector = k .selector ∙ sym (l .selector) }))
-
-        go : (m .place ≡ n .place) ⊎ (m .place ≡ n .place → ⊥) → (m .place < n .place) ⊎ (m .place < n .place → ⊥) → a ≡ b
-        go (inl e) h = sym (m .is) ∙ ap (at t) e ∙ n .is
-        go (inr e) (inl h) = absurd (apart a b m n h)
-        go (inr e) (inr h) = absurd (apart b a n m (let l : n .place < m .place = omega arith in l))
+    named-one a b m n = sym (m .is) ∙ ap (at t) (stands-one t sound key (m .place) (n .place) (named-stands a m) (named-stands b n)) ∙ n .is
 
 -- rows 35 to 39, of the control at place p
 module _ (t : Table) (sound : Sound t) (s d : List ℕ) (room : ℕ) (p : ℕ) (m : Named t (byte s 5) (byte s 2) (byte s 3) (at t p)) where
@@ -181,7 +203,7 @@ module _ (t : Table) (sound : Sound t) (s d : List ℕ) (room : ℕ) (p : ℕ) (
   unready-reads : Reads (unready held (at t p)) (Unready t (byte s 5) (byte s 2) (byte s 3))
   unfolding unready
   unready-reads =
-      reads-same (reads-and _ _ (reads-true (isRanged held)) (reads-false (at t p .loaded)))
+      reads-same (reads-and _ _ (ranged-reads held) (reads-false (at t p .loaded)))
       (λ h. record { control = at t p; named = m; of-range = h .0; unloaded = h .1 })
       (λ h. (h .of-range, ap (λ (c : Control). c .loaded) (sym (the-one (h .control) (h .named))) ∙ h .unloaded))
 
@@ -238,7 +260,7 @@ module _ (t : Table) (sound : Sound t) (s d : List ℕ) (room : ℕ) (p : ℕ) (
     unfolding getBy lacking
     get-rows =
         by-row 35 _ _
-        (reads-same (reads-and _ _ r (reads-not _ (reads-true (isRanged held)))) (λ h. (a, h)) (λ h. h .1))
+        (reads-same (reads-and _ _ r (reads-not _ (ranged-reads held))) (λ h. (a, h)) (λ h. h .1))
         (λ _.
         by-row 36 (unready held (at t p)) _ unready-reads (λ _.
         by-row 37 _ _
@@ -282,7 +304,7 @@ module _ (t : Table) (sound : Sound t) (n : ℕ) (s d : List ℕ) (room : ℕ) w
   asked-rows _ (gets part l a r) =
       passed (λ k. k (l, inr a))
       (address-rows t sound n s (λ x. getFrom t x part (word s 6) room) (get-from-refused t part (word s 6) room) _
-      (λ p m. rw (m .selector) (get-rows t sound s d room p m a part r)))
+      (λ p m. rw (m .selector) (get-rows t sound s d room p m a part (rw (r, ← range-code part) (reads-le 0x82 (codeOf part))))))
 
 pub request-rows : (t : Table) (n : ℕ) (s d : List ℕ) (room : ℕ) → requestRows t n s d room (numberOf (requestOf t n s d room))
 unfolding requestOf requestRows
@@ -304,14 +326,14 @@ module _ (t : Table) (sound : Sound t) (u ch s : ℕ) (range : Range) (w : ℕ) 
       (λ h. let q : Ranged (h .sort) ≡ Ranged r = sym (h .ranged) ∙ e in let k : h .sort ≡ r = cc in (rw (← k) (h .legal), rw (← k) (h .fits)))
 
   unranged : (k : Sense) → senseOf s ≡ k → isRanged k ≡ false → RangedThere t u ch s → ⊥
-  unranged k e f h = true≠false (sym (h .ranged) ∙ ap isRanged e ∙ f)
+  unranged k e f h = true≠false (sym (ap isRanged (h .ranged .1)) ∙ ap isRanged e ∙ f)
 
   by-sense : (p : ℕ) → Named t u ch s (at t p) → (k : Sense) → senseOf s ≡ k → rangeRows (numberOf (loadBy t p k range w))
   unfolding loadBy loadRange
   by-sense p m Unknown e = given (unranged Unknown e refl) refl
   by-sense p m YesNo e = given (unranged YesNo e refl) refl
   by-sense p m (Ranged r) e =
-      passed (λ n. n (record { control = at t p; named = m; ranged = ap isRanged e })) (by-kept 21 (legalOf r range && fitsOf r w) _ (in-range r e) (λ _. refl))
+      passed (λ n. n (record { control = at t p; named = m; ranged = (r, e) })) (by-kept 21 (legalOf r range && fitsOf r w) _ (in-range r e) (λ _. refl))
   by-sense p m Pin e = given (unranged Pin e refl) refl
 
   by-place : (f : Found) → foundIn t u ch s ≡ f → rangeRows (numberOf (loadAt t (senseOf s) f range w))
@@ -326,3 +348,7 @@ load-rows t u ch s range w = by-kept 30 (soundOf t) _ (sound-reads t) (λ e. by-
 pub load-row-one : (t : Table) (u ch s : ℕ) (range : Range) (w a b : ℕ) → loadRows t u ch s range w a → loadRows t u ch s range w b → a ≡ b
 unfolding loadRows
 load-row-one t u ch s range w = row-one (row-one (row-one no-row-one))
+
+pub step-rows : (t : Table) (st : Step) → stepRows t st (numberOf (stepOf t st))
+step-rows t (load k range w) = load-rows t (k .unit) (k .channel) (k .selector) range w
+step-rows t (request n s d room) = request-rows t n s d room

@@ -3,10 +3,11 @@
 --   Row n When rest m        ==  m is the number answered by the row n, which is given when When, and behind it the rows rest
 --   NoRow m                  ==  behind the last row m is 0
 --   AsksSet s, AsksGet s     ==  type and request of the setup s are 21/01; A1/81 to A1/84
+--   codeOf part              ==  the request of a Get of that part: 81 CUR, 82 MIN, 83 MAX, 84 RES
 --   WellAsked s              ==  8 bytes, and "21/01, A1/81, A1/82, A1/83 or A1/84"
 --   Owned t u                ==  u is a "unit with controls" of the table t
 --   Named t u ch s c         ==  c is the control of the table t that has unit u, channel ch and selector s
---   HasRange s               ==  a control with selector s is ranged
+--   HasRange s               ==  a control with selector s is ranged, of some sort
 --   RangedThere t u ch s     ==  there is such a control in the table, and it is ranged
 --   Unready t u ch s         ==  there is, and it is ranged and not loaded
 --   Outside k c x            ==  x is "other than 0, 1" for a yes/no, or "outside its pins" for the Selector's control c
@@ -16,10 +17,11 @@
 --   requestRows t n s d room ==  rows 30 to 39, for the AudioControl number n, the setup s, the data d and a reply of room bytes: 30, then
 --                                askedRows (31, 32), unitRows (33, 34), controlRows (35 to 37), lastRows (38, 39)
 --   loadRows t u ch s r w    ==  rows 30, 20 and 21
+--   stepRows t st            ==  those of the two that the step st is tried against
 use Prim.Native.Nat.{ℕ, _≤_, _<_}
 use mathlib.Core.Path.{_≡_}
 use mathlib.Core.List.{List}
-use mathlib.Core.Bool.{true, false}
+use mathlib.Core.Bool.{false}
 use mathlib.Core.Logic.{_⊎_}
 use lib.ListN.{length}
 use Rattle.ground.specs.Numbers.{byte, word}
@@ -33,7 +35,11 @@ use Rattle.table.specs.declared.Sense.{Sense}
 use Rattle.table.specs.declared.Sense.the-variants.{Unknown, YesNo, Ranged, Pin}
 use Rattle.table.specs.Controls.{at, senseOf, sizeOf}
 use Rattle.table.specs.Meaning.{Sound}
-use Rattle.request.specs.Request.{isRanged, valueIn}
+use Rattle.request.specs.declared.Part.{Part}
+use Rattle.request.specs.declared.Part.the-variants.{Cur, Min, Max, Res}
+use Rattle.request.specs.Request.{valueIn}
+use Rattle.runs.specs.Runs.{Step}
+use Rattle.runs.specs.Runs.Step.{load, request}
 
 pub data Row (n : ℕ) (When : Type 0) (rest : ℕ → Type 0) (m : ℕ) : Type 0 where
   given : When → m ≡ n → Row n When rest m
@@ -47,6 +53,13 @@ AsksSet s = (byte s 0 ≡ 0x21) × (byte s 1 ≡ 1)
 
 abbrev pub AsksGet : List ℕ → Type 0
 AsksGet s = (byte s 0 ≡ 0xA1) × ((0x81 ≤ byte s 1) × (byte s 1 ≤ 0x84))
+
+-- the Audio 1.0 class definition's GET_CUR, GET_MIN, GET_MAX and GET_RES
+abbrev pub codeOf : Part → ℕ
+codeOf Cur = 0x81
+codeOf Min = 0x82
+codeOf Max = 0x83
+codeOf Res = 0x84
 
 abbrev pub WellAsked : List ℕ → Type 0
 WellAsked s = (length s ≡ 8) × (AsksSet s ⊎ AsksGet s)
@@ -65,7 +78,7 @@ pub record Named (t : Table) (u ch s : ℕ) (c : Control) : Type 0 where
   pub selector : c .selector ≡ s
 
 abbrev pub HasRange : ℕ → Type 0
-HasRange s = isRanged (senseOf s) ≡ true
+HasRange s = (k : Sort) × (senseOf s ≡ Ranged k)
 
 pub record RangedThere (t : Table) (u ch s : ℕ) : Type 0 where
   pub control : Control
@@ -133,3 +146,7 @@ loadRows t u ch s range w =
     (Row 20 (RangedThere t u ch s → ⊥)
     (Row 21 (InRange s range w → ⊥)
     NoRow))
+
+abbrev pub stepRows : Table → Step → ℕ → Type 0
+stepRows t (load k range w) = loadRows t (k .unit) (k .channel) (k .selector) range w
+stepRows t (request n s d room) = requestRows t n s d room

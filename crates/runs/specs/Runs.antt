@@ -1,7 +1,9 @@
 -- Runs: loads and requests, one after another, each on the table that the one before it left.
 --   Key               ==  which control: "named by unit ID, channel and selector"
 --   whereIs t k       ==  where the control stands in the table
+--   Stands t k p      ==  the place p of the table is one of those that count, and it holds that control
 --   keyOf g           ==  the control that a request's target names
+--   namedBy s         ==  the control that a setup names: the unit is "wIndex high byte", and "wValue is selector (high) and channel (low)"
 --   Step              ==  a load of a range and a CUR, or a request: the AudioControl number, the setup, the data of a Set
 --                         and the length of the lent reply
 --   stepOf t st       ==  what the step comes to on the table t
@@ -31,6 +33,7 @@ use mathlib.Core.Bool.{Bool, true, false, _&&_}
 use lib.Dec.{eqb}
 use lib.ListN.{getD}
 use Rattle.ground.specs.Pick.{pick}
+use Rattle.ground.specs.Numbers.{byte}
 use Rattle.setting.specs.Setting.{spanOf}
 use Rattle.setting.specs.Meaning.{value, Legal, Stored}
 use Rattle.setting.specs.declared.Range.{Range}
@@ -40,7 +43,7 @@ use Rattle.table.specs.declared.Sense.{Sense}
 use Rattle.table.specs.declared.Sense.the-variants as sense
 use Rattle.table.specs.declared.Table.{Table}
 use Rattle.table.specs.declared.Found.{Found}
-use Rattle.table.specs.Controls.{rangeOf}
+use Rattle.table.specs.Controls.{at, rangeOf}
 use Rattle.table.specs.First.{foundIn}
 use Rattle.request.specs.declared.Target.{Target}
 use Rattle.request.specs.declared.Asked.{Asked}
@@ -48,7 +51,7 @@ use Rattle.request.specs.declared.Asked.the-variants.{Unknown, Set, Get}
 use Rattle.request.specs.Outcome.{Outcome, tableAfter}
 use Rattle.request.specs.Outcome.Outcome.{refused, got, done}
 use Rattle.request.specs.Load.{loadOf}
-use Rattle.request.specs.Request.{targetOf, askedOf, valueIn, requestOf}
+use Rattle.request.specs.Request.{askedOf, valueIn, requestOf}
 
 pub record Key : Type 0 where
   pub unit : ℕ
@@ -57,6 +60,15 @@ pub record Key : Type 0 where
 
 abbrev pub whereIs : Table → Key → Found
 whereIs t k = foundIn t (k .unit) (k .channel) (k .selector)
+
+pub record Stands (t : Table) (k : Key) (p : ℕ) : Type 0 where
+  pub inside : p < t .count
+  pub unit : at t p .unit ≡ k .unit
+  pub channel : at t p .channel ≡ k .channel
+  pub selector : at t p .selector ≡ k .selector
+
+abbrev pub namedBy : List ℕ → Key
+namedBy s = record { unit = byte s 5; channel = byte s 2; selector = byte s 3 }
 
 abbrev pub keyOf : Target → Key
 keyOf g = record { unit = g .unit; channel = g .channel; selector = g .selector }
@@ -79,7 +91,7 @@ tableNext t st = tableAfter t (stepOf t st)
 
 abbrev pub stepKey : Step → Key
 stepKey (load k range w) = k
-stepKey (request n s d room) = keyOf (targetOf s)
+stepKey (request n s d room) = namedBy s
 
 unfoldable pub after : Table → List Step → Table
 after t [] = t
