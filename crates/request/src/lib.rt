@@ -141,7 +141,7 @@ fn word(low: u8, high: u8) -> u16
 }
 
 // What type and request ask of the target: 21/01 is a Set, A1/81 to A1/84 are Gets.
-fn asked_of(target: Target, kind: u8, code: u8) -> Asked
+fn asked_by(target: Target, kind: u8, code: u8) -> Asked
     ensures { λ r. ⌜ r ≡ askedBy target kind code ⌝ }
 {
     if kind == 0x21 {
@@ -175,7 +175,7 @@ fn read_setup(setup: &[u8]) -> Asked
         selector: setup[3],
         length: word(setup[6], setup[7]),
     };
-    asked_of(target, setup[0], setup[1])
+    asked_by(target, setup[0], setup[1])
 }
 
 // The place of the addressed control, or 32, 33 or 34.

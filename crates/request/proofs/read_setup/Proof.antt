@@ -29,8 +29,8 @@ ruleset laws = (wrong-length, read, needs)
 returns : tie.Need-returns
 returns c = search laws
 
-shared-slice-read-asked-of : tie.Need-shared-slice-read-asked-of
-shared-slice-read-asked-of c = search needs
+shared-slice-read-asked-by : tie.Need-shared-slice-read-asked-by
+shared-slice-read-asked-by c = search needs
 
 shared-slice-read-t8 : tie.Need-shared-slice-read-t8
 shared-slice-read-t8 c = search needs
@@ -50,14 +50,14 @@ shared-slice-read-word-2 c = search needs
 word-requires : tie.Need-word-requires
 word-requires c κs = search needs
 
-shared-slice-read-asked-of-2 : tie.Need-shared-slice-read-asked-of-2
-shared-slice-read-asked-of-2 c = search needs
+shared-slice-read-asked-by-2 : tie.Need-shared-slice-read-asked-by-2
+shared-slice-read-asked-by-2 c = search needs
 
-shared-slice-read-asked-of-3 : tie.Need-shared-slice-read-asked-of-3
-shared-slice-read-asked-of-3 c = search needs
+shared-slice-read-asked-by-3 : tie.Need-shared-slice-read-asked-by-3
+shared-slice-read-asked-by-3 c = search needs
 
-asked-of-requires : tie.Need-asked-of-requires
-asked-of-requires c κs = search needs
+asked-by-requires : tie.Need-asked-by-requires
+asked-by-requires c κs = search needs
 
 returns-2 : tie.Need-returns-2
 returns-2 c = search laws
@@ -67,14 +67,14 @@ read-setup-spec =
     tie.close
     (tie.spec
     returns
-    shared-slice-read-asked-of
+    shared-slice-read-asked-by
     shared-slice-read-t8
     shared-slice-read-t10
     shared-slice-read-t12
     shared-slice-read-word
     shared-slice-read-word-2
     word-requires
-    shared-slice-read-asked-of-2
-    shared-slice-read-asked-of-3
-    asked-of-requires
+    shared-slice-read-asked-by-2
+    shared-slice-read-asked-by-3
+    asked-by-requires
     returns-2)

@@ -8,8 +8,8 @@ use Rattle.request.specs.declared.Target.{Target}
 use Rattle.request.specs.declared.Part.the-variants.{Cur, Min, Max, Res}
 use Rattle.request.specs.declared.Asked.the-variants.{Unknown, Set, Get}
 use Rattle.request.specs.Request.{getAsked, askedBy}
-use Rattle.request.proofs.asked_of.Statement.{statement}
-use Rattle.request.proofs.asked_of.Tie as tie
+use Rattle.request.proofs.asked_by.Statement.{statement}
+use Rattle.request.proofs.asked_by.Tie as tie
 
 -- one law for each way out
 module _ (g : Target) (a b : ℕ) where
@@ -77,7 +77,7 @@ returns-7 c = search laws
 returns-8 : tie.Need-returns-8
 returns-8 c = search laws
 
-pub asked-of-spec : {M : Type 1} → statement M
-asked-of-spec =
+pub asked-by-spec : {M : Type 1} → statement M
+asked-by-spec =
     tie.close
     (tie.spec returns returns-2 returns-3 returns-4 returns-5 returns-6 returns-7 returns-8)
