@@ -39,7 +39,7 @@ use Rattle.records.specs.Records.{roomFor}
 use Rattle.topology.specs.Reading.{restJudged, runJudged, surveyJudged, verdictOf}
 use Rattle.demands.specs.Surveyed.{entitiesOf, survey-kept}
 use Rattle.demands.specs.Configuration.{clustersBy, Streams, FewControls, Configuration, Rule16}
-use Rattle.demands.specs.Arrays.{reads-room, terminals-same, controls-same, one-terminal, distinct-ids}
+use Rattle.demands.specs.Arrays.{reads-room, terminals-same, terminals-all, controls-same, one-terminal, distinct-ids}
 
 pub data Refused (s : List ℕ) (room : ℕ) : ℕ → ℕ → Type 0 where
   by-cutting : {n p : ℕ} → cut.Refused s n p → Refused s room n p
@@ -47,7 +47,7 @@ pub data Refused (s : List ℕ) (room : ℕ) : ℕ → ℕ → Type 0 where
   by11 : {p : ℕ} (k : Kept s) → Rule10 (entitiesOf k) → FirstWrong (entitiesOf k) (WrongSources (entitiesOf k)) p → Refused s room 11 p
   by12 : {p : ℕ} (k : Kept s) → Rule10 (entitiesOf k) → Rule11 (entitiesOf k) → FirstWrong (entitiesOf k) (Endless (entitiesOf k)) p → Refused s room 12 p
   by13 : {p : ℕ} (k : Kept s) → Rule10 (entitiesOf k) → Rule11 (entitiesOf k) → Rule12 (entitiesOf k) → FirstWrong (entitiesOf k) (Broken audio (entitiesOf k)) p → Refused s room 13 p
-  by14 : {p : ℕ} (k : Kept s) (c : Connected audio (entitiesOf k)) → Breaks14 (terminalsOf (entitiesOf k) (clustersBy (entitiesOf k) c)) (k .opened .descriptors) p → Refused s room 14 p
+  by14 : {p : ℕ} (k : Kept s) (c : Connected audio (entitiesOf k)) → Breaks14 (k .rule6 .run) (c .cluster) (k .opened .descriptors) p → Refused s room 14 p
   by15 : {p : ℕ} (k : Kept s) (c : Connected audio (entitiesOf k)) → Streams k c → (FewControls k c → ⊥) → p ≡ headerPlace (k .opened) → Refused s room 15 p
   by16 : {p : ℕ} (k : Kept s) (c : Connected audio (entitiesOf k)) → Streams k c → FewControls k c → (Rule16 (k .rule6 .run) room → ⊥) → p ≡ headerPlace (k .opened) → Refused s room 16 p
 
@@ -100,10 +100,10 @@ module _ (s : List ℕ) (room : ℕ) where
     found16 = keptAt (roomFor (entitiesOf k) room) (headerPlace (k .opened))
 
     keeps14 : (found14 ≡ Nowhere) ↔ Streams k c
-    keeps14 = rw (terminals-same s k c) (rule14-kept (terminalsOf (entitiesOf k) (clustersBy (entitiesOf k) c)) (one-terminal s k c (clustersBy (entitiesOf k) c)) s (k .opened .descriptors) (k .opened .rule3))
+    keeps14 = rw (terminals-same s k c) (rule14-kept (k .rule6 .run) (c .cluster) (terminalsOf (entitiesOf k) (clustersBy (entitiesOf k) c)) (terminals-all s k c) (one-terminal s k c (clustersBy (entitiesOf k) c)) s (k .opened .descriptors) (k .opened .rule3))
 
-    breaks14 : (p : ℕ) → (found14 ≡ At p) ↔ Breaks14 (terminalsOf (entitiesOf k) (clustersBy (entitiesOf k) c)) (k .opened .descriptors) p
-    breaks14 p = rw (terminals-same s k c) (rule14-broken (terminalsOf (entitiesOf k) (clustersBy (entitiesOf k) c)) (one-terminal s k c (clustersBy (entitiesOf k) c)) s (k .opened .descriptors) (k .opened .rule3) p)
+    breaks14 : (p : ℕ) → (found14 ≡ At p) ↔ Breaks14 (k .rule6 .run) (c .cluster) (k .opened .descriptors) p
+    breaks14 p = rw (terminals-same s k c) (rule14-broken (k .rule6 .run) (c .cluster) (terminalsOf (entitiesOf k) (clustersBy (entitiesOf k) c)) (terminals-all s k c) (one-terminal s k c (clustersBy (entitiesOf k) c)) s (k .opened .descriptors) (k .opened .rule3) p)
 
     keeps15 : (found15 ≡ Nowhere) ↔ FewControls k c
     keeps15 = rw (controls-same s k c) (rule15-kept (k .rule6 .run) (clustersBy (entitiesOf k) c) (k .rule9) (distinct-ids s k c) (headerPlace (k .opened)))
