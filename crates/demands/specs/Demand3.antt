@@ -8,6 +8,8 @@
 --   answer-shows    ==  the whole answer: the AudioControl number, the count of entities, the controls
 --   sheet-shows     ==  the sheet: the entities' records with those clusters, then the lent bytes as they stood
 --   record-shows    ==  .. of which the 16 bytes at 16·i are the record of the i-th entity with its cluster
+--   record-bytes    ==  .. byte by byte: the ID and the kind that the descriptor has, the cluster's numbers, the pins, the source IDs at the
+--                       offsets that its layout has
 --   entity-shows, id-shows, sources-show, cluster-shows  ==  .. which is what the i-th descriptor of the run says: its kind and
 --                       place, the ID at its byte 3, its sources, and the cluster on that ID
 --   controls-stand, controls-order  ==  a control is in the table exactly where an entity carries it; and the table's order
@@ -50,6 +52,7 @@ use Rattle.controls.specs.Standing.{Stands}
 use Rattle.controls.specs.Order.{member-at, Before}
 use Rattle.controls.specs.Reader.{InTable, table-stands, table-ordered}
 use Rattle.records.specs.Records.{recordSize, headOf, recordOf, recordsTo, shownIn}
+use Rattle.records.specs.Bytes.{RecordBytes, bytes-told}
 use Rattle.topology.specs.declared.Reading.{Reading}
 use Rattle.topology.specs.Reading.{clustersAt, verdictOf, refusedReading, takenReading, readingOf, sheetOf}
 use Rattle.demands.specs.Surveyed.{placeOfRun, entitiesOf, keptSurvey, survey-kept}
@@ -223,3 +226,9 @@ module _ (s : List ℕ) (t : Configuration s) where
       ∙ record-in (length run) (omega arith) i l (drop (length run * recordSize) d)
       ∙ ap (λ (n : Node). recordOf n (getD clusters i noCluster)) (entity-shows i l)
       ∙ ap (recordOf (nodeOf (placeOfRun (t .kept) + total (take i run)) (getD run i []))) (cluster-shows i l ∙ ap (t .connected .cluster) (id-shows i l))
+
+  pub record-bytes : (d : List ℕ) → Rule16 run (length d) → (i : ℕ) → i < length run
+      → RecordBytes (getD run i []) (t .connected .cluster (byte (getD run i []) 3)) (take recordSize (drop (i * recordSize) (sheetOf s d)))
+  record-bytes d h i l =
+      rw (record-shows d h i l)
+      (bytes-told (getD run i []) (placeOfRun (t .kept) + total (take i run)) (t .connected .cluster (byte (getD run i []) 3)) (t .kept .rule9 (getD run i []) (member-at [] run i l)))
