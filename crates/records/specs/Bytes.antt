@@ -4,9 +4,9 @@
 --                          bitmap (2); name index; pins; 00; then eight source IDs, unused ones 00"
 --   bytes-told         ==  what the reader shows of a descriptor that has its layout is such
 use Prim.Native.Nat.{ℕ, _+_, _/_, _%_, _≤_, _<_}
-use mathlib.Core.Path.{_≡_, refl, sym, ap, _∙_}
-use mathlib.Core.List.{List, [], _∷_, _++_}
-use lib.ListN.{length, getD, take, drop, length-take, length-drop, List·getD-eq-default}
+use mathlib.Core.Path.{_≡_, refl, _∙_}
+use mathlib.Core.List.{List, [], _∷_}
+use lib.ListN.{length, take, drop, length-take, length-drop, List·getD-eq-default}
 use lib.Seq.{getD-append-add, getD-take, getD-drop}
 use native.Mathlib.Omega.{arith}
 use Rattle.ground.specs.Numbers.{byte}
@@ -18,7 +18,7 @@ use Rattle.layout.specs.LayoutLaws.{Told, told, id-told}
 use Rattle.layout.specs.LayoutLaws as laid
 use Rattle.layout.specs.Sources.{sourceList, sourcesIn, sourcesOf}
 use Rattle.entities.specs.Run.{nodeOf}
-use Rattle.records.specs.Records.{recordSize, headOf, recordOf}
+use Rattle.records.specs.Records.{headOf, recordOf}
 
 pub data Form (d : List ℕ) : ℕ → ℕ → ℕ → Type 0 where
   input : byte d 2 ≡ 2 → Form d (byte d 2) 0 0
