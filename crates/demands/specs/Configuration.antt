@@ -3,7 +3,8 @@
 --   Connected audio run ==  (clusters/specs/Edition) the rules 10 to 13: right IDs and sources, a rank on each entity, lower at a source
 --                           than at its user, and a cluster on each entity's output, given out by the rule, that keep every test
 --   clustersBy run c    ==  those clusters, in the entities' order
---   Streams k c, FewControls k c  ==  the rules 14 and 15, with the clusters of c
+--   Streams k c, FewControls k c  ==  the rules 14 and 15, with the clusters of c; rule 14's Terminals are those that the descriptors
+--                           of the run say
 --   Configuration s     ==  the bytes s are a configuration: a cutting that keeps the rules 1 to 9, and entities that are connected,
 --                           with the rules 14 and 15
 --   Rule16 ds room      ==  the sheet of that many bytes has 16 for each entity
@@ -16,7 +17,6 @@ use Rattle.cutting.specs.Rules.{Kept}
 use Rattle.sources.specs.Lookup.{idsOf}
 use Rattle.clusters.specs.Edition.{Connected}
 use Rattle.clusters.specs.Audio.{audio}
-use Rattle.streaming.specs.Terminals.{terminalsOf}
 use Rattle.streaming.specs.Rule.{Rule14}
 use Rattle.controls.specs.Rule.{Rule15}
 use Rattle.records.specs.Records.{recordSize}
@@ -26,7 +26,7 @@ abbrev pub clustersBy : (run : Run) → Connected audio run → List Cluster
 clustersBy run c = map (c .cluster) (idsOf run)
 
 abbrev pub Streams : {s : List ℕ} (k : Kept s) → Connected audio (entitiesOf k) → Type 0
-Streams k c = Rule14 (terminalsOf (entitiesOf k) (clustersBy (entitiesOf k) c)) (k .opened .descriptors)
+Streams k c = Rule14 (k .rule6 .run) (c .cluster) (k .opened .descriptors)
 
 abbrev pub FewControls : {s : List ℕ} (k : Kept s) → Connected audio (entitiesOf k) → Type 0
 FewControls k c = Rule15 (k .rule6 .run) (clustersBy (entitiesOf k) c)

@@ -3,17 +3,22 @@
 -- document 01, written without the reader's search. For accepted bytes only one cutting and one set of clusters keep them, and the
 -- sheet shows those." What there must be is Configuration, in the file of that name.
 --   accepted        ==  the reader's number is 0 exactly where the bytes are a configuration
---   one-cutting, one-run, one-clusters  ==  what keeps the rules is one: the cutting, the entities, the cluster on each ID
+--   one-cutting, one-descriptors, one-run, one-clusters  ==  what keeps the rules is one: the cutting, the run's descriptors byte by byte,
+--                       the entities, the cluster on each ID
 --   answer-shows    ==  the whole answer: the AudioControl number, the count of entities, the controls
 --   sheet-shows     ==  the sheet: the entities' records with those clusters, then the lent bytes as they stood
 --   record-shows    ==  .. of which the 16 bytes at 16·i are the record of the i-th entity with its cluster
+--   record-bytes    ==  .. byte by byte: the ID and the kind that the descriptor has, the cluster's numbers, the pins, the source IDs at the
+--                       offsets that its layout has
 --   entity-shows, id-shows, sources-show, cluster-shows  ==  .. which is what the i-th descriptor of the run says: its kind and
 --                       place, the ID at its byte 3, its sources, and the cluster on that ID
 --   controls-stand, controls-order  ==  a control is in the table exactly where an entity carries it; and the table's order
+--   controls-counted  ==  the answer's count of controls is the table's, whatever the configuration and the sheet
 --   wholeSheet      ==  512 bytes; room-enough: they hold the records of every configuration
 --   number-told     ==  the number in the answer is that of the refusal
 use Prim.Native.Nat.{ℕ, zero, suc, _+_, _*_, _≤_, _<_}
 use mathlib.Core.Path.{_≡_, refl, sym, ap, _∙_, subst}
+use mathlib.Core.Bool.{Bool, true, false}
 use mathlib.Core.List.{List, [], _++_, append-assoc}
 use mathlib.Core.Logic.{_⊎_, inl, inr, ⊎-elim, _↔_}
 use lib.ListN.{length, getD, take, drop, length-append}
@@ -21,7 +26,7 @@ use lib.Seq.{getD-take, take-at, drop-at}
 use lib.Dec.{eqb, ltb}
 use native.Mathlib.Omega.{arith}
 use borrow.Author.Tests.{eq-eqb, ne-eqb}
-use Rattle.ground.specs.Pick.{yes, no, decided, reads-eq, reads-lt, shows}
+use Rattle.ground.specs.Pick.{pick, yes, no, decided, reads-eq, reads-lt, shows}
 use Rattle.ground.specs.Numbers.{byte}
 use Rattle.ground.specs.Lists.{total, pad-length}
 use Rattle.layout.specs.declared.Cluster.{Cluster}
@@ -33,7 +38,7 @@ use Rattle.entities.specs.declared.Run.{Run}
 use Rattle.entities.specs.Run.{nodeOf, runIn, held, nodeAt, idAt}
 use Rattle.cutting.specs.declared.Survey.{Survey}
 use Rattle.cutting.specs.Survey.{surveyOf}
-use Rattle.cutting.specs.Exact.{kept-cutting}
+use Rattle.cutting.specs.Exact.{kept-cutting, kept-run}
 use Rattle.sources.specs.Pins.{sourcesAt}
 use Rattle.sources.specs.RunLaws.{node-in, id-read, sources-read}
 use Rattle.clusters.specs.Edition.{Connected, clustersOf}
@@ -47,6 +52,7 @@ use Rattle.controls.specs.Standing.{Stands}
 use Rattle.controls.specs.Order.{member-at, Before}
 use Rattle.controls.specs.Reader.{InTable, table-stands, table-ordered}
 use Rattle.records.specs.Records.{recordSize, headOf, recordOf, recordsTo, shownIn}
+use Rattle.records.specs.Bytes.{RecordBytes, bytes-told}
 use Rattle.topology.specs.declared.Reading.{Reading}
 use Rattle.topology.specs.Reading.{clustersAt, verdictOf, refusedReading, takenReading, readingOf, sheetOf}
 use Rattle.demands.specs.Surveyed.{placeOfRun, entitiesOf, keptSurvey, survey-kept}
@@ -66,6 +72,14 @@ number-told s room = go (decided (eqb (verdictOf s room .number) 0) (reads-eq (v
     go (inl e) = ap (λ (r : Reading). r .number) (yes (takenReading s (surveyOf s)) (refusedReading (verdictOf s room)) (eq-eqb _ _ e)) ∙ sym e
     go (inr n) = ap (λ (r : Reading). r .number) (no (takenReading s (surveyOf s)) (refusedReading (verdictOf s room)) (ne-eqb _ _ n))
 
+pub controls-counted : (s : List ℕ) (room : ℕ) → readingOf s room .controls ≡ readingOf s room .table .count
+unfolding readingOf takenReading refusedReading
+controls-counted s room = go (eqb (verdictOf s room .number) 0)
+  where
+    go : (b : Bool) → pick b (takenReading s (surveyOf s)) (refusedReading (verdictOf s room)) .controls ≡ pick b (takenReading s (surveyOf s)) (refusedReading (verdictOf s room)) .table .count
+    go true = refl
+    go false = refl
+
 pub room-enough : (s : List ℕ) (room : ℕ) → wholeSheet ≤ room → (t : Configuration s) → Rule16 (t .kept .rule6 .run) room
 room-enough s room h t = let l = t .kept .rule8 .1 in omega arith
 
@@ -80,6 +94,9 @@ module _ (s : List ℕ) where
   -- what keeps the rules is one
   pub one-cutting : (t u : Configuration s) → t .kept .opened .descriptors ≡ u .kept .opened .descriptors
   one-cutting t u = kept-cutting s (t .kept) ∙ sym (kept-cutting s (u .kept))
+
+  pub one-descriptors : (t u : Configuration s) → t .kept .rule6 .run ≡ u .kept .rule6 .run
+  one-descriptors t u = kept-run s (t .kept) ∙ sym (kept-run s (u .kept))
 
   pub one-run : (t u : Configuration s) → entitiesOf (t .kept) ≡ entitiesOf (u .kept)
   one-run t u = ap (λ (v : Survey). v .run) (sym (survey-kept s (t .kept)) ∙ survey-kept s (u .kept))
@@ -209,3 +226,9 @@ module _ (s : List ℕ) (t : Configuration s) where
       ∙ record-in (length run) (omega arith) i l (drop (length run * recordSize) d)
       ∙ ap (λ (n : Node). recordOf n (getD clusters i noCluster)) (entity-shows i l)
       ∙ ap (recordOf (nodeOf (placeOfRun (t .kept) + total (take i run)) (getD run i []))) (cluster-shows i l ∙ ap (t .connected .cluster) (id-shows i l))
+
+  pub record-bytes : (d : List ℕ) → Rule16 run (length d) → (i : ℕ) → i < length run
+      → RecordBytes (getD run i []) (t .connected .cluster (byte (getD run i []) 3)) (take recordSize (drop (i * recordSize) (sheetOf s d)))
+  record-bytes d h i l =
+      rw (record-shows d h i l)
+      (bytes-told (getD run i []) (placeOfRun (t .kept) + total (take i run)) (t .connected .cluster (byte (getD run i []) 3)) (t .kept .rule9 (getD run i []) (member-at [] run i l)))

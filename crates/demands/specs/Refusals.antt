@@ -3,19 +3,21 @@
 -- sheet: the number and the place, exactly.
 --   Refused s room n p  ==  every rule before n is kept, n is not, and p is the place that document 01 gives
 --   Shown s room        ==  s is a configuration, and the sheet has room for its records
+--   first-by-place      ==  of the rules 10 to 13, whose first offender is the first in the run: no offender of the run has a lower place
 --   accepted-exactly    ==  nothing is refused exactly where s is a configuration and the sheet has room for its records
 --   refused-exactly     ==  number n is given at place p exactly where Refused s room n p
-use Prim.Native.Nat.{ℕ}
+use Prim.Native.Nat.{ℕ, _≤_, _<_}
 use mathlib.Core.Path.{_≡_, refl, sym, ap, _∙_}
 use mathlib.Core.List.{List}
-use mathlib.Core.Logic.{_⊎_, inl, inr, _↔_}
-use lib.Dec.{eqb}
+use mathlib.Core.Logic.{_⊎_, inl, inr, ⊎-elim, _↔_}
+use lib.Dec.{eqb, ltb}
 use native.Mathlib.Omega.{arith}
 use Rattle.ground.specs.declared.Place.{Place}
 use Rattle.ground.specs.declared.Place.the-variants.{Nowhere, At}
 use Rattle.ground.specs.declared.Refusal.{Refusal}
-use Rattle.ground.specs.Pick.{decided, reads-eq}
+use Rattle.ground.specs.Pick.{decided, reads-eq, reads-lt}
 use Rattle.ground.specs.Refuse.{none, refuse, refuse-at, refuse-on, keptAt, kept-nowhere, kept-at, chain-none}
+use Rattle.entities.specs.Run.{held, placeAt}
 use Rattle.cutting.specs.declared.Survey.{Survey}
 use Rattle.cutting.specs.Rules.{Kept, headerPlace}
 use Rattle.cutting.specs.Rules as cut
@@ -23,6 +25,7 @@ use Rattle.cutting.specs.Survey.{verdict, verdictThen}
 use Rattle.cutting.specs.Verdict.{verdict-chain}
 use Rattle.cutting.specs.Exact.{verdict-kept, verdict-refused}
 use Rattle.sources.specs.Rules.{WrongId, Rule10, WrongSources, Rule11}
+use Rattle.sources.specs.RunLaws.{places-rise}
 use Rattle.ranks.specs.Rules.{Endless, Rule12}
 use Rattle.clusters.specs.Edition.{Broken, Connected, clustersOf}
 use Rattle.clusters.specs.Audio.{audio}
@@ -37,9 +40,9 @@ use Rattle.controls.specs.Growth.{tableOf}
 use Rattle.controls.specs.Rule.{rule15-kept, rule15-broken}
 use Rattle.records.specs.Records.{roomFor}
 use Rattle.topology.specs.Reading.{restJudged, runJudged, surveyJudged, verdictOf}
-use Rattle.demands.specs.Surveyed.{entitiesOf, survey-kept}
+use Rattle.demands.specs.Surveyed.{placeOfRun, entitiesOf, survey-kept, run-cut}
 use Rattle.demands.specs.Configuration.{clustersBy, Streams, FewControls, Configuration, Rule16}
-use Rattle.demands.specs.Arrays.{reads-room, terminals-same, controls-same, one-terminal, distinct-ids}
+use Rattle.demands.specs.Arrays.{held-all, reads-room, terminals-same, terminals-all, controls-same, one-terminal, distinct-ids}
 
 pub data Refused (s : List ℕ) (room : ℕ) : ℕ → ℕ → Type 0 where
   by-cutting : {n p : ℕ} → cut.Refused s n p → Refused s room n p
@@ -47,9 +50,25 @@ pub data Refused (s : List ℕ) (room : ℕ) : ℕ → ℕ → Type 0 where
   by11 : {p : ℕ} (k : Kept s) → Rule10 (entitiesOf k) → FirstWrong (entitiesOf k) (WrongSources (entitiesOf k)) p → Refused s room 11 p
   by12 : {p : ℕ} (k : Kept s) → Rule10 (entitiesOf k) → Rule11 (entitiesOf k) → FirstWrong (entitiesOf k) (Endless (entitiesOf k)) p → Refused s room 12 p
   by13 : {p : ℕ} (k : Kept s) → Rule10 (entitiesOf k) → Rule11 (entitiesOf k) → Rule12 (entitiesOf k) → FirstWrong (entitiesOf k) (Broken audio (entitiesOf k)) p → Refused s room 13 p
-  by14 : {p : ℕ} (k : Kept s) (c : Connected audio (entitiesOf k)) → Breaks14 (terminalsOf (entitiesOf k) (clustersBy (entitiesOf k) c)) (k .opened .descriptors) p → Refused s room 14 p
+  by14 : {p : ℕ} (k : Kept s) (c : Connected audio (entitiesOf k)) → Breaks14 (k .rule6 .run) (c .cluster) (k .opened .descriptors) p → Refused s room 14 p
   by15 : {p : ℕ} (k : Kept s) (c : Connected audio (entitiesOf k)) → Streams k c → (FewControls k c → ⊥) → p ≡ headerPlace (k .opened) → Refused s room 15 p
   by16 : {p : ℕ} (k : Kept s) (c : Connected audio (entitiesOf k)) → Streams k c → FewControls k c → (Rule16 (k .rule6 .run) room → ⊥) → p ≡ headerPlace (k .opened) → Refused s room 16 p
+
+-- document 01 has the first offender's place: the first in the run has the lowest
+module _ (s : List ℕ) (k : Kept s) where
+  pub first-by-place : (Wrong : ℕ → Type 0) (p : ℕ) → FirstWrong (entitiesOf k) Wrong p → (i : ℕ) → i < held (entitiesOf k) → Wrong i → p ≤ placeAt (entitiesOf k) i
+  first-by-place Wrong p f i l w =
+      ⊎-elim
+      (λ (h : i < f .offender). absurd (f .none-before i h w))
+      (λ (h : i < f .offender → ⊥). ⊎-elim (λ (e : f .offender ≡ i). let a = f .at in rw (← e) (omega arith)) (λ (n : f .offender ≡ i → ⊥). later (omega arith)) (decided (eqb (f .offender) i) (reads-eq (f .offender) i)))
+      (decided (ltb i (f .offender)) (reads-lt i (f .offender)))
+    where
+      later : f .offender < i → p ≤ placeAt (entitiesOf k) i
+      later h =
+          let n = held-all s k in
+          let r = places-rise (placeOfRun k) (k .rule6 .run) (k .rule8 .1) (λ d m. let z = run-cut s k d m .two in omega arith) (f .offender) i h (omega arith) in
+          let a = f .at in
+          omega arith
 
 numbered-cut : {s : List ℕ} {n p : ℕ} → cut.Refused s n p → n ≡ 0 → ⊥
 numbered-cut (cut.by1 n) e = omega arith
@@ -100,10 +119,10 @@ module _ (s : List ℕ) (room : ℕ) where
     found16 = keptAt (roomFor (entitiesOf k) room) (headerPlace (k .opened))
 
     keeps14 : (found14 ≡ Nowhere) ↔ Streams k c
-    keeps14 = rw (terminals-same s k c) (rule14-kept (terminalsOf (entitiesOf k) (clustersBy (entitiesOf k) c)) (one-terminal s k c (clustersBy (entitiesOf k) c)) s (k .opened .descriptors) (k .opened .rule3))
+    keeps14 = rw (terminals-same s k c) (rule14-kept (k .rule6 .run) (c .cluster) (terminalsOf (entitiesOf k) (clustersBy (entitiesOf k) c)) (terminals-all s k c) (one-terminal s k c (clustersBy (entitiesOf k) c)) s (k .opened .descriptors) (k .opened .rule3))
 
-    breaks14 : (p : ℕ) → (found14 ≡ At p) ↔ Breaks14 (terminalsOf (entitiesOf k) (clustersBy (entitiesOf k) c)) (k .opened .descriptors) p
-    breaks14 p = rw (terminals-same s k c) (rule14-broken (terminalsOf (entitiesOf k) (clustersBy (entitiesOf k) c)) (one-terminal s k c (clustersBy (entitiesOf k) c)) s (k .opened .descriptors) (k .opened .rule3) p)
+    breaks14 : (p : ℕ) → (found14 ≡ At p) ↔ Breaks14 (k .rule6 .run) (c .cluster) (k .opened .descriptors) p
+    breaks14 p = rw (terminals-same s k c) (rule14-broken (k .rule6 .run) (c .cluster) (terminalsOf (entitiesOf k) (clustersBy (entitiesOf k) c)) (terminals-all s k c) (one-terminal s k c (clustersBy (entitiesOf k) c)) s (k .opened .descriptors) (k .opened .rule3) p)
 
     keeps15 : (found15 ≡ Nowhere) ↔ FewControls k c
     keeps15 = rw (controls-same s k c) (rule15-kept (k .rule6 .run) (clustersBy (entitiesOf k) c) (k .rule9) (distinct-ids s k c) (headerPlace (k .opened)))

@@ -1,5 +1,5 @@
 -- Rule 14 and what the reader answers, both ways, where an ID is borne by one Terminal at most, as rule 10 has it.
---   WrongStream ts ds b i ==  i, behind b in the cutting ds, opens a streaming group that breaks the rule
+--   WrongStream b i       ==  i, behind b in the cutting ds, opens a streaming group that breaks the rule
 --   rule14-kept           ==  the reader answers nowhere exactly where each streaming group keeps the rule
 --   rule14-broken         ==  it answers a place exactly where that is the first offender's
 use Prim.Native.Nat.{ℕ, suc, _+_, _<_}
@@ -15,47 +15,48 @@ use Rattle.ground.specs.Pick.{pick, Reads, decided, reads-eq, reads-and, reads-
 use Rattle.ground.specs.Numbers.{byte}
 use Rattle.ground.specs.Lists.{Some}
 use Rattle.ground.specs.First.{Sound, Breaks, first-nowhere, first-at}
+use Rattle.layout.specs.declared.Cluster.{Cluster}
 use Rattle.scan.specs.Cutting.{Cutting, rest}
 use Rattle.scan.specs.CuttingLaws.{cutting-rest}
 use Rattle.scan.specs.Search.{searched}
 use Rattle.scan.specs.Want.{Class, Audio, reads-audio}
 use Rattle.streaming.specs.Terminals.{Terminal, OneEach}
-use Rattle.streaming.specs.Rule.{Described, StreamKept, no-endpoints, endpoints, Group, Rule14, Breaks14}
+use Rattle.streaming.specs.Rule.{AreAll, Described, StreamKept, no-endpoints, endpoints, Group, Rule14, Breaks14}
 use Rattle.streaming.specs.Tests.{describedBy, holdsClass, broken, wrongStream, breach14}
 use Rattle.streaming.specs.Laws.{behind-next}
 use Rattle.streaming.specs.Sentences.{reads-described}
 use Rattle.streaming.specs.Members.{membersOf, afterOf, members-split, members-inside, after-ends, members-one, class-inside, reads-held}
 
-module _ (ts : List Terminal) (i : List ℕ) where
+module _ (run : List (List ℕ)) (cluster : ℕ → Cluster) (i : List ℕ) where
   -- "directly after the interface": the two descriptors are the group's own, since neither opens the next
-  described-kept : (tail : List (List ℕ)) → (byte i 4 ≡ 0 → ⊥) → Described ts (getD tail 0 []) (getD tail 1 []) → StreamKept ts i (membersOf tail)
+  described-kept : (tail : List (List ℕ)) → (byte i 4 ≡ 0 → ⊥) → Described run cluster (getD tail 0 []) (getD tail 1 []) → StreamKept run cluster i (membersOf tail)
   unfolding membersOf
   described-kept [] n k = let l = k .general .0 in absurd (omega arith)
   described-kept (g ∷ []) n k = let l = k .format .0 in absurd (omega arith)
   described-kept (g ∷ f ∷ ds) n k = rw (class-inside g (k .general .1 .0), class-inside f (k .format .1 .0)) (endpoints n k)
 
-  kept-described : {ms : List (List ℕ)} → (after : List (List ℕ)) → (byte i 4 ≡ 0 → ⊥) → StreamKept ts i ms → Described ts (getD (ms ++ after) 0 []) (getD (ms ++ after) 1 [])
+  kept-described : {ms : List (List ℕ)} → (after : List (List ℕ)) → (byte i 4 ≡ 0 → ⊥) → StreamKept run cluster i ms → Described run cluster (getD (ms ++ after) 0 []) (getD (ms ++ after) 1 [])
   kept-described after n (no-endpoints e h) = absurd (n e)
   kept-described after n (endpoints m k) = k
 
-  kept-silent : {ms : List (List ℕ)} → byte i 4 ≡ 0 → StreamKept ts i ms → Some Class ms → ⊥
+  kept-silent : {ms : List (List ℕ)} → byte i 4 ≡ 0 → StreamKept run cluster i ms → Some Class ms → ⊥
   kept-silent e (no-endpoints z h) s = h (s .one) (s .among) (s .has)
   kept-silent e (endpoints n k) s = n e
 
-  reads-kept : OneEach ts → (tail : List (List ℕ)) → Reads (not (pick (eqb (byte i 4) 0) (holdsClass tail) (not (describedBy ts (getD tail 0 []) (getD tail 1 []))))) (StreamKept ts i (membersOf tail))
-  reads-kept one tail = go (eqb (byte i 4) 0) (reads-eq (byte i 4) 0)
+  reads-kept : (ts : List Terminal) → AreAll run cluster ts → OneEach ts → (tail : List (List ℕ)) → Reads (not (pick (eqb (byte i 4) 0) (holdsClass tail) (not (describedBy ts (getD tail 0 []) (getD tail 1 []))))) (StreamKept run cluster i (membersOf tail))
+  reads-kept ts all one tail = go (eqb (byte i 4) 0) (reads-eq (byte i 4) 0)
     where
       twice : (b : Bool) → {P : Type 0} → Reads b P → Reads (not (not b)) P
       twice true r = r
       twice false r = r
 
-      go : (b : Bool) → Reads b (byte i 4 ≡ 0) → Reads (not (pick b (holdsClass tail) (not (describedBy ts (getD tail 0 []) (getD tail 1 []))))) (StreamKept ts i (membersOf tail))
+      go : (b : Bool) → Reads b (byte i 4 ≡ 0) → Reads (not (pick b (holdsClass tail) (not (describedBy ts (getD tail 0 []) (getD tail 1 []))))) (StreamKept run cluster i (membersOf tail))
       go true r =
           reads-same (reads-not _ (reads-held tail))
           (λ h. no-endpoints (r .says refl) (λ d m k. h (record { one = d; among = m; has = k })))
           (kept-silent (r .says refl))
       go false r =
-          reads-same (twice _ (reads-described ts one (getD tail 0 []) (getD tail 1 [])))
+          reads-same (twice _ (reads-described ts all one (getD tail 0 []) (getD tail 1 [])))
           (described-kept tail (r .denies refl))
           (λ k. rw (members-split tail) (kept-described (afterOf tail) (r .denies refl) k))
 
@@ -68,17 +69,17 @@ cut-earlier (a ∷ x) (d ∷ b) j i r t e l =
     let k = cut-earlier x b j i r t (tail-eq-of-cons-eq e) (omega arith) in
     (k .0, ap (λ (h : List (List ℕ)). d ∷ h) (k .1) ∙ ap (λ (h : List ℕ). h ∷ (x ++ j ∷ k .0)) (sym (head-eq-of-cons-eq e)))
 
-module _ (ts : List Terminal) (one : OneEach ts) (ds : List (List ℕ)) where
+module _ (run : List (List ℕ)) (cluster : ℕ → Cluster) (ts : List Terminal) (all : AreAll run cluster ts) (one : OneEach ts) (ds : List (List ℕ)) where
   -- what follows a descriptor that stands behind b
   abbrev tailOf : List (List ℕ) → List (List ℕ)
   tailOf b = drop (suc (length b)) ds
 
   abbrev pub WrongStream : List (List ℕ) → List ℕ → Type 0
-  WrongStream b i = Audio 2 i × (StreamKept ts i (membersOf (tailOf b)) → ⊥)
+  WrongStream b i = Audio 2 i × (StreamKept run cluster i (membersOf (tailOf b)) → ⊥)
 
   reads-wrong : (b : List (List ℕ)) (i : List ℕ) → Reads (wrongStream ts ds b i) (WrongStream b i)
   unfolding wrongStream broken
-  reads-wrong b i = reads-and _ _ (reads-audio 2 i) (reads-contrary _ (reads-kept ts i one (tailOf b)))
+  reads-wrong b i = reads-and _ _ (reads-audio 2 i) (reads-contrary _ (reads-kept run cluster i ts all one (tailOf b)))
 
   tail-is : (b : List (List ℕ)) (i : List ℕ) (y : List (List ℕ)) → ds ≡ b ++ i ∷ y → tailOf b ≡ y
   tail-is b i y e = ap (drop (suc (length b))) e ∙ behind-next b i y
@@ -95,23 +96,23 @@ module _ (ts : List Terminal) (one : OneEach ts) (ds : List (List ℕ)) where
   members-are {b} {i} {ms} g = ap membersOf (tail-is b i (ms ++ g .after) (g .split)) ∙ members-one ms (g .inside) (g .ends)
 
   -- a streaming group that is not broken keeps the rule
-  kept-by : {b : List (List ℕ)} {i : List ℕ} {ms : List (List ℕ)} → Group ds b i ms → Audio 2 i → (WrongStream b i → ⊥) → StreamKept ts i ms
+  kept-by : {b : List (List ℕ)} {i : List ℕ} {ms : List (List ℕ)} → Group ds b i ms → Audio 2 i → (WrongStream b i → ⊥) → StreamKept run cluster i ms
   kept-by {b} {i} {ms} g a n =
-      ⊎-elim (λ (k : StreamKept ts i (membersOf (tailOf b))). rw (members-are g) at k) (λ k. absurd (n (a, k)))
-      (decided _ (reads-kept ts i one (tailOf b)))
+      ⊎-elim (λ (k : StreamKept run cluster i (membersOf (tailOf b))). rw (members-are g) at k) (λ k. absurd (n (a, k)))
+      (decided _ (reads-kept run cluster i ts all one (tailOf b)))
 
-  rule-sound : Rule14 ts ds ↔ Sound WrongStream ds
+  rule-sound : Rule14 run cluster ds ↔ Sound WrongStream ds
   unfolding Sound
   rule-sound = (
     λ h x i y e w. w .1 (h x i (membersOf (tailOf x)) (group-of x i y e) (w .0)),
     λ h b i ms g a. kept-by g a (h b i (ms ++ g .after) (g .split)),
   )
 
-  breaks-first : (p : ℕ) → Breaks14 ts ds p ↔ Breaks WrongStream 0 ds p
+  breaks-first : (p : ℕ) → Breaks14 run cluster ds p ↔ Breaks WrongStream 0 ds p
   unfolding Sound
   breaks-first p = (of, to)
     where
-      of : Breaks14 ts ds p → Breaks WrongStream 0 ds p
+      of : Breaks14 run cluster ds p → Breaks WrongStream 0 ds p
       of k = record {
         before = k .before;
         offender = k .interface;
@@ -125,7 +126,7 @@ module _ (ts : List Terminal) (one : OneEach ts) (ds : List (List ℕ)) where
             w .1 (k .kept-before x j (membersOf (tailOf x)) (group-of x j _ s) (omega arith) (w .0));
       }
 
-      to : Breaks WrongStream 0 ds p → Breaks14 ts ds p
+      to : Breaks WrongStream 0 ds p → Breaks14 run cluster ds p
       to k = record {
         before = k .before;
         interface = k .offender;
@@ -140,24 +141,24 @@ module _ (ts : List Terminal) (one : OneEach ts) (ds : List (List ℕ)) where
       }
 
 -- THE LAWS, over the cutting
-module _ (ts : List Terminal) (one : OneEach ts) (s : List ℕ) where
-  standing-kept : (breach14 ts s ≡ Nowhere) ↔ Rule14 ts (rest s 0)
+module _ (run : List (List ℕ)) (cluster : ℕ → Cluster) (ts : List Terminal) (all : AreAll run cluster ts) (one : OneEach ts) (s : List ℕ) where
+  standing-kept : (breach14 ts s ≡ Nowhere) ↔ Rule14 run cluster (rest s 0)
   unfolding breach14 searched
   standing-kept =
-      let r = first-nowhere (wrongStream ts (rest s 0)) (WrongStream ts one (rest s 0)) (reads-wrong ts one (rest s 0)) 0 (rest s 0) in
-      let q = rule-sound ts one (rest s 0) in
+      let r = first-nowhere (wrongStream ts (rest s 0)) (WrongStream run cluster ts all one (rest s 0)) (reads-wrong run cluster ts all one (rest s 0)) 0 (rest s 0) in
+      let q = rule-sound run cluster ts all one (rest s 0) in
       (λ e. q .1 (r .0 e), λ h. r .1 (q .0 h))
 
-  standing-broken : (p : ℕ) → (breach14 ts s ≡ At p) ↔ Breaks14 ts (rest s 0) p
+  standing-broken : (p : ℕ) → (breach14 ts s ≡ At p) ↔ Breaks14 run cluster (rest s 0) p
   unfolding breach14 searched
   standing-broken p =
-      let r = first-at (wrongStream ts (rest s 0)) (WrongStream ts one (rest s 0)) (reads-wrong ts one (rest s 0)) 0 (rest s 0) p in
-      let q = breaks-first ts one (rest s 0) p in
+      let r = first-at (wrongStream ts (rest s 0)) (WrongStream run cluster ts all one (rest s 0)) (reads-wrong run cluster ts all one (rest s 0)) 0 (rest s 0) p in
+      let q = breaks-first run cluster ts all one (rest s 0) p in
       (λ e. q .1 (r .0 e), λ h. r .1 (q .0 h))
 
   module _ (ds : List (List ℕ)) (cut : Cutting s ds) where
-    pub rule14-kept : (breach14 ts s ≡ Nowhere) ↔ Rule14 ts ds
+    pub rule14-kept : (breach14 ts s ≡ Nowhere) ↔ Rule14 run cluster ds
     rule14-kept = rw (← (cutting-rest s ds cut)) standing-kept
 
-    pub rule14-broken : (p : ℕ) → (breach14 ts s ≡ At p) ↔ Breaks14 ts ds p
+    pub rule14-broken : (p : ℕ) → (breach14 ts s ≡ At p) ↔ Breaks14 run cluster ds p
     rule14-broken p = rw (← (cutting-rest s ds cut)) (standing-broken p)

@@ -6,4 +6,5 @@ pub mod Sentences
 pub mod Members
 pub mod Breaches
 pub mod Distinct
+pub mod Standing
 pub mod Examples

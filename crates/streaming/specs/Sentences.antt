@@ -13,10 +13,11 @@ use native.Mathlib.Omega.{arith}
 use borrow.Author.Tests.{ltb-true, ltb-false}
 use Rattle.ground.specs.Pick.{pick, Reads, true≠false, reads-eq, reads-le, reads-and, reads-within, reads-implies, reads-same}
 use Rattle.ground.specs.Numbers.{byte, word, triple}
+use Rattle.layout.specs.declared.Cluster.{Cluster}
 use Rattle.streaming.specs.declared.Bearer.{Bearer}
 use Rattle.streaming.specs.declared.Bearer.the-variants as bearer
 use Rattle.streaming.specs.Terminals.{Terminal, bearerIn, OneEach}
-use Rattle.streaming.specs.Rule.{OpensAs, General, Format, Samples, Rates, discrete, continuous, TypeOne, Described}
+use Rattle.streaming.specs.Rule.{OpensAs, General, Format, Samples, Rates, discrete, continuous, TypeOne, Described, AreAll}
 use Rattle.streaming.specs.Tests.{opensAs, isGeneral, isFormat, samplesRight, ratesRight, isTypeOne, formatRight, bearerRight, describedBy}
 
 module _ (d : List ℕ) where
@@ -90,22 +91,22 @@ bearer-one ts one t m = go (bears (t .id) ts)
     go (nothing h) = absurd (h t m refl)
     go (to u k e) = rw (one u t k m e) refl
 
-pub reads-described : (ts : List Terminal) → OneEach ts → (g f : List ℕ) → Reads (describedBy ts g f) (Described ts g f)
+pub reads-described : (ts : List Terminal) {run : List (List ℕ)} {cluster : ℕ → Cluster} → AreAll run cluster ts → OneEach ts → (g f : List ℕ) → Reads (describedBy ts g f) (Described run cluster g f)
 unfolding describedBy bearerRight
-reads-described ts one g f = go (bearerIn (byte g 3) ts) refl (bears (byte g 3) ts)
+reads-described ts {run} {cluster} all one g f = go (bearerIn (byte g 3) ts) refl (bears (byte g 3) ts)
   where
-    found : (t : Terminal) → Described ts g f → bearerIn (byte g 3) ts ≡ bearer.Terminal (t .kind) (t .channels) → General g × ((t .kind ≡ 0x0101) × (Format f × (word g 5 ≡ 1 → TypeOne (t .channels) f)))
+    found : (t : Terminal) → Described run cluster g f → bearerIn (byte g 3) ts ≡ bearer.Terminal (t .kind) (t .channels) → General g × ((t .kind ≡ 0x0101) × (Format f × (word g 5 ≡ 1 → TypeOne (t .channels) f)))
     found t h e =
         let u = h .terminal in
-        let q : bearer.Terminal (u .kind) (u .channels) ≡ bearer.Terminal (t .kind) (t .channels) = sym (bearer-one ts one u (h .among)) ∙ ap (λ (i : ℕ). bearerIn i ts) (h .borne) ∙ e in
+        let q : bearer.Terminal (u .kind) (u .channels) ≡ bearer.Terminal (t .kind) (t .channels) = sym (bearer-one ts one u (all u .1 (h .among))) ∙ ap (λ (i : ℕ). bearerIn i ts) (h .borne) ∙ e in
         let k : u .kind ≡ t .kind = cc in
         let c : u .channels ≡ t .channels = cc in
         (h .general, (sym k ∙ h .streaming, (h .format, λ o. rw (← c) (h .type-one o))))
 
-    go : (l : Bearer) → bearerIn (byte g 3) ts ≡ l → Bears (byte g 3) ts l → Reads (isGeneral g && bearerRight l g f) (Described ts g f)
+    go : (l : Bearer) → bearerIn (byte g 3) ts ≡ l → Bears (byte g 3) ts l → Reads (isGeneral g && bearerRight l g f) (Described run cluster g f)
     go _ e (nothing n) = record {
       says = λ h. absurd (no-bearer (isGeneral g) h);
-      denies = λ h k. n (k .terminal) (k .among) (k .borne);
+      denies = λ h k. n (k .terminal) (all (k .terminal) .1 (k .among)) (k .borne);
     }
       where
         no-bearer : (b : Bool) → b && false ≡ true → ⊥
@@ -113,5 +114,5 @@ reads-described ts one g f = go (bearerIn (byte g 3) ts) refl (bears (byte g 3) 
         no-bearer false h = true≠false (sym h)
     go _ e (to t m i) =
         reads-same (reads-and _ _ (reads-general g) (reads-and _ _ (reads-eq (t .kind) 0x0101) (reads-tagged f (word g 5) (t .channels))))
-        (λ h. record { general = h .0; terminal = t; among = m; borne = i; streaming = h .1 .0; format = h .1 .1 .0; type-one = h .1 .1 .1 })
+        (λ h. record { general = h .0; terminal = t; among = all t .0 m; borne = i; streaming = h .1 .0; format = h .1 .1 .0; type-one = h .1 .1 .1 })
         (λ h. found t h e)
