@@ -38,7 +38,7 @@ pub fn blank() -> Node
 }
 
 // The descriptor d that stands at a place.
-pub fn node_at(d: &[u8], place: usize) -> Node
+fn node_at(d: &[u8], place: usize) -> Node
     ensures { λ r. ⌜ r ≡ nodeOf place (now (d .entry)) ⌝ }
 {
     let entity = layout::read(d);

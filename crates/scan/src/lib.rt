@@ -113,7 +113,7 @@ fn is_member(d: &[u8], number: u8) -> bool
 }
 
 // A descriptor of type 24 hex, as the header and the entities are: a class descriptor.
-pub fn is_class(d: &[u8]) -> bool
+fn is_class(d: &[u8]) -> bool
     ensures { λ r. ⌜ r ≡ isClass (now (d .entry)) ⌝ }
 {
     byte_at(d, 1) == 0x24
