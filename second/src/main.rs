@@ -64,7 +64,7 @@ fn run(words: &[&str]) -> Result<Vec<u8>, String> {
         ["relay"] => Ok(relay::program(&input()?).into_bytes()),
         ["vectors", dir] => write_vectors(dir, false),
         ["vectors", dir, "--report"] => write_vectors(dir, true),
-        ["fuzz", seed, count] => Ok(compare::script(number(seed)?, number(count)? as usize).bytes),
+        ["fuzz", seed, count] => Ok(compare::script(number(seed)?, number(count)? as usize).tape.bytes),
         ["compare", seed, count, every, sheet, lend, relay] => {
             let command = |text: &str| text.split_whitespace().map(str::to_string).collect();
             let job = compare::Job {

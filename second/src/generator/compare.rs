@@ -97,76 +97,41 @@ fn output(program: &[String], stdin: &[u8]) -> Result<Vec<u8>, String> {
 }
 
 fn compare_relay(job: &Job, script: &Script) -> Result<(), String> {
-    let got = output(&job.relay, &script.bytes)?;
-    match first_difference(&got, &script.printed, &script.starts) {
-        Some(index) => Err(tell_step(script, index, &got)),
+    let got = output(&job.relay, &script.tape.bytes)?;
+    match script.tape.difference(&got) {
+        Some((index, answers)) => Err(tell_step(script, index, &answers)),
         None => Ok(()),
     }
 }
 
 fn compare_lent(job: &Job, lent: &Lent) -> Result<(), String> {
-    let got = output(&job.lend, &lent.bytes)?;
-    let Some(index) = first_difference(&got, &lent.printed, &lent.starts) else {
-        return Ok(());
-    };
-    let (from, printed) = lent.starts[index];
-    let (to, end) = lent.starts.get(index + 1).copied().unwrap_or_else(|| lent.ends());
-    let wanted = &lent.printed[printed..end];
-    Err(format!(
-        "difference in `lend`\nstep: {}\nsecond prints:\n{wanted}other prints:\n{}",
-        hex(&lent.bytes[from..to]),
-        answer_from(&got, printed, wanted)
-    ))
-}
-
-/// The index of the first step whose answer is another.
-fn first_difference(got: &[u8], wanted: &str, starts: &[(usize, usize)]) -> Option<usize> {
-    let wanted = wanted.as_bytes();
-    if got == wanted {
-        return None;
+    let got = output(&job.lend, &lent.tape.bytes)?;
+    match lent.tape.difference(&got) {
+        Some((index, answers)) => {
+            Err(format!("difference in `lend`\nstep: {}\n{answers}", hex(lent.tape.step(index))))
+        }
+        None => Ok(()),
     }
-    let same = got.iter().zip(wanted).take_while(|(one, two)| one == two).count();
-    Some(starts.partition_point(|&(_, printed)| printed <= same).max(1) - 1)
-}
-
-/// As many lines of another program's output as were wanted, from where they should begin.
-fn answer_from(got: &[u8], from: usize, wanted: &str) -> String {
-    let rest = String::from_utf8_lossy(&got[from.min(got.len())..]).into_owned();
-    let answer: Vec<&str> = rest.lines().take(wanted.lines().count()).collect();
-    answer.join("\n")
 }
 
 /// The step of this index: the state before it as a put step, its bytes, and both answers.
-fn tell_step(script: &Script, index: usize, got: &[u8]) -> String {
+fn tell_step(script: &Script, index: usize, answers: &str) -> String {
     let mut state = State::empty();
-    for at in 0..index {
-        let step = step_at(script, at);
+    for step in script.tape.steps().take(index) {
         relay::step(&mut state, step[0], &step[3..]).expect("a good step");
     }
-    let (_, from) = script.starts[index];
-    let to = script.starts.get(index + 1).map_or(script.printed.len(), |next| next.1);
     let places = state.table.controls().unwrap_or(&state.table.places);
     let before = step_bytes(relay::PUT, &put_body(state.number, state.table.count, places));
-    let wanted = &script.printed[from..to];
     format!(
-        "difference in `relay`\nstate before, as a step: {}\nstep: {}\nsecond prints:\n{wanted}\
-         other prints:\n{}",
+        "difference in `relay`\nstate before, as a step: {}\nstep: {}\n{answers}",
         hex(&before),
-        hex(step_at(script, index)),
-        answer_from(got, from, wanted)
+        hex(script.tape.step(index))
     )
-}
-
-fn step_at(script: &Script, index: usize) -> &[u8] {
-    let from = script.starts[index].0;
-    let to = script.starts.get(index + 1).map_or(script.bytes.len(), |next| next.0);
-    &script.bytes[from..to]
 }
 
 /// The configurations that a script plugs in.
 fn configurations(script: &Script) -> impl Iterator<Item = &[u8]> {
-    let steps = (0..script.starts.len()).map(|index| step_at(script, index));
-    steps.filter(|step| step[0] == PLUG_IN).map(|step| &step[3..])
+    script.tape.steps().filter(|step| step[0] == PLUG_IN).map(|step| &step[3..])
 }
 
 fn hex(bytes: &[u8]) -> String {

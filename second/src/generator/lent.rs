@@ -8,6 +8,7 @@ use super::configs::{self, input, selector};
 use super::random;
 use super::rng::Rng;
 use super::script::Reach;
+use super::tape::Tape;
 use crate::lend;
 use crate::numbers::{ENTITIES, LENT, MARK, PINS, RECORD, SHEET, STEP};
 use crate::reader;
@@ -30,12 +31,8 @@ pub fn lent_bytes(m: usize, config: &[u8]) -> Vec<u8> {
 /// The steps while they are being written, with what the second program prints.
 #[derive(Clone, Debug, Default)]
 pub struct Lent {
-    /// The steps' bytes.
-    pub bytes: Vec<u8>,
-    /// What the program prints for them.
-    pub printed: String,
-    /// Where each step begins, in the bytes and in what is printed.
-    pub starts: Vec<(usize, usize)>,
+    /// The steps, with what the program prints for them.
+    pub tape: Tape,
     /// What was reached.
     pub reach: Reach,
     /// What was reached on purpose, before anything at random.
@@ -51,9 +48,7 @@ impl Lent {
     /// Adds a step.
     pub fn step(&mut self, m: usize, config: &[u8]) -> Printed {
         let printed = lend::step(m, config);
-        self.starts.push(self.ends());
-        self.bytes.extend(lent_bytes(m, config));
-        self.printed += &printed.lines;
+        self.tape.push(&lent_bytes(m, config), &printed.lines);
         self.reach.count_lent(&printed);
         if let Some(way) = printed.way {
             if m < RECORD {
@@ -84,11 +79,6 @@ impl Lent {
         let printed = self.step(m, config);
         let lines = format!("refused {} at {place}\nrest {m}\n", way.number());
         assert_eq!((printed.way, printed.lines), (Some(way), lines));
-    }
-
-    /// Where the next step would begin.
-    pub fn ends(&self) -> (usize, usize) {
-        (self.bytes.len(), self.printed.len())
     }
 
     /// What the papers name and these steps do not reach; empty if all is well.
@@ -209,7 +199,7 @@ mod tests {
         for _ in 0..300 {
             random(&mut rng, &mut lent);
         }
-        assert_eq!(lend::program(&lent.bytes), lent.printed);
+        assert_eq!(lend::program(&lent.tape.bytes), lent.tape.printed);
         assert!(lent.reach.ways.contains_key(&Way::SheetShort));
     }
 }

@@ -8,4 +8,5 @@ pub mod random;
 pub mod rng;
 pub mod script;
 pub mod steps;
+pub mod tape;
 pub mod vectors;

@@ -730,6 +730,6 @@ mod tests {
         let mut script = Script::new();
         fill(&mut rng, &mut script, 200, 500);
         assert_eq!((script.reach.configurations, script.reach.steps), (200, 500));
-        assert_eq!(relay::program(&script.bytes), script.printed);
+        assert_eq!(relay::program(&script.tape.bytes), script.tape.printed);
     }
 }

@@ -2,6 +2,7 @@
 
 use std::collections::BTreeMap;
 
+use super::tape::Tape;
 use crate::controls::Control;
 use crate::relay::{self, Printed};
 use crate::requests::State;
@@ -102,12 +103,8 @@ pub fn put_body(number: u8, count: u16, places: &[Control]) -> Vec<u8> {
 /// The script.
 #[derive(Clone, Debug)]
 pub struct Script {
-    /// The steps' bytes.
-    pub bytes: Vec<u8>,
-    /// What the program prints for them.
-    pub printed: String,
-    /// Where each step begins, in the bytes and in what is printed.
-    pub starts: Vec<(usize, usize)>,
+    /// The steps, with what the program prints for them.
+    pub tape: Tape,
     /// The state after the last step.
     pub state: State,
     /// What was reached.
@@ -118,9 +115,7 @@ impl Script {
     /// With no step.
     pub fn new() -> Script {
         Script {
-            bytes: Vec::new(),
-            printed: String::new(),
-            starts: Vec::new(),
+            tape: Tape::default(),
             state: State::empty(),
             reach: Reach::default(),
         }
@@ -129,9 +124,7 @@ impl Script {
     /// Adds a step, which has to be a good one.
     pub fn step(&mut self, kind: u8, body: &[u8]) -> Printed {
         let printed = relay::step(&mut self.state, kind, body).expect("a good step");
-        self.starts.push((self.bytes.len(), self.printed.len()));
-        self.bytes.extend(step_bytes(kind, body));
-        self.printed += &printed.lines;
+        self.tape.push(&step_bytes(kind, body), &printed.lines);
         self.reach.count(kind, &printed);
         printed
     }

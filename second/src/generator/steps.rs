@@ -776,6 +776,6 @@ mod tests {
     fn every_step_gets_its_answer() {
         let mut script = Script::new();
         all(&mut script);
-        assert_eq!(relay::program(&script.bytes), script.printed);
+        assert_eq!(relay::program(&script.tape.bytes), script.tape.printed);
     }
 }

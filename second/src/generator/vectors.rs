@@ -55,22 +55,22 @@ pub fn make() -> Vectors {
     let mut runs = sheets();
     let examples: Vec<&[u8]> = runs.iter().map(|run| &run.stdin[..]).collect();
     let lent = lent::all(SEED + 3, &examples);
-    assert_eq!(lend::program(&lent.bytes), lent.printed);
+    assert_eq!(lend::program(&lent.tape.bytes), lent.tape.printed);
     reach.add(&lent.reach);
     named.add(&lent.named);
     runs.push(Run {
         name: "lend_steps".to_string(),
-        stdin: lent.bytes.clone(),
-        stdout: lent.printed.clone(),
+        stdin: lent.tape.bytes.clone(),
+        stdout: lent.tape.printed.clone(),
     });
     for (name, (script, on_purpose)) in
         [("relay_configs", configuration_script()), ("relay_steps", step_script())]
     {
-        assert_eq!(relay::program(&script.bytes), script.printed, "{name}");
+        assert_eq!(relay::program(&script.tape.bytes), script.tape.printed, "{name}");
         reach.add(&script.reach);
         named.add(&on_purpose);
         let name = name.to_string();
-        runs.push(Run { name, stdin: script.bytes, stdout: script.printed });
+        runs.push(Run { name, stdin: script.tape.bytes, stdout: script.tape.printed });
     }
     runs.extend(quiet_ends());
     runs.extend(kept_steps());
