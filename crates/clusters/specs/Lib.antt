@@ -1,3 +1,2 @@
-pub mod Edition
-pub mod Audio
-pub mod Topology
+pub mod Rules
+pub mod Sweep

@@ -1,2 +1,1 @@
 pub mod Judgement
-pub mod Cases
