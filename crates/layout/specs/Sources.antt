@@ -2,9 +2,13 @@
 --   sourceList e d ==  their IDs: none for an Input Terminal, one for an Output Terminal and a Feature Unit, p of them from offset 5
 --                      for a Mixer and a Selector, from 6 for the printed Selector
 --   pinsOf e       ==  how many there are: the pins
+--   sourcesFrom e  ==  the offset of the first of them in the descriptor; 0 where there is none
+--   sourceIds d    ==  their IDs as a part of the descriptor d: pinsOf of them from sourcesFrom on
+--   feedsOf e      ==  it may be a source: every kind but an Output Terminal, which has no output; a wrong layout may not
 --   sourcesIn l    ==  how many IDs l are, and eight places: the IDs, then 00
 --   sourcesOf d    ==  what the reader hands on: how many there are, and the eight places
 use Prim.Native.Nat.{ℕ}
+use mathlib.Core.Bool.{Bool, true, false}
 use mathlib.Core.List.{List, [], _∷_}
 use lib.ListN.{length, take, drop}
 use Rattle.ground.specs.Lists.{pad}
@@ -30,6 +34,27 @@ pinsOf (Mixer i p c l) = p
 pinsOf (Selector i p) = p
 pinsOf (Printed i p) = p
 pinsOf (Feature i s n l) = 1
+
+unfoldable pub sourcesFrom : Entity → ℕ
+sourcesFrom Unknown = 0
+sourcesFrom (Input i t c) = 0
+sourcesFrom (Output i t s) = 7
+sourcesFrom (Mixer i p c l) = 5
+sourcesFrom (Selector i p) = 5
+sourcesFrom (Printed i p) = 6
+sourcesFrom (Feature i s n l) = 4
+
+abbrev pub sourceIds : List ℕ → List ℕ
+sourceIds d = take (pinsOf (entityOf d)) (drop (sourcesFrom (entityOf d)) d)
+
+unfoldable pub feedsOf : Entity → Bool
+feedsOf Unknown = false
+feedsOf (Input i t c) = true
+feedsOf (Output i t s) = false
+feedsOf (Mixer i p c l) = true
+feedsOf (Selector i p) = true
+feedsOf (Printed i p) = true
+feedsOf (Feature i s n l) = true
 
 unfoldable pub sourcesIn : List ℕ → Sources
 sourcesIn l = record { pins = length l; ids = pad 0 mostPins l }

@@ -1,6 +1,9 @@
 -- The sources of an entity are as many as its pins, and stand inside its descriptor.
 --   sourcesEnd e    ==  the offset behind the last source of a Mixer or a Selector
 --   sources-inside  ==  the sources of what a descriptor is end inside it
+--   sources-from-low ==  the first source stands at offset 7 at most
+--   sources-within  ==  the sources of what a descriptor is stand inside it
+--   sources-listed  ==  the part of the descriptor where they stand is their list
 --   pins-few        ==  at most eight pins
 --   sources-few     ==  so at most eight sources
 --   sources-length  ==  as many sources as pins
@@ -11,14 +14,14 @@ use mathlib.Core.Path.{_≡_, refl, ap, _∙_}
 use mathlib.Core.Logic.{⊎-elim}
 use mathlib.Core.List.{List, [], _∷_, List·Memᴰ, List·Memᴰ·not-nil, List·Memᴰ·cases-cons}
 use lib.ListN.{length, take, drop, length-take, length-drop}
-use lib.Seq.{getD-take, getD-drop}
+use lib.Seq.{getD-take, getD-drop, drop-cons}
 use native.Mathlib.Omega.{arith}
 use Rattle.ground.specs.Numbers.{byte}
 use Rattle.layout.specs.declared.Entity.{Entity}
 use Rattle.layout.specs.declared.Entity.the-variants.{Unknown, Input, Output, Mixer, Selector, Printed, Feature}
 use Rattle.layout.specs.Layout.{mostPins, Pins, entityOf}
 use Rattle.layout.specs.LayoutLaws.{Told, told, unknown, input, output, mixer, selector, printed, feature, entity-input, entity-output, entity-mixer, entity-selector, entity-printed, entity-feature}
-use Rattle.layout.specs.Sources.{sourceList, pinsOf}
+use Rattle.layout.specs.Sources.{sourceList, pinsOf, sourcesFrom, sourceIds}
 
 unfoldable pub sourcesEnd : Entity → ℕ
 sourcesEnd Unknown = 0
@@ -41,6 +44,45 @@ sources-inside d = of (told d)
     of (selector k q l) = omega arith
     of (printed k q l z) = omega arith
     of (feature k q l) = omega arith
+
+pub sources-from-low : (e : Entity) → sourcesFrom e ≤ 7
+unfolding sourcesFrom
+sources-from-low Unknown = omega arith
+sources-from-low (Input i t c) = omega arith
+sources-from-low (Output i t s) = omega arith
+sources-from-low (Mixer i p c l) = omega arith
+sources-from-low (Selector i p) = omega arith
+sources-from-low (Printed i p) = omega arith
+sources-from-low (Feature i s n l) = omega arith
+
+pub sources-within : (d : List ℕ) → sourcesFrom (entityOf d) + pinsOf (entityOf d) ≤ length d
+unfolding sourcesFrom pinsOf
+sources-within d = of (told d)
+  where
+    of : {e : Entity} → Told d e → sourcesFrom e + pinsOf e ≤ length d
+    of (unknown n) = omega arith
+    of (input k l) = omega arith
+    of (output k l) = omega arith
+    of (mixer k q l) = omega arith
+    of (selector k q l) = omega arith
+    of (printed k q l z) = omega arith
+    of (feature k q l) = omega arith
+
+one-at : (d : List ℕ) (k : ℕ) → k < length d → take 1 (drop k d) ≡ byte d k ∷ []
+one-at d k h = ap (λ (l : List ℕ). take 1 l) (drop-cons d k 0 h)
+
+pub sources-listed : (d : List ℕ) → sourceIds d ≡ sourceList (entityOf d) d
+unfolding sourcesFrom pinsOf sourceList
+sources-listed d = of (told d)
+  where
+    of : {e : Entity} → Told d e → take (pinsOf e) (drop (sourcesFrom e) d) ≡ sourceList e d
+    of (unknown n) = refl
+    of (input k l) = refl
+    of (output k l) = one-at d 7 (omega arith)
+    of (mixer k q l) = refl
+    of (selector k q l) = refl
+    of (printed k q l z) = refl
+    of (feature k q l) = one-at d 4 (omega arith)
 
 pub pins-few : (d : List ℕ) → pinsOf (entityOf d) ≤ mostPins
 unfolding pinsOf
