@@ -10,3 +10,6 @@ pub mod Tables
 pub mod Rounds
 pub mod Places
 pub mod Examples
+pub mod Passes
+pub mod Grown
+pub mod Quiet
