@@ -13,3 +13,4 @@ pub mod Examples
 pub mod Passes
 pub mod Grown
 pub mod Quiet
+pub mod Ranked
