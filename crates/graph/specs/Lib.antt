@@ -14,3 +14,6 @@ pub mod Passes
 pub mod Grown
 pub mod Quiet
 pub mod Ranked
+pub mod Along
+pub mod Decided
+pub mod OrderExamples
