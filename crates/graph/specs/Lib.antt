@@ -10,3 +10,10 @@ pub mod Tables
 pub mod Rounds
 pub mod Places
 pub mod Examples
+pub mod Passes
+pub mod Grown
+pub mod Quiet
+pub mod Ranked
+pub mod Along
+pub mod Decided
+pub mod OrderExamples
