@@ -28,7 +28,7 @@ use borrow.Author.Tests.{eq-eqb, ne-eqb}
 use Rattle.ground.specs.Pick.{pick, yes, no}
 use Rattle.graph.specs.Members.{_∈_, map-same, in-take}
 use Rattle.graph.specs.Passes.{borne, orderOf}
-use Rattle.graph.specs.Grown.{with, with-cases, with-last, borne-cases, Grown, none, more, passes-grown, grown-source, grown-take, grown-at}
+use Rattle.graph.specs.Grown.{with, with-cases, with-last, borne-cases, Grown, none, more, order-grown, grown-source, grown-take, grown-at}
 
 unfoldable pub put : {C : Type 0} → (ℕ → C) → ℕ → C → ℕ → C
 put f x c y = pick (eqb y x) c (f y)
@@ -124,7 +124,7 @@ module _ {C : Type 0} (ids : ℕ → ℕ) (sources : ℕ → List ℕ) (rule : �
     givenOut = given c (orderOf ids sources n)
 
     pub made-along : Made (orderOf ids sources n) givenOut
-    made-along = grown-made c (passes-grown ids sources n n)
+    made-along = grown-made c (order-grown ids sources n)
 
     pub made-one : (d : ℕ → C) → Made (orderOf ids sources n) d → (i : ℕ) → i ∈ orderOf ids sources n → d (ids i) ≡ givenOut (ids i)
-    made-one d made i m = grown-one c d (passes-grown ids sources n n) made (ids i) (Memᴰ·map ids m)
+    made-one d made i m = grown-one c d (order-grown ids sources n) made (ids i) (Memᴰ·map ids m)

@@ -15,7 +15,7 @@ use mathlib.Core.List.{List}
 use mathlib.Core.Logic.{_↔_}
 use Rattle.graph.specs.Members.{_∈_}
 use Rattle.graph.specs.Passes.{orderOf}
-use Rattle.graph.specs.Grown.{passes-grown, grown-below}
+use Rattle.graph.specs.Grown.{order-grown, grown-below}
 use Rattle.graph.specs.Ranked.{Distinct, Known, Ranking, AllIn, all-ranks, ranks-all}
 use Rattle.graph.specs.Along.{enters, givenOut, MadeAt, Made, made-along, made-one, enters-one}
 
@@ -42,13 +42,13 @@ module _ {C : Type 0} (ids : ℕ → ℕ) (sources : ℕ → List ℕ) (rule : �
       inside v = ranks-all ids sources n distinct known (v .rank, v .ranked)
 
       made-in : (v : Valid n) → Made ids sources rule (orderOf ids sources n) (v .cluster)
-      made-in v i m = v .made i (grown-below (passes-grown ids sources n n) m)
+      made-in v i m = v .made i (grown-below (order-grown ids sources n) m)
 
       pub valid-cluster : (v : Valid n) (i : ℕ) → i < n → v .cluster (ids i) ≡ givenOut ids sources rule start n (ids i)
       valid-cluster v i l = made-one ids sources rule start n (v .cluster) (made-in v) i (inside v i l)
 
       pub valid-enters : (v : Valid n) (i : ℕ) → i < n → enters sources (v .cluster) i ≡ enters sources (givenOut ids sources rule start n) i
-      valid-enters v i l = enters-one ids sources rule start (v .cluster) (passes-grown ids sources n n) (made-in v) i (inside v i l)
+      valid-enters v i l = enters-one ids sources rule start (v .cluster) (order-grown ids sources n) (made-in v) i (inside v i l)
 
       pub valid-accepted : Valid n ↔ Accepted
       valid-accepted = (to, from)

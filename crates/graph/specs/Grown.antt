@@ -7,6 +7,7 @@
 --   borne-more, borne-last, borne-cases  ==  the IDs borne in `with o i` are those of o, and that of i
 --   Grown ids sources n o    ==  o came about so
 --   step-grown, passFrom-grown, passes-grown  ==  what steps and passes make of a grown order is grown
+--   order-grown          ==  .. so the order is
 --   grown-take           ==  the first k indices of a grown order are one
 --   grown-at             ==  each index of it is below n, and might join those that stand before it
 --   grown-below          ==  each index of it is below n
@@ -29,7 +30,7 @@ use Rattle.ground.specs.Pick.{pick, Reads, decided, reads-le, reads-and, reads-
 use Rattle.graph.specs.Members.{_∈_, along, mem, reads-mem, mem-in, mem-out, all, reads-all}
 use Rattle.graph.specs.Tallies.{tally, tally-le, tally-kept, tally-more, tally-full, tally-none, tally-every, tally-either}
 use Rattle.graph.specs.Tables.{below, lt-below, below-lt, length-below, tabulateFrom}
-use Rattle.graph.specs.Passes.{borne, joins, step, passFrom, passes}
+use Rattle.graph.specs.Passes.{borne, joins, step, passFrom, passes, orderOf}
 
 abbrev pub with : List ℕ → ℕ → List ℕ
 with o i = o ++ (i ∷ [])
@@ -87,14 +88,22 @@ unfolding passes
 passes-grown ids sources n zero = none
 passes-grown ids sources n (suc k) = passFrom-grown n 0 (omega arith) (passes-grown ids sources n k)
 
--- one number stands at most once among the numbers from a on, and not at all if it is less
-tally-one : (i a k : ℕ) → (i < a → tally (λ j. eqb j i) (tabulateFrom a k (λ x. x)) ≡ 0) × (tally (λ j. eqb j i) (tabulateFrom a k (λ x. x)) ≤ 1)
+pub order-grown : (ids : ℕ → ℕ) (sources : ℕ → List ℕ) (n : ℕ) → Grown ids sources n (orderOf ids sources n)
+order-grown ids sources n = passes-grown ids sources n _
+
+-- the numbers from a on; one of them stands there once, and a lesser one not at all
+abbrev from : ℕ → ℕ → List ℕ
+from a k = tabulateFrom a k (λ x. x)
+
+abbrev Once : ℕ → ℕ → List ℕ → Type 0
+Once i a l = (i < a → tally (λ j. eqb j i) l ≡ 0) × (tally (λ j. eqb j i) l ≤ 1)
+
+tally-one : (i a k : ℕ) → Once i a (from a k)
 unfolding tally tabulateFrom
 tally-one i a zero = (λ l. refl, zero-le)
 tally-one i a (suc k) = go (tally-one i (suc a) k) (eqb a i) refl
   where
-    go : (i < suc a → tally (λ j. eqb j i) (tabulateFrom (suc a) k (λ x. x)) ≡ 0) × (tally (λ j. eqb j i) (tabulateFrom (suc a) k (λ x. x)) ≤ 1) → (b : Bool) → eqb a i ≡ b
-        → (i < a → tally (λ j. eqb j i) (a ∷ tabulateFrom (suc a) k (λ x. x)) ≡ 0) × (tally (λ j. eqb j i) (a ∷ tabulateFrom (suc a) k (λ x. x)) ≤ 1)
+    go : Once i (suc a) (from (suc a) k) → (b : Bool) → eqb a i ≡ b → Once i a (a ∷ from (suc a) k)
     go r true e = let q = eqb-true a i e in let z = r .0 (omega arith) in rw e (λ l. absurd (omega arith), omega arith)
     go r false e = rw e (λ l. (let z = r .0 (omega arith) in omega arith), (let z = r .1 in omega arith))
 
@@ -134,11 +143,13 @@ module _ {ids : ℕ → ℕ} {sources : ℕ → List ℕ} {n : ℕ} where
   length-tally none = zero-le
   length-tally (more {o} {i} g l h) =
       let a = length-tally g in
-      let kept : (j : ℕ) → j ∈ below n → mem j o ≡ true → mem j (with o i) ≡ true = λ j b e. mem-in (Memᴰ·append-left (i ∷ []) (reads-mem j o .says e)) in
       let out : mem i o ≡ false = mem-out (λ m. h .0 (Memᴰ·map ids m)) in
       let b = tally-more (λ j. mem j o) (λ j. mem j (with o i)) kept (lt-below l) out (mem-in (with-last o i)) in
       let c = length-with o i in
       omega arith
+    where
+      kept : (j : ℕ) → j ∈ below n → mem j o ≡ true → mem j (with o i) ≡ true
+      kept j b e = mem-in (Memᴰ·append-left (i ∷ []) (reads-mem j o .says e))
 
   tally-length : {o : List ℕ} → Grown ids sources n o → tally (λ j. mem j o) (below n) ≤ length o
   tally-length none =
@@ -147,11 +158,13 @@ module _ {ids : ℕ → ℕ} {sources : ℕ → List ℕ} {n : ℕ} where
       omega arith
   tally-length (more {o} {i} g l h) =
       let a = tally-length g in
-      let cases : (j : ℕ) → mem j (with o i) ≡ true → (mem j o ≡ true) ⊎ (eqb j i ≡ true) = λ j e. ⊎-elim (λ m. inl (mem-in m)) (λ q. inr (eq-eqb j i q)) (with-cases (reads-mem j (with o i) .says e)) in
       let b = tally-either (λ j. mem j o) (λ j. eqb j i) (λ j. mem j (with o i)) (below n) cases in
       let c = tally-one i 0 n .1 in
       let d = length-with o i in
       omega arith
+    where
+      cases : (j : ℕ) → mem j (with o i) ≡ true → (mem j o ≡ true) ⊎ (eqb j i ≡ true)
+      cases j e = ⊎-elim (λ m. inl (mem-in m)) (λ q. inr (eq-eqb j i q)) (with-cases (reads-mem j (with o i) .says e))
 
   pub grown-length : {o : List ℕ} → Grown ids sources n o → length o ≤ n
   grown-length {o} g = let a = length-tally g in let b = tally-le (λ j. mem j o) (below n) in let c = length-below n in omega arith

@@ -21,7 +21,7 @@ use native.Mathlib.Nat.{zero-add, suc-add, le-trans, eq-or-lt-of-le}
 use lib.ListN.{length, length-append}
 use Rattle.ground.specs.Pick.{yes, no, refutes}
 use Rattle.graph.specs.Passes.{joins, step, passFrom, passes, orderOf}
-use Rattle.graph.specs.Grown.{with, length-with, reads-joins, Grown, passes-grown, grown-length, grown-full}
+use Rattle.graph.specs.Grown.{with, length-with, reads-joins, Grown, passes-grown, order-grown, grown-length, grown-full}
 
 empty-of : (r : List ℕ) → length r ≡ 0 → r ≡ []
 empty-of [] e = refl
@@ -63,7 +63,8 @@ module _ (ids : ℕ → ℕ) (sources : ℕ → List ℕ) where
   quiet-from zero i o e j l h = absurd (omega arith)
   quiet-from (suc k) i o e j l h = go (joins ids sources o i) refl (λ q. quiet-from k (suc i) o q j)
     where
-      go : (b : Bool) → joins ids sources o i ≡ b → (passFrom ids sources k (suc i) o ≡ o → suc i ≤ j → j < suc i + k → joins ids sources o j ≡ false) → joins ids sources o j ≡ false
+      go : (b : Bool) → joins ids sources o i ≡ b → (passFrom ids sources k (suc i) o ≡ o → suc i ≤ j → j < suc i + k → joins ids sources o j ≡ false)
+          → joins ids sources o j ≡ false
       go true f later =
           let a = passFrom-more k (suc i) (step ids sources o i) in
           let b = ap length (step-joined o i f) in
@@ -116,12 +117,13 @@ module _ (ids : ℕ → ℕ) (sources : ℕ → List ℕ) where
         next : List ℕ
         next = passFrom ids sources n 0 (passes ids sources n k)
 
-        go : k ≤ length now → (length now ≡ length next) ⊎ (length now < length next) → ((e : ℕ) × (e ≤ suc k) × Quiet (passes ids sources n e)) ⊎ (suc k ≤ length next)
+        go : k ≤ length now → (length now ≡ length next) ⊎ (length now < length next)
+            → ((e : ℕ) × (e ≤ suc k) × Quiet (passes ids sources n e)) ⊎ (suc k ≤ length next)
         go h (inl e) = inl (k, omega arith, pass-quiet now (pass-same n 0 now (sym e)))
         go h (inr l) = inr (omega arith)
 
     pub order-quiet : Quiet (orderOf ids sources n)
-    order-quiet = ⊎-elim (λ a. rw (passes-stay (a .0) n (a .1) (a .2)) (a .2)) (λ h. full-quiet (passes-grown ids sources n n) h) (by-pass n)
+    order-quiet = ⊎-elim (λ a. rw (passes-stay (a .0) n (a .1) (a .2)) (a .2)) (λ h. full-quiet (order-grown ids sources n) h) (by-pass n)
 
     pub order-early : (k : ℕ) → k ≤ length (passes ids sources n k) → Quiet (passes ids sources n k) → passes ids sources n k ≡ orderOf ids sources n
     order-early k l q = sym (passes-stay k n (le-trans l (grown-length (passes-grown ids sources n k))) q)

@@ -36,7 +36,7 @@ use Rattle.ground.specs.Pick.{pick, yes, no, Reads, refutes, reads-same, reads-
 use Rattle.graph.specs.Members.{_∈_, mem, reads-mem, mem-in, all, all-misses, reads-all}
 use Rattle.graph.specs.Tables.{below, lt-below, below-lt}
 use Rattle.graph.specs.Passes.{borne, joins, orderOf}
-use Rattle.graph.specs.Grown.{with, length-with, with-cases, Grown, none, more, passes-grown, grown-below, grown-source, grown-length, grown-full, full-grown}
+use Rattle.graph.specs.Grown.{with, length-with, with-cases, Grown, none, more, order-grown, grown-below, grown-source, grown-length, grown-full, full-grown}
 use Rattle.graph.specs.Quiet.{Quiet, order-quiet}
 
 abbrev pub Distinct : (ℕ → ℕ) → ℕ → Type 0
@@ -88,35 +88,39 @@ indexOf-last x (y ∷ l) f = no _ _ (ne-eqb x y (λ e. f (List·Memᴰ·head e))
 abbrev pub rankBy : (ℕ → ℕ) → List ℕ → ℕ → ℕ
 rankBy ids o x = indexOf x (borne ids o)
 
-pub grown-ranked : {ids : ℕ → ℕ} {sources : ℕ → List ℕ} {n : ℕ} {o : List ℕ} → Grown ids sources n o → (i : ℕ) → i ∈ o → (x : ℕ) → x ∈ sources i → rankBy ids o x < rankBy ids o (ids i)
+pub grown-ranked : {ids : ℕ → ℕ} {sources : ℕ → List ℕ} {n : ℕ} {o : List ℕ} → Grown ids sources n o
+    → (i : ℕ) → i ∈ o → (x : ℕ) → x ∈ sources i → rankBy ids o x < rankBy ids o (ids i)
 grown-ranked none i m x s = absurd (List·Memᴰ·not-nil m)
 grown-ranked {ids} {sources} {n} (more {o} {i = j} g l h) i m x s =
     rw (map-append ids o (j ∷ [])) (⊎-elim (λ a. before a (grown-ranked g i a x s)) (λ e. last e) (with-cases m))
   where
-    before : i ∈ o → rankBy ids o x < rankBy ids o (ids i) → indexOf x (borne ids o ++ (ids j ∷ [])) < indexOf (ids i) (borne ids o ++ (ids j ∷ []))
-    before a q = rw (indexOf-in x (borne ids o) (ids j ∷ []) (grown-source g a s) .0, indexOf-in (ids i) (borne ids o) (ids j ∷ []) (Memᴰ·map ids a) .0) q
+    next : List ℕ
+    next = borne ids o ++ (ids j ∷ [])
 
-    last : i ≡ j → indexOf x (borne ids o ++ (ids j ∷ [])) < indexOf (ids i) (borne ids o ++ (ids j ∷ []))
+    stays : (y : ℕ) → y ∈ borne ids o → indexOf y next ≡ rankBy ids o y
+    stays y a = indexOf-in y (borne ids o) (ids j ∷ []) a .0
+
+    before : i ∈ o → rankBy ids o x < rankBy ids o (ids i) → indexOf x next < indexOf (ids i) next
+    before a q = rw (stays x (grown-source g a s), stays (ids i) (Memᴰ·map ids a)) q
+
+    last : i ≡ j → indexOf x next < indexOf (ids i) next
     last e =
         let r = indexOf-in x (borne ids o) (ids j ∷ []) (h .1 x (rw e at s)) in
         let q = r .1 in
-        let u : indexOf (ids i) (borne ids o ++ (ids j ∷ [])) ≡ length (borne ids o) = ap (λ (k : ℕ). indexOf (ids k) (borne ids o ++ (ids j ∷ []))) e ∙ indexOf-last (ids j) (borne ids o) (h .0) in
+        let u : indexOf (ids i) next ≡ length (borne ids o) = ap (λ (k : ℕ). indexOf (ids k) next) e ∙ indexOf-last (ids j) (borne ids o) (h .0) in
         rw (r .0, u) q
 
-pub ranking-bounds : {ids : ℕ → ℕ} {sources : ℕ → List ℕ} {n : ℕ} (rank : ℕ → ℕ) → Ranking ids sources n rank → {d i : ℕ} → i < n → Chain ids sources n d i → d ≤ rank (ids i)
+pub ranking-bounds : {ids : ℕ → ℕ} {sources : ℕ → List ℕ} {n : ℕ} (rank : ℕ → ℕ) → Ranking ids sources n rank
+    → {d i : ℕ} → i < n → Chain ids sources n d i → d ≤ rank (ids i)
 ranking-bounds rank h l ends = zero-le
 ranking-bounds {ids} rank h {i = i} l (up {j = j} b m c) = let q = ranking-bounds rank h b c in let r = h i l (ids j) m in omega arith
 
 module _ (ids : ℕ → ℕ) (sources : ℕ → List ℕ) (n : ℕ) where
-  -- the order is grown
-  growth : Grown ids sources n (orderOf ids sources n)
-  growth = passes-grown ids sources n n
-
   pub all-ranks : AllIn n (orderOf ids sources n) → HasRanks ids sources n
-  all-ranks h = (rankBy ids (orderOf ids sources n), λ i l x s. grown-ranked growth i (h i l) x s)
+  all-ranks h = (rankBy ids (orderOf ids sources n), λ i l x s. grown-ranked (order-grown ids sources n) i (h i l) x s)
 
   pub all-counted : AllIn n (orderOf ids sources n) ↔ (length (orderOf ids sources n) ≡ n)
-  all-counted = (full-grown growth, λ e. grown-full growth (omega arith))
+  all-counted = (full-grown (order-grown ids sources n), λ e. grown-full (order-grown ids sources n) (omega arith))
 
   module _ (distinct : Distinct ids n) (known : Known ids sources n) where
     -- an index whose ID is borne is in
@@ -129,29 +133,38 @@ module _ (ids : ℕ → ℕ) (sources : ℕ → List ℕ) (n : ℕ) where
     in-short none m c = absurd (List·Memᴰ·not-nil m)
     in-short (more {o} {i} g l h) m c = go (λ d k a w. in-short g a w) (with-cases m) c
       where
-        go : ((d k : ℕ) → k ∈ o → Chain ids sources n d k → d < length o) → {d k : ℕ} → (k ∈ o) ⊎ (k ≡ i) → Chain ids sources n d k → d < length (with o i)
+        go : ((d k : ℕ) → k ∈ o → Chain ids sources n d k → d < length o)
+            → {d k : ℕ} → (k ∈ o) ⊎ (k ≡ i) → Chain ids sources n d k → d < length (with o i)
         go later {d} {k} (inl a) c = let q = length-with o i in let r = later d k a c in omega arith
         go later (inr e) ends = let q = length-with o i in omega arith
-        go later (inr e) (up {d} {j = j} b s c) = let q = length-with o i in let r = later d j (borne-in g b (h .1 (ids j) (rw e at s))) c in omega arith
+        go later (inr e) (up {d} {j = j} b s c) =
+            let q = length-with o i in
+            let r = later d j (borne-in g b (h .1 (ids j) (rw e at s))) c in
+            omega arith
 
     pub order-short : {d i : ℕ} → i ∈ orderOf ids sources n → Chain ids sources n d i → d < n
-    order-short m c = let a = in-short growth m c in let b = grown-length growth in omega arith
+    order-short m c = let a = in-short (order-grown ids sources n) m c in let b = grown-length (order-grown ids sources n) in omega arith
 
     -- an index that may not join a grown order, and is not in it, has a source that is not
-    left-source : {o : List ℕ} → Grown ids sources n o → Quiet ids sources n o → (i : ℕ) → i < n → (i ∈ o → ⊥) → (j : ℕ) × (j < n) × ids j ∈ sources i × (j ∈ o → ⊥)
+    left-source : {o : List ℕ} → Grown ids sources n o → Quiet ids sources n o
+        → (i : ℕ) → i < n → (i ∈ o → ⊥) → (j : ℕ) × (j < n) × ids j ∈ sources i × (j ∈ o → ⊥)
     unfolding joins
     left-source {o} g q i l f = go (mem (ids i) (borne ids o)) refl (q i l)
       where
-        go : (b : Bool) → mem (ids i) (borne ids o) ≡ b → not b && all (λ x. mem x (borne ids o)) (sources i) ≡ false → (j : ℕ) × (j < n) × ids j ∈ sources i × (j ∈ o → ⊥)
+        go : (b : Bool) → mem (ids i) (borne ids o) ≡ b → not b && all (λ x. mem x (borne ids o)) (sources i) ≡ false
+            → (j : ℕ) × (j < n) × ids j ∈ sources i × (j ∈ o → ⊥)
         go true e w = absurd (f (borne-in g l (reads-mem (ids i) (borne ids o) .says e)))
         go false e w =
             let a = all-misses (λ x. mem x (borne ids o)) (sources i) w in
             let b = known i l (a .0) (a .1) in
-            (b .0, b .1, Memᴰ·cast (b .2) (a .1), λ m. reads-mem (a .0) (borne ids o) .denies (a .2) (Memᴰ·cast (sym (b .2)) (Memᴰ·map ids m)))
+            let out : b .0 ∈ o → ⊥ = λ m. reads-mem (a .0) (borne ids o) .denies (a .2) (Memᴰ·cast (sym (b .2)) (Memᴰ·map ids m)) in
+            (b .0, b .1, Memᴰ·cast (b .2) (a .1), out)
 
     pub left-endless : (i : ℕ) → i < n → (i ∈ orderOf ids sources n → ⊥) → (d : ℕ) → Chain ids sources n d i
     left-endless i l f zero = ends
-    left-endless i l f (suc d) = let a = left-source growth (order-quiet ids sources n) i l f in up (a .1) (a .2) (left-endless (a .0) (a .1) (a .3) d)
+    left-endless i l f (suc d) =
+        let a = left-source (order-grown ids sources n) (order-quiet ids sources n) i l f in
+        up (a .1) (a .2) (left-endless (a .0) (a .1) (a .3) d)
 
     pub ranks-all : HasRanks ids sources n → AllIn n (orderOf ids sources n)
     ranks-all r i l =
@@ -173,7 +186,10 @@ module _ (ids : ℕ → ℕ) (sources : ℕ → List ℕ) (n : ℕ) where
       in-longer i l = reads-contrary (mem i (orderOf ids sources n)) (left-longer i l)
 
       pub no-ranks : (HasRanks ids sources n → ⊥) ↔ ((i : ℕ) × (i < n) × Longer ids sources n k i)
-      no-ranks = (λ f. some (all-misses inside (below n) (refutes every (λ h. f (all-ranks (λ i l. h i (lt-below l)))))), λ x r. in-longer (x .0) (x .1) .says (mem-in (ranks-all r (x .0) (x .1))) (x .2))
+      no-ranks = (
+        λ f. some (all-misses inside (below n) (refutes every (λ h. f (all-ranks (λ i l. h i (lt-below l)))))),
+        λ x r. in-longer (x .0) (x .1) .says (mem-in (ranks-all r (x .0) (x .1))) (x .2),
+      )
         where
           inside : ℕ → Bool
           inside i = mem i (orderOf ids sources n)
