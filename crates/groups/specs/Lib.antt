@@ -6,3 +6,5 @@ pub mod CollectionLaws
 pub mod FrameLaws
 pub mod TotalLaws
 pub mod Judged
+pub mod Tops
+pub mod Marks

@@ -1,41 +1,85 @@
 -- The loop stands behind descriptors none of which is wrong; what it finds is what it finds from there on.
 use borrow.Author.Needs.{needs}
 use Prim.Native.Nat.{ℕ, _-_}
-use mathlib.Core.Path.{_≡_, sym, _∙_}
-use mathlib.Core.Bool.{Bool, true, false}
+use mathlib.Core.Path.{_≡_, refl, sym, _∙_}
+use mathlib.Core.Bool.{Bool, true, false, not, _||_}
 use mathlib.Core.List.{List}
-use lib.ListN.{length}
-use Rattle.ground.specs.declared.Place.the-variants.{At}
+use native.Mathlib.Omega.{arith}
+use lib.Dec.{eqb}
+use lib.ListN.{length, replicate}
+use Rattle.ground.specs.declared.Place.{Place}
+use Rattle.ground.specs.declared.Place.the-variants.{Nowhere, At}
+use Rattle.ground.specs.Pick.{pick, yes, no, shows, true≠false}
 use Rattle.ground.specs.Numbers.{byte}
 use Rattle.ground.specs.Lists.{part}
+use Rattle.ground.specs.First.{isBefore}
 use Rattle.scan.specs.Cutting.{endAt}
 use Rattle.scan.specs.Search.{searched, Passed, start, stop, hit, miss, ordered, inside, falls}
-use Rattle.scan.specs.Want.{wants}
+use Rattle.scan.specs.Want.{isInterface, isAudio, reads-interface, reads-audio, wants, foundFrom}
 use Rattle.scan.specs.Found.{found-before}
 use Rattle.scan.specs.declared.Want.the-variants as want
 use Rattle.groups.specs.Reading.{wrongInterface, wrongAt}
+use Rattle.groups.specs.Tops.{controlBefore, Tops, Looked, Interfaced, control-none, control-first, control-later, control-all, tops-none, tops-more}
 use Rattle.groups.proofs.first_wrong_interface.Statement.{statement}
 use Rattle.groups.proofs.first_wrong_interface.Tie as tie
 
--- Two searches from the first byte on tell what stands before: the test at a place is the rule's own test.
+record Going (s tops : List ℕ) (control at : ℕ) : Type 0 where
+  pub passed : Passed wrongInterface s 0 at
+  pub topped : Tops s at tops
+  pub seen : control ≡ controlBefore s at
+
+-- What stands before is what a search from the first byte on tells: the test at a place is the rule's own test.
 wrong-here : (s : List ℕ) (at : ℕ) (i : List ℕ) (g : Passed wrongInterface s 0 at) → wrongAt s at i ≡ wrongInterface (g .behind) i
 unfolding wrongAt wrongInterface wants
 wrong-here s at i g = rw (found-before (want.Setting (byte i 2) (byte i 3)) s wrongInterface at g, found-before (want.Audio 1) s wrongInterface at g)
 
-module _ (s : List ℕ) (at e : ℕ) (g : Passed wrongInterface s 0 at) (f : e ≡ endAt s at) (h : e ≡ at → ⊥) (r : Bool) (t : r ≡ wrongAt s at (part s at e)) where
-  wrong : r ≡ true → At at ≡ searched wrongInterface s 0
-  wrong y = hit wrongInterface s 0 at e g f h (sym (wrong-here s at (part s at e) g) ∙ sym t ∙ y)
+-- An AudioControl interface that is not wrong is the first.
+none-before : (s : List ℕ) (at : ℕ) (i : List ℕ) → isAudio 1 i ≡ true → wrongAt s at i ≡ false → isBefore (foundFrom s 0 (want.Audio 1)) at ≡ false
+unfolding wrongAt
+none-before s at i y n =
+    only (not (eqb (length i) 9)) (isBefore (foundFrom s 0 (want.Setting (byte i 2) (byte i 3))) at) (isBefore (foundFrom s 0 (want.Audio 1)) at) (not (eqb (byte i 3) 0))
+    (rw (shows (reads-interface i) (reads-audio 1 i .says y .0), y) at n)
+  where
+    only : (a b c d : Bool) → (a || (b || (c || d))) ≡ false → c ≡ false
+    only true b c d h = absurd (true≠false h)
+    only false true c d h = absurd (true≠false h)
+    only false false true d h = absurd (true≠false h)
+    only false false false d h = refl
 
-  right : r ≡ false → Passed wrongInterface s 0 e
-  right y = miss wrongInterface s 0 at e g f h (sym (wrong-here s at (part s at e) g) ∙ sym t ∙ y)
+begin : (s : List ℕ) → Going s (replicate 256 0) (length s) 0
+begin s = record { passed = start wrongInterface s 0; topped = tops-none s; seen = control-none s }
 
-ruleset laws = (start, stop, wrong, right, ordered, inside, falls, needs)
+module _ (s tops : List ℕ) (control at e : ℕ) (g : Going s tops control at) (f : e ≡ endAt s at) where
+  over : e ≡ at → Interfaced s (searched wrongInterface s 0) (record { wrong = Nowhere; control = control })
+  over h = record { wrong = stop wrongInterface s 0 at e (g .passed) f h; control = λ n. control-all s wrongInterface at e (g .passed) f control (g .seen) h }
+
+  module _ (h : e ≡ at → ⊥) (tops′ : List ℕ) (r : Bool) (l : Looked s at (part s at e) tops tops′ r) where
+    same : r ≡ wrongInterface (g .passed .behind) (part s at e)
+    same = l .told ∙ wrong-here s at (part s at e) (g .passed)
+
+    wrong : r ≡ true → Interfaced s (searched wrongInterface s 0) (record { wrong = At at; control = control })
+    wrong y =
+        let q : At at ≡ searched wrongInterface s 0 = hit wrongInterface s 0 at e (g .passed) f h (sym same ∙ y) in
+        record { wrong = q; control = λ n. let p : At at ≡ Nowhere = q ∙ n in let z : _≡_ {A = ℕ} 0 1 = cc in absurd (omega arith) }
+
+    right : r ≡ false → (c : ℕ) → c ≡ pick (isAudio 1 (part s at e)) at control → Going s tops′ c e
+    right y c q = record {
+      passed = miss wrongInterface s 0 at e (g .passed) f h (sym same ∙ y);
+      topped = tops-more s at tops (g .topped) wrongInterface e (g .passed) f h tops′ (l .after y);
+      seen = q ∙ go (isAudio 1 (part s at e)) refl;
+    }
+      where
+        go : (b : Bool) → isAudio 1 (part s at e) ≡ b → pick (isAudio 1 (part s at e)) at control ≡ controlBefore s e
+        go true a = yes _ _ a ∙ control-first s wrongInterface at e (g .passed) f h a (none-before s at (part s at e) a (sym (l .told) ∙ y))
+        go false a = no _ _ a ∙ control-later s wrongInterface at e (g .passed) f h control (g .seen) a
+
+ruleset laws = (begin, over, wrong, right, ordered, inside, falls, needs)
 
 abbrev Inv-loop : tie.InvT-loop
-Inv-loop s at₀ at = Passed wrongInterface s 0 at
+Inv-loop config tops₀ control₀ at₀ tops control at = Going config tops control at
 
 abbrev μ-loop : tie.MeasureT-loop
-μ-loop s at₀ at = length s - at
+μ-loop config tops₀ control₀ at₀ tops control at = length config - at
 
 loop-holds : tie.Need-loop-holds Inv-loop μ-loop
 loop-holds c = search laws
@@ -61,6 +105,18 @@ wrong-interface-requires c κs = search laws
 returns-2 : tie.Need-returns-2 Inv-loop μ-loop
 returns-2 c = search laws
 
+sub-control-from : tie.Need-sub-control-from Inv-loop μ-loop
+sub-control-from c = search laws
+
+part-control-from-start : tie.Need-part-control-from-start Inv-loop μ-loop
+part-control-from-start c = search laws
+
+part-control-from-end : tie.Need-part-control-from-end Inv-loop μ-loop
+part-control-from-end c = search laws
+
+control-from-requires : tie.Need-control-from-requires Inv-loop μ-loop
+control-from-requires c κs = search laws
+
 loop-less : tie.Need-loop-less Inv-loop μ-loop
 loop-less c = search laws
 
@@ -81,5 +137,9 @@ first-wrong-interface-spec =
     part-wrong-interface-end
     wrong-interface-requires
     returns-2
+    sub-control-from
+    part-control-from-start
+    part-control-from-end
+    control-from-requires
     loop-less
     loop-again)
