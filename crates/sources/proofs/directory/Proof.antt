@@ -49,23 +49,23 @@ module _ (run : Run) where
       other : (k : ℕ) → k < 256 → (k ≡ x → ⊥) → getD marks k 0 ≡ markOf (lookupBelow run (i + 1) k)
       other k l f = g .mark k l ∙ sym (ap markOf (lookup-other run i k (λ e. f (sym e ∙ own))))
 
-      kept : (getD marks x 0 ≡ 0 → ⊥) → Marked marks (i + 1)
+      kept : (getD marks x 0 ≡ 0 → ⊥) → (next : List ℕ) → next ≡ marks → Marked next (i + 1)
       unfolding markOf
-      kept z = record {
+      kept z next r = rw r (record {
         low = omega arith;
         long = g .long;
         mark = λ k l. ⊎-elim (λ e. same k l e) (λ f. other k l f) (decided (eqb k x) (reads-eq k x));
-      }
+      })
         where
           same : (k : ℕ) → k < 256 → k ≡ x → getD marks k 0 ≡ markOf (lookupBelow run (i + 1) k)
           same k l e = g .mark k l ∙ sym (ap markOf (lookup-old run i k (own ∙ sym e) (λ u. z (ap (λ (y : ℕ). getD marks y 0) (sym e) ∙ g .mark k l ∙ ap markOf u))))
 
-      marked : getD marks x 0 ≡ 0 → (v : ℕ) → v ≡ markOf (Entity (feedsAt run i)) → Marked (set marks x v) (i + 1)
-      marked z v u = record {
+      marked : getD marks x 0 ≡ 0 → (v : ℕ) → v ≡ markOf (Entity (feedsAt run i)) → (next : List ℕ) → next ≡ set marks x v → Marked next (i + 1)
+      marked z v u next r = rw r (record {
         low = omega arith;
         long = length-set marks x v ∙ g .long;
         mark = λ k l. ⊎-elim (λ e. same k l e) (λ f. getD-set-other marks x k v 0 f ∙ other k l f) (decided (eqb k x) (reads-eq k x));
-      }
+      })
         where
           same : (k : ℕ) → k < 256 → k ≡ x → getD (set marks x v) k 0 ≡ markOf (lookupBelow run (i + 1) k)
           same k l e =
@@ -75,7 +75,11 @@ module _ (run : Run) where
               rw e (getD-set-same marks x v 0 (omega arith)) ∙ u
               ∙ sym (ap markOf (lookup-new run i k (own ∙ sym e) none))
 
-ruleset laws = (start, over, kept, marked, needs)
+-- the same, in the order in which what is known gives the arguments
+stays : (run : Run) (marks next : List ℕ) → next ≡ marks → (x : ℕ) → (getD marks x 0 ≡ 0 → ⊥) → (i : ℕ) → Marked run marks i → (x ≡ idAt run i) × (x < 256) → i < held run → Marked run next (i + 1)
+stays run marks next r x z i g w h = kept run (held run) refl marks i g h x w z next r
+
+ruleset laws = (start, over, marked, needs)
 
 abbrev Inv-loop : tie.InvT-loop
 Inv-loop run n marks₀ i₀ marks i = Marked run marks i
@@ -115,7 +119,7 @@ loop-less c = search laws
 
 loop-again : tie.Need-loop-again Inv-loop μ-loop
 unfolding blankNode
-loop-again c = search laws
+loop-again c = ⊎-elim (λ w. search laws) (λ w. stays _ _ _ (w .1) _ (w .0 .left) _ (search laws) (search laws) (search laws)) (c .if1 .came)
 
 returns : tie.Need-returns Inv-loop μ-loop
 returns c = search laws
