@@ -10,7 +10,7 @@ use lib.ListN.{length, getD}
 use Rattle.ground.specs.Pick.{decided, reads-eq}
 use Rattle.ground.specs.Lists.{member-at}
 use Rattle.ground.specs.Places.{somewhere, reads-somewhere}
-use Rattle.graph.specs.Members.{_∈_, along}
+use Rattle.graph.specs.Members.{along}
 use Rattle.graph.specs.Ranked.{Distinct, Known}
 use Rattle.edition.specs.Edition.{Edition}
 use Rattle.entities.specs.declared.Run.{Run}

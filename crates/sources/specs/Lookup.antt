@@ -6,7 +6,7 @@
 --   foundBy m        ==  what the mark m says
 --   directoryOf run  ==  the marks of all 256 IDs
 use Prim.Native.Nat.{ℕ}
-use mathlib.Core.Bool.{Bool, true, false}
+use mathlib.Core.Bool.{true, false}
 use mathlib.Core.List.{List}
 use lib.Dec.{eqb}
 use Rattle.ground.specs.Pick.{pick}

@@ -5,28 +5,29 @@
 --   lookup-new       ==  one that bears the ID is found where none before did
 --   lookup-old       ==  .. and changes nothing where one before did: the first that bears an ID counts
 --   mark-nothing     ==  the mark 0 says that nothing was found; found-mark: a mark says what was marked
+--   entity-refuses   ==  an entity that is found has the number 11 exactly where it has no output
 --   directory-mark   ==  what the marks of a run say of an ID is what the lookup finds
 --   wrong-by, any-wrong-by  ==  .. so that a wrong source by the marks is a wrong source of the run, for bytes
 use Prim.Native.Nat.{ℕ, zero, suc, _+_, _<_}
 use mathlib.Core.Path.{_≡_, refl, sym, ap, _∙_}
-use mathlib.Core.Bool.{Bool, true, false, _||_}
+use mathlib.Core.Bool.{Bool, true, false, not, _||_}
 use mathlib.Core.List.{List, [], _∷_, List·Memᴰ·head, List·Memᴰ·tail}
 use native.Mathlib.Numerals.{add-one}
 use native.Mathlib.Nat.{zero-add, add-zero}
 use native.Mathlib.Omega.{arith}
 use lib.Dec.{eqb}
 use lib.ListN.{getD}
-use borrow.Author.Tests.{eq-eqb, ne-eqb, eqb-true}
+use borrow.Author.Tests.{eq-eqb, ne-eqb}
 use Rattle.ground.specs.Pick.{pick, no}
 use Rattle.ground.specs.Lists.{any}
-use Rattle.ground.specs.Places.{firstIn, FirstAt, Finding, nothing, first, finding, first-some}
+use Rattle.ground.specs.Places.{firstIn, Finding, nothing, first, finding, first-some}
 use Rattle.graph.specs.Members.{_∈_}
 use Rattle.graph.specs.Tables.{getD-tabulate}
 use Rattle.entities.specs.declared.Run.{Run}
 use Rattle.entities.specs.Run.{idAt, feedsAt}
 use Rattle.sources.specs.declared.Found.{Found}
 use Rattle.sources.specs.declared.Found.the-variants.{Nothing, Entity}
-use Rattle.sources.specs.Lookup.{lookupBelow, lookup, markOf, foundBy, directoryOf}
+use Rattle.sources.specs.Lookup.{lookupBelow, lookup, sourceNumber, markOf, foundBy, directoryOf}
 use Rattle.sources.specs.Breaches.{refuses, wrongSource, wrongBy}
 
 module _ {R : Type 0} (t : ℕ → Bool) (found : ℕ → R) (none : R) where
@@ -86,6 +87,11 @@ unfolding foundBy markOf
 found-mark Nothing = refl
 found-mark (Entity false) = refl
 found-mark (Entity true) = refl
+
+pub entity-refuses : (b : Bool) → not b ≡ refuses (Entity b)
+unfolding sourceNumber
+entity-refuses true = refl
+entity-refuses false = refl
 
 pub directory-mark : (run : Run) (x : ℕ) → x < 256 → foundBy (getD (directoryOf run) x 0) ≡ lookup run x
 unfolding directoryOf

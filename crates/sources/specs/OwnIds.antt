@@ -16,7 +16,7 @@ use Rattle.ground.specs.Pick.{decided, reads-lt}
 use Rattle.ground.specs.Lists.{split-of, of-split, member-at, member-index}
 use Rattle.ground.specs.First.{Sound}
 use Rattle.ground.specs.Indexed.{sound-index}
-use Rattle.graph.specs.Members.{_∈_, along}
+use Rattle.graph.specs.Members.{_∈_}
 use Rattle.edition.specs.Edition.{ownId}
 use Rattle.sources.specs.Rules.{WrongId, Rule10}
 

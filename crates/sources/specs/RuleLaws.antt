@@ -2,15 +2,14 @@
 -- stands for descriptors.
 --   reads-id         ==  the test of the ID at an index decides the rule's sentence of the descriptor there
 --   borne-at         ==  an ID is borne at an index of the run exactly where one of its descriptors bears it
---   entity-refuses   ==  an entity that is found is refused exactly where it has no output
 --   reads-source, reads-sources  ==  the same of a source ID, and of the source IDs at an index, where rule 10 is kept
 --   rule10-nowhere, rule10-at  ==  breach10 is nowhere exactly where rule 10 is kept, and at q exactly where q is the place of the
 --                        first descriptor whose ID is zero or borne by an earlier one
 --   rule11-nowhere, rule11-at  ==  the same of rule 11, where rule 10 is kept: breach11 is at q exactly where q is the place of the first
 --                        descriptor that has a source ID that is 0, unknown, or borne by an entity with no output
 use Prim.Native.Nat.{ℕ, _<_}
-use mathlib.Core.Path.{_≡_, refl, sym, ap, _∙_}
-use mathlib.Core.Bool.{Bool, true, false, not}
+use mathlib.Core.Path.{_≡_, sym, ap, _∙_}
+use mathlib.Core.Bool.{false}
 use mathlib.Core.Logic.{_⊎_, inl, inr, ⊎-elim, _↔_}
 use mathlib.Core.List.{List, []}
 use native.Mathlib.Omega.{arith}
@@ -20,7 +19,7 @@ use lib.Seq.{length-take-le, getD-take}
 use borrow.Author.Tests.{eqb-true, eqb-false, not-true, not-false}
 use Rattle.ground.specs.declared.Place.the-variants.{Nowhere, At}
 use Rattle.ground.specs.Pick.{Reads, reads-eq, reads-or, reads-same, true≠false}
-use Rattle.ground.specs.Lists.{Some, any, reads-any, member-at, member-index, take-in}
+use Rattle.ground.specs.Lists.{Some, any, reads-any, member-at, member-index}
 use Rattle.ground.specs.First.{Breaks}
 use Rattle.ground.specs.Places.{Finding, nothing, first, finding, reads-somewhere, breach-nowhere, breach-at}
 use Rattle.graph.specs.Members.{_∈_}
@@ -35,12 +34,8 @@ use Rattle.sources.specs.declared.Found.the-variants.{Nothing, Entity}
 use Rattle.sources.specs.Rules.{WrongId, Rule10, WrongSource, zero-source, unknown, no-output, WrongSources, Rule11}
 use Rattle.sources.specs.Lookup.{lookupBelow, sourceNumber}
 use Rattle.sources.specs.Breaches.{wrongId, breach10, refuses, wrongSource, breach11}
+use Rattle.sources.specs.LookupLaws.{entity-refuses}
 use Rattle.sources.specs.OwnIds.{earlier, own-one}
-
-pub entity-refuses : (b : Bool) → not b ≡ refuses (Entity b)
-unfolding sourceNumber
-entity-refuses true = refl
-entity-refuses false = refl
 
 module _ {ed : Edition} {s : List ℕ} {p : ℕ} {ds : List (List ℕ)} {run : Run} (k : Represents ed s p ds run) where
   -- an index of the run is one of the descriptors

@@ -2,7 +2,7 @@
 -- configuration's bytes are below 256, so that a wrong source by the marks is one of the run.
 use borrow.Author.Needs.{needs}
 use Prim.Native.Nat.{ℕ, _+_, _-_, _≤_, _<_}
-use mathlib.Core.Path.{_≡_, refl, sym, ap, _∙_, subst}
+use mathlib.Core.Path.{_≡_, _∙_, subst}
 use mathlib.Core.Bool.{Bool, true, false}
 use mathlib.Core.List.{List, Memᴰ·append-right}
 use native.Mathlib.Omega.{arith}

@@ -1,7 +1,7 @@
 -- The entities are marked one by one: each mark is what a lookup among those before the one come to finds.
 use borrow.Author.Needs.{needs}
 use Prim.Native.Nat.{ℕ, _+_, _-_, _≤_, _<_}
-use mathlib.Core.Path.{_≡_, refl, sym, ap, _∙_}
+use mathlib.Core.Path.{_≡_, sym, ap, _∙_}
 use mathlib.Core.List.{List}
 use mathlib.Core.Logic.{⊎-elim}
 use native.Mathlib.Omega.{arith}
@@ -32,16 +32,16 @@ module _ (run : Run) where
     mark = λ x l. getD-replicate {A = ℕ} 256 x 0 0 l ∙ sym (ap markOf (lookup-none run x));
   }
 
-  module _ (n : ℕ) (m : n ≡ held run) (marks : List ℕ) (i : ℕ) (g : Marked marks i) where
-    over : n ≤ i → marks ≡ directoryOf run
+  module _ (marks : List ℕ) (i : ℕ) (g : Marked marks i) where
+    over : (n : ℕ) → n ≡ held run → n ≤ i → marks ≡ directoryOf run
     unfolding directoryOf
-    over h =
+    over n m h =
         let a = g .low in
         let e : i ≡ held run = omega arith in
         sym (tabulate-getD marks 0) ∙ ap (λ (k : ℕ). tabulate k (λ x. getD marks x 0)) (g .long)
         ∙ tabulate-same 256 (λ x. getD marks x 0) (λ x. markOf (lookup run x)) (λ x l. g .mark x l ∙ ap (λ (k : ℕ). markOf (lookupBelow run k x)) e)
 
-    module _ (h : i < n) (x : ℕ) (w : (x ≡ idAt run i) × (x < 256)) where
+    module _ (x : ℕ) (w : (x ≡ idAt run i) × (x < 256)) where
       own : idAt run i ≡ x
       own = sym (w .0)
 
@@ -49,9 +49,9 @@ module _ (run : Run) where
       other : (k : ℕ) → k < 256 → (k ≡ x → ⊥) → getD marks k 0 ≡ markOf (lookupBelow run (i + 1) k)
       other k l f = g .mark k l ∙ sym (ap markOf (lookup-other run i k (λ e. f (sym e ∙ own))))
 
-      kept : (getD marks x 0 ≡ 0 → ⊥) → (next : List ℕ) → next ≡ marks → Marked next (i + 1)
+      kept : (getD marks x 0 ≡ 0 → ⊥) → (next : List ℕ) → next ≡ marks → i < held run → Marked next (i + 1)
       unfolding markOf
-      kept z next r = rw r (record {
+      kept z next r h = rw r (record {
         low = omega arith;
         long = g .long;
         mark = λ k l. ⊎-elim (λ e. same k l e) (λ f. other k l f) (decided (eqb k x) (reads-eq k x));
@@ -60,8 +60,8 @@ module _ (run : Run) where
           same : (k : ℕ) → k < 256 → k ≡ x → getD marks k 0 ≡ markOf (lookupBelow run (i + 1) k)
           same k l e = g .mark k l ∙ sym (ap markOf (lookup-old run i k (own ∙ sym e) (λ u. z (ap (λ (y : ℕ). getD marks y 0) (sym e) ∙ g .mark k l ∙ ap markOf u))))
 
-      marked : getD marks x 0 ≡ 0 → (v : ℕ) → v ≡ markOf (Entity (feedsAt run i)) → (next : List ℕ) → next ≡ set marks x v → Marked next (i + 1)
-      marked z v u next r = rw r (record {
+      marked : getD marks x 0 ≡ 0 → (v : ℕ) → v ≡ markOf (Entity (feedsAt run i)) → (next : List ℕ) → next ≡ set marks x v → (n : ℕ) → n ≡ held run → i < n → Marked next (i + 1)
+      marked z v u next r n m h = rw r (record {
         low = omega arith;
         long = length-set marks x v ∙ g .long;
         mark = λ k l. ⊎-elim (λ e. same k l e) (λ f. getD-set-other marks x k v 0 f ∙ other k l f) (decided (eqb k x) (reads-eq k x));
@@ -72,12 +72,7 @@ module _ (run : Run) where
               let a = g .long in
               let b = w .1 in
               let none = mark-nothing (lookupBelow run i k) (sym (g .mark k l) ∙ ap (λ (y : ℕ). getD marks y 0) e ∙ z) in
-              rw e (getD-set-same marks x v 0 (omega arith)) ∙ u
-              ∙ sym (ap markOf (lookup-new run i k (own ∙ sym e) none))
-
--- the same, in the order in which what is known gives the arguments
-stays : (run : Run) (marks next : List ℕ) → next ≡ marks → (x : ℕ) → (getD marks x 0 ≡ 0 → ⊥) → (i : ℕ) → Marked run marks i → (x ≡ idAt run i) × (x < 256) → i < held run → Marked run next (i + 1)
-stays run marks next r x z i g w h = kept run (held run) refl marks i g h x w z next r
+              rw e (getD-set-same marks x v 0 (omega arith)) ∙ u ∙ sym (ap markOf (lookup-new run i k (own ∙ sym e) none))
 
 ruleset laws = (start, over, marked, needs)
 
@@ -119,7 +114,11 @@ loop-less c = search laws
 
 loop-again : tie.Need-loop-again Inv-loop μ-loop
 unfolding blankNode
-loop-again c = ⊎-elim (λ w. search laws) (λ w. stays _ _ _ (w .1) _ (w .0 .left) _ (search laws) (search laws) (search laws)) (c .if1 .came)
+loop-again c =
+    ⊎-elim
+    (λ w. search laws)
+    (λ w. kept _ _ _ (search laws) _ (search laws) (w .0 .left) _ (w .1) (search laws))
+    (c .if1 .came)
 
 returns : tie.Need-returns Inv-loop μ-loop
 returns c = search laws

@@ -2,21 +2,17 @@
 use borrow.Author.Needs.{needs}
 use Prim.Native.Nat.{ℕ}
 use mathlib.Core.Path.{_≡_, refl, sym, ap, _∙_}
-use mathlib.Core.Bool.{Bool, true, false, not}
+use mathlib.Core.Bool.{Bool, true, not}
 use mathlib.Core.List.{List}
 use lib.ListN.{getD}
 use borrow.Author.Tests.{eq-eqb, ne-eqb}
 use Rattle.sources.specs.declared.Found.{Found}
 use Rattle.sources.specs.declared.Found.the-variants.{Nothing, Entity}
 use Rattle.sources.specs.Lookup.{sourceNumber, foundBy}
+use Rattle.sources.specs.LookupLaws.{entity-refuses}
 use Rattle.sources.specs.Breaches.{refuses, wrongBy}
 use Rattle.sources.proofs.wrong_source.Statement.{statement}
 use Rattle.sources.proofs.wrong_source.Tie as tie
-
-entity-refuses : (b : Bool) → not b ≡ refuses (Entity b)
-unfolding sourceNumber
-entity-refuses true = refl
-entity-refuses false = refl
 
 module _ (marks : List ℕ) (x : ℕ) where
   zero-id : x ≡ 0 → true ≡ wrongBy marks x
