@@ -54,10 +54,10 @@ fn directory(run: Run) -> [u8; 256]
     let mut marks = [0u8; 256];
     let mut i: usize = 0;
     while i < n {
-        let node = run.nodes[i];
-        let id = wide(node.id);
+        let bearer = run.nodes[i];
+        let id = wide(bearer.id);
         if marks[id] == 0 {
-            marks[id] = mark_of(node.feeds);
+            marks[id] = mark_of(bearer.feeds);
         }
         i += 1;
     }
@@ -117,9 +117,9 @@ pub fn check_sources(config: &[u8], run: Run) -> Place
     let marks = directory(run);
     let mut i: usize = 0;
     while i < n {
-        let node = run.nodes[i];
-        if any_wrong(&marks, entities::sources(config, node)) {
-            return Place::At(node.place);
+        let user = run.nodes[i];
+        if any_wrong(&marks, entities::sources(config, user)) {
+            return Place::At(user.place);
         }
         i += 1;
     }

@@ -70,11 +70,11 @@ directory-requires c κs = search laws
 loop-holds : tie.Need-loop-holds Inv-loop μ-loop
 loop-holds c = start _ _ _ (search laws) (λ k. omega (arith, c .before .before .shared-slice-known .given k))
 
-mul-node : tie.Need-mul-node Inv-loop μ-loop
-mul-node c = search laws
+mul-user : tie.Need-mul-user Inv-loop μ-loop
+mul-user c = search laws
 
-element-copy-out-node : tie.Need-element-copy-out-node Inv-loop μ-loop
-element-copy-out-node c = search laws
+element-copy-out-user : tie.Need-element-copy-out-user Inv-loop μ-loop
+element-copy-out-user c = search laws
 
 sources-requires : tie.Need-sources-requires Inv-loop μ-loop
 sources-requires c κs = search laws
@@ -108,8 +108,8 @@ check-sources-spec =
     count-requires
     directory-requires
     loop-holds
-    mul-node
-    element-copy-out-node
+    mul-user
+    element-copy-out-user
     sources-requires
     any-wrong-requires
     returns

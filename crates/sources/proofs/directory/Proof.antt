@@ -88,11 +88,11 @@ count-requires c κs = search laws
 loop-holds : tie.Need-loop-holds Inv-loop μ-loop
 loop-holds c = search laws
 
-mul-node : tie.Need-mul-node Inv-loop μ-loop
-mul-node c = search laws
+mul-bearer : tie.Need-mul-bearer Inv-loop μ-loop
+mul-bearer c = search laws
 
-element-copy-out-node : tie.Need-element-copy-out-node Inv-loop μ-loop
-element-copy-out-node c = search laws
+element-copy-out-bearer : tie.Need-element-copy-out-bearer Inv-loop μ-loop
+element-copy-out-bearer c = search laws
 
 wide-requires : tie.Need-wide-requires Inv-loop μ-loop
 wide-requires c κs = search laws
@@ -131,8 +131,8 @@ directory-spec =
     μ-loop
     count-requires
     loop-holds
-    mul-node
-    element-copy-out-node
+    mul-bearer
+    element-copy-out-bearer
     wide-requires
     array-read-if1
     mark-of-requires
