@@ -1,12 +1,12 @@
 -- Lookup by ID. Rules speak of entities by ID; the reader marks, once for a run, which IDs are borne and which of those may be sources.
---   lookup run x     ==  the first entity of the run that bears the ID x, by whether it has an output
+--   lookupBelow run n x  ==  the first of the run's first n entities that bears the ID x, by whether it has an output
+--   lookup run x     ==  the same of all its entities
+--   sourceNumber f   ==  document 01's number for a source by what the lookup found: 11 where it is unknown or has no output, 0 else
 --   markOf f         ==  what is marked: 0 nothing, 1 an entity with no output, 2 one with an output
---   foundBy m        ==  what the mark m says; found-mark: a mark says what was marked
+--   foundBy m        ==  what the mark m says
 --   directoryOf run  ==  the marks of all 256 IDs
---   sourceNumber f   ==  the number that a source gives by what the lookup found: 11 where nothing, or an entity with no output, was found; 0 else
 use Prim.Native.Nat.{ℕ}
-use mathlib.Core.Path.{_≡_, refl}
-use mathlib.Core.Bool.{Bool, true, false}
+use mathlib.Core.Bool.{true, false}
 use mathlib.Core.List.{List}
 use lib.Dec.{eqb}
 use Rattle.ground.specs.Pick.{pick}
@@ -17,8 +17,16 @@ use Rattle.entities.specs.Run.{held, idAt, feedsAt}
 use Rattle.sources.specs.declared.Found.{Found}
 use Rattle.sources.specs.declared.Found.the-variants.{Nothing, Entity}
 
-unfoldable pub lookup : Run → ℕ → Found
-lookup run x = firstIn (λ i. eqb (idAt run i) x) (λ i. Entity (feedsAt run i)) Nothing 0 (held run)
+unfoldable pub lookupBelow : Run → ℕ → ℕ → Found
+lookupBelow run n x = firstIn (λ i. eqb (idAt run i) x) (λ i. Entity (feedsAt run i)) Nothing 0 n
+
+abbrev pub lookup : Run → ℕ → Found
+lookup run x = lookupBelow run (held run) x
+
+unfoldable pub sourceNumber : Found → ℕ
+sourceNumber Nothing = 11
+sourceNumber (Entity false) = 11
+sourceNumber (Entity true) = 0
 
 unfoldable pub markOf : Found → ℕ
 markOf Nothing = 0
@@ -28,16 +36,5 @@ markOf (Entity true) = 2
 unfoldable pub foundBy : ℕ → Found
 foundBy m = pick (eqb m 0) Nothing (Entity (eqb m 2))
 
-pub found-mark : (f : Found) → foundBy (markOf f) ≡ f
-unfolding foundBy markOf
-found-mark Nothing = refl
-found-mark (Entity false) = refl
-found-mark (Entity true) = refl
-
 unfoldable pub directoryOf : Run → List ℕ
 directoryOf run = tabulate 256 (λ x. markOf (lookup run x))
-
-unfoldable pub sourceNumber : Found → ℕ
-sourceNumber Nothing = 11
-sourceNumber (Entity false) = 11
-sourceNumber (Entity true) = 0

@@ -2,12 +2,12 @@
 // this crate promises to the layer above: each function answers, for every configuration and every run whatever, as the definitions of
 // specs/ say. It looks at the first entities of a run, as many as the run counts and at most 32.
 ghost use mathlib.Core.Path.{_≡_};
-ghost use mathlib.Core.Bool.{not};
+ghost use Prim.Native.Nat.{_<_};
 ghost use lib.ListN.{getD};
 ghost use Rattle.ground.specs.Lists.{any};
-ghost use Rattle.sources.specs.Lookup.{directoryOf, foundBy};
+ghost use Rattle.sources.specs.Lookup.{markOf, directoryOf, foundBy};
+ghost use Rattle.sources.specs.declared.Found.the-variants.{Entity};
 ghost use Rattle.sources.specs.Breaches.{wrongBy, breach10, breach11};
-use entities::MOST_ENTITIES;
 use entities::Run;
 use ground::Place;
 
@@ -54,10 +54,10 @@ fn directory(run: Run) -> [u8; 256]
     let mut marks = [0u8; 256];
     let mut i: usize = 0;
     while i < n {
-        let node = run.nodes[i];
-        let id = wide(node.id);
+        let bearer = run.nodes[i];
+        let id = wide(bearer.id);
         if marks[id] == 0 {
-            marks[id] = mark_of(node.feeds);
+            marks[id] = mark_of(bearer.feeds);
         }
         i += 1;
     }
@@ -65,7 +65,9 @@ fn directory(run: Run) -> [u8; 256]
 }
 
 // The mark of an entity, by whether it has an output.
-fn mark_of(feeds: bool) -> u8 {
+fn mark_of(feeds: bool) -> u8
+    ensures { λ r. ⌜ r ≡ markOf (Entity feeds) ⌝ }
+{
     if feeds { 2 } else { 1 }
 }
 
@@ -115,9 +117,9 @@ pub fn check_sources(config: &[u8], run: Run) -> Place
     let marks = directory(run);
     let mut i: usize = 0;
     while i < n {
-        let node = run.nodes[i];
-        if any_wrong(&marks, entities::sources(config, node)) {
-            return Place::At(node.place);
+        let user = run.nodes[i];
+        if any_wrong(&marks, entities::sources(config, user)) {
+            return Place::At(user.place);
         }
         i += 1;
     }
