@@ -1,3 +1,5 @@
 pub mod Rules
 pub mod Order
 pub mod Breach
+pub mod OrderLaws
+pub mod Marks
