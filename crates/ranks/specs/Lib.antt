@@ -3,3 +3,4 @@ pub mod Order
 pub mod Breach
 pub mod OrderLaws
 pub mod Marks
+pub mod Ordering
