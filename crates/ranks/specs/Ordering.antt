@@ -174,7 +174,7 @@ module _ (s : List ℕ) (run : Run) (n : ℕ) where
               let q : x ≡ ids i = v .0 ∙ ap (λ m. m .id) is in
               let w : ids i < 256 = rw (← q) (v .1) in
               let p : map (nodeAt run) (with (g .o) i) ≡ map (nodeAt run) (g .o) ++ (node ∷ []) =
-                  map-append (nodeAt run) (g .o) (i ∷ []) ∙ ap (λ (m : Node). map (nodeAt run) (g .o) ++ (m ∷ [])) (sym is) in
+              map-append (nodeAt run) (g .o) (i ∷ []) ∙ ap (λ (m : Node). map (nodeAt run) (g .o) ++ (m ∷ [])) (sym is) in
               let r : count ≡ length (map (nodeAt run) (g .o)) = g .counted ∙ sym (length-map (g .o) (nodeAt run)) in
               record {
                 whole = g .whole;

@@ -16,12 +16,9 @@ use Rattle.entities.specs.declared.Run.{Run}
 use Rattle.entities.specs.Run.{held, idAt, mostEntities, blankNode}
 use Rattle.ranks.specs.Breach.{idsOf, borneIn}
 use Rattle.ranks.specs.Marks.{Marks, marks-none, marks-more, marks-table}
+use Rattle.ranks.specs.Spare.{zeros}
 use Rattle.ranks.proofs.borne.Statement.{statement}
 use Rattle.ranks.proofs.borne.Tie as tie
-
--- what a read past the array's end would give
-abbrev zeros : Node
-zeros = record { place = 0; first = 0; pins = 0; id = 0; feeds = false }
 
 module _ (run : Run) (n : ℕ) where
   -- the entities before index i are marked

@@ -18,12 +18,9 @@ use Rattle.entities.specs.declared.Node.{Node}
 use Rattle.entities.specs.declared.Run.{Run}
 use Rattle.entities.specs.Run.{held, idAt, placeAt, mostEntities, blankNode}
 use Rattle.ranks.specs.Breach.{idsOf, borneIn, breach12}
+use Rattle.ranks.specs.Spare.{zeros}
 use Rattle.ranks.proofs.check_ranks.Statement.{statement}
 use Rattle.ranks.proofs.check_ranks.Tie as tie
-
--- what a read past the array's end would give
-abbrev zeros : Node
-zeros = record { place = 0; first = 0; pins = 0; id = 0; feeds = false }
 
 module _ (run : Run) (n : ℕ) (marks : List Bool) where
   -- the IDs of the entities before index i are marked
