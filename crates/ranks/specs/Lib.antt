@@ -5,3 +5,4 @@ pub mod Spare
 pub mod OrderLaws
 pub mod Marks
 pub mod Ordering
+pub mod RuleLaws

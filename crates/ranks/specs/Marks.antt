@@ -14,7 +14,7 @@ use lib.Dec.{eqb}
 use lib.ListN.{length, getD, set, replicate, length-set}
 use lib.Seq.{getD-set-same, getD-set-other, ext-getD}
 use Rattle.ground.specs.Pick.{decided, reads-eq}
-use Rattle.graph.specs.Members.{_∈_, all, all-same, mem, mem-in, mem-same}
+use Rattle.graph.specs.Members.{all-same, mem, mem-in, mem-same}
 use Rattle.graph.specs.Tables.{tabulate, getD-tabulate, length-tabulate}
 use Rattle.graph.specs.Passes.{borne, joins}
 use Rattle.graph.specs.Grown.{with, borne-more, borne-last, borne-cases}
@@ -64,4 +64,5 @@ module _ (ids : ℕ → ℕ) (o : List ℕ) (marks : List Bool) (h : Marks ids o
       → fresh marks s n ≡ joins ids sources o i
   unfolding fresh joins
   marks-joins s sources i n e f =
-      rw (e, f, h .hold (ids i)) (ap (λ (b : Bool). not (mem (ids i) (borne ids o)) && b) (all-same (marked marks) (λ x. mem x (borne ids o)) (sources i) (λ x m. h .hold x)))
+      let all-alike = all-same (marked marks) (λ x. mem x (borne ids o)) (sources i) (λ x m. h .hold x) in
+      rw (e, f, h .hold (ids i)) (ap (λ (b : Bool). not (mem (ids i) (borne ids o)) && b) all-alike)

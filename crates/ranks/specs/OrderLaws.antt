@@ -8,10 +8,9 @@ use mathlib.Core.Path.{_≡_, refl, sym, ap, _∙_}
 use mathlib.Core.List.{List, [], _∷_, map}
 use native.Mathlib.Omega.{arith}
 use native.Mathlib.Nat.{le-trans, le-of-suc-le-suc, min-le-right, min-eq-left}
-use lib.ListN.{length, getD, length-map}
-use lib.Seq.{ext-getD}
-use Rattle.ground.specs.Lists.{pad, pad-at}
-use Rattle.graph.specs.Tables.{tabulate, below, tabulate-same, tabulate-getD, map-tabulate}
+use lib.ListN.{length, getD}
+use Rattle.ground.specs.Lists.{pad-at}
+use Rattle.graph.specs.Tables.{below, tabulate-same, tabulate-getD, map-tabulate}
 use Rattle.graph.specs.Passes.{borne}
 use Rattle.graph.specs.Grown.{order-grown, grown-length}
 use Rattle.entities.specs.declared.Run.{Run}
@@ -43,6 +42,7 @@ module _ (s : List ℕ) (run : Run) where
   ordered-ids =
       ap (λ (n : ℕ). map (idAt (ordered s run)) (below n)) ordered-held
       ∙ map-tabulate (idAt (ordered s run)) (length (orderIn s run)) (λ i. i)
-      ∙ tabulate-same (length (orderIn s run)) (idAt (ordered s run)) (λ k. idAt run (getD (orderIn s run) k 0)) (λ k h. ap (λ n. n .id) (ordered-node k h))
+      ∙ tabulate-same (length (orderIn s run)) (idAt (ordered s run)) (λ k. idAt run (getD (orderIn s run) k 0))
+      (λ k h. ap (λ n. n .id) (ordered-node k h))
       ∙ sym (map-tabulate (idAt run) (length (orderIn s run)) (λ k. getD (orderIn s run) k 0))
       ∙ ap (map (idAt run)) (tabulate-getD (orderIn s run) 0)

@@ -8,7 +8,7 @@
 --   ordering-next      ==  a pass that added something is over, and the next begins
 --   ordering-falls     ==  .. with fewer entities left to join
 --   ordering-full, ordering-still  ==  the ways to end: all n are in, or a pass has added nothing
-use Prim.Native.Nat.{ℕ, zero, suc, _+_, _-_, _*_, _≤_, _<_}
+use Prim.Native.Nat.{ℕ, suc, _+_, _-_, _*_, _≤_, _<_}
 use mathlib.Core.Path.{_≡_, refl, sym, ap, _∙_}
 use mathlib.Core.List.{List, [], _∷_, _++_, map, map-append}
 use mathlib.Core.Logic.{⊎-elim}
@@ -17,7 +17,7 @@ use native.Mathlib.Omega.{arith}
 use native.Mathlib.Numerals.{add-one}
 use native.Mathlib.Nat.{min-le-right}
 use lib.Dec.{leb}
-use lib.ListN.{length, getD, set, replicate, length-map}
+use lib.ListN.{length, set, replicate, length-map}
 use Rattle.ground.specs.Lists.{pad, pad-blank, pad-set}
 use Rattle.ground.specs.Pick.{decided, reads-le}
 use Rattle.graph.specs.Passes.{joins, step, passFrom, passes, orderOf}
@@ -30,7 +30,8 @@ use Rattle.ranks.specs.Order.{orderIn, ordered, fresh}
 use Rattle.ranks.specs.Marks.{Marks, marks-none, marks-more, marks-joins}
 
 -- a quiet order after however many passes is the order
-settled : (ids : ℕ → ℕ) (sources : ℕ → List ℕ) (n k : ℕ) → Quiet ids sources n (passes ids sources n k) → passes ids sources n k ≡ orderOf ids sources n
+settled : (ids : ℕ → ℕ) (sources : ℕ → List ℕ) (n k : ℕ) → Quiet ids sources n (passes ids sources n k)
+    → passes ids sources n k ≡ orderOf ids sources n
 settled ids sources n k q =
     ⊎-elim (λ (l : k ≤ n). sym (passes-stay ids sources n k n l q))
     (λ (f : k ≤ n → ⊥). passes-stay ids sources n n k (omega arith) (order-quiet ids sources n))
@@ -141,7 +142,8 @@ module _ (s : List ℕ) (run : Run) (n : ℕ) where
       unfolding passFrom
       turn =
           let q : n - i ≡ suc (n - (i + 1)) = omega arith in
-          ap (λ (j : ℕ). passFrom ids srcs j i (g .o)) q ∙ ap (λ (j : ℕ). passFrom ids srcs (n - (i + 1)) j (step ids srcs (g .o) i)) (sym (add-one i))
+          ap (λ (j : ℕ). passFrom ids srcs j i (g .o)) q
+          ∙ ap (λ (j : ℕ). passFrom ids srcs (n - (i + 1)) j (step ids srcs (g .o) i)) (sym (add-one i))
 
       module _ (node : Node) (is : node ≡ nodeAt run i) (b : Bool) (e : b ≡ fresh marks s node) where
         tested : b ≡ joins ids srcs (g .o) i

@@ -1,7 +1,7 @@
 -- The entities are looked at one by one, and the ID of each is marked: those looked at, and those that are left, are the run's.
 use borrow.Author.Needs.{needs}
 use Prim.Native.Nat.{ℕ, suc, _+_, _-_, _<_, _≤_}
-use mathlib.Core.Path.{_≡_, refl, sym, ap, _∙_}
+use mathlib.Core.Path.{_≡_, sym, ap, _∙_}
 use mathlib.Core.List.{List, [], _∷_, _++_, map, append-nil, append-assoc}
 use mathlib.Core.Bool.{Bool, true, false}
 use native.Mathlib.Omega.{arith}
@@ -11,10 +11,9 @@ use lib.ListN.{getD, set, replicate}
 use Rattle.graph.specs.Members.{mem}
 use Rattle.graph.specs.Tables.{tabulate, tabulateFrom, below}
 use Rattle.graph.specs.Grown.{with}
-use Rattle.entities.specs.declared.Node.{Node}
 use Rattle.entities.specs.declared.Run.{Run}
 use Rattle.entities.specs.Run.{held, idAt, mostEntities, blankNode}
-use Rattle.ranks.specs.Breach.{idsOf, borneIn}
+use Rattle.ranks.specs.Breach.{borneIn}
 use Rattle.ranks.specs.Marks.{Marks, marks-none, marks-more, marks-table}
 use Rattle.ranks.specs.Spare.{zeros}
 use Rattle.ranks.proofs.borne.Statement.{statement}
@@ -34,14 +33,22 @@ module _ (run : Run) (n : ℕ) where
   start e =
       let h = min-le-right (run .count) mostEntities in
       let q : n ≡ n - 0 = omega arith in
-      record { whole = e; few = omega arith; low = omega arith; o = []; same = ap (λ (k : ℕ). tabulateFrom 0 k (λ x. x)) q; hold = marks-none (idAt run) }
+      record {
+        whole = e;
+        few = omega arith;
+        low = omega arith;
+        o = [];
+        same = ap (λ (k : ℕ). tabulateFrom 0 k (λ x. x)) q;
+        hold = marks-none (idAt run);
+      }
 
   module _ (marks : List Bool) (i : ℕ) (g : Gone marks i) where
     over : n ≤ i → marks ≡ borneIn run
     unfolding borneIn tabulateFrom
     over h =
         let z : n - i ≡ 0 = omega arith in
-        let e : below (held run) ≡ g .o = ap below (sym (g .whole)) ∙ g .same ∙ ap (λ (k : ℕ). g .o ++ tabulateFrom i k (λ x. x)) z ∙ append-nil (g .o) in
+        let r : below n ≡ g .o = g .same ∙ ap (λ (k : ℕ). g .o ++ tabulateFrom i k (λ x. x)) z ∙ append-nil (g .o) in
+        let e : below (held run) ≡ g .o = ap below (sym (g .whole)) ∙ r in
         marks-table (idAt run) (g .o) marks (g .hold) ∙ ap (λ (o : List ℕ). tabulate 256 (λ x. mem x (map (idAt run) o))) (sym e)
 
     module _ (l : i < n) (x : ℕ) (v : (x ≡ getD (run .nodes) i zeros .id) × (x < 256)) where
@@ -55,7 +62,8 @@ module _ (run : Run) (n : ℕ) where
             few = g .few;
             low = omega arith;
             o = with (g .o) i;
-            same = g .same ∙ ap (λ (k : ℕ). g .o ++ tabulateFrom i k (λ x. x)) q ∙ sym (append-assoc (g .o) (i ∷ []) (tabulateFrom (suc i) (n - (i + 1)) (λ x. x)))
+            same = g .same ∙ ap (λ (k : ℕ). g .o ++ tabulateFrom i k (λ x. x)) q
+                ∙ sym (append-assoc (g .o) (i ∷ []) (tabulateFrom (suc i) (n - (i + 1)) (λ x. x)))
                 ∙ ap (λ (k : ℕ). with (g .o) i ++ tabulateFrom k (n - (i + 1)) (λ x. x)) (sym (add-one i));
             hold = rw (v .0) (marks-more (idAt run) (g .o) marks (g .hold) i s);
           }

@@ -2,7 +2,7 @@
 use borrow.Author.Needs.{needs}
 use borrow.Author.Tests.{not-false}
 use Prim.Native.Nat.{ℕ, _+_, _-_, _<_, _≤_}
-use mathlib.Core.Path.{_≡_, refl, sym, ap, _∙_}
+use mathlib.Core.Path.{_≡_, sym, ap, _∙_}
 use mathlib.Core.List.{List}
 use mathlib.Core.Logic.{⊎-elim}
 use mathlib.Core.Bool.{Bool, true, false, not}
@@ -14,7 +14,6 @@ use Rattle.ground.specs.declared.Place.the-variants.{Nowhere, At}
 use Rattle.ground.specs.Places.{firstIn, first-none, first-some}
 use Rattle.graph.specs.Members.{mem}
 use Rattle.graph.specs.Tables.{getD-tabulate}
-use Rattle.entities.specs.declared.Node.{Node}
 use Rattle.entities.specs.declared.Run.{Run}
 use Rattle.entities.specs.Run.{held, idAt, placeAt, mostEntities, blankNode}
 use Rattle.ranks.specs.Breach.{idsOf, borneIn, breach12}
@@ -41,7 +40,9 @@ module _ (run : Run) (n : ℕ) (marks : List Bool) where
 
     tested : (j : ℕ) → idAt run j < 256 → out j ≡ not (getD marks (idAt run j) false)
     unfolding borneIn
-    tested j l = ap not (sym (getD-tabulate 256 (λ x. mem x (idsOf order)) (idAt run j) false l)) ∙ ap (λ (m : List Bool). not (getD m (idAt run j) false)) (sym told)
+    tested j l =
+        ap not (sym (getD-tabulate 256 (λ x. mem x (idsOf order)) (idAt run j) false l))
+        ∙ ap (λ (m : List Bool). not (getD m (idAt run j) false)) (sym told)
 
     module _ (i : ℕ) (g : Gone i) where
       passed : (j : ℕ) → j < i → out j ≡ false

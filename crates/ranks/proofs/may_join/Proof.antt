@@ -1,9 +1,9 @@
 -- By its two ways out: the ID is borne already, or it hangs on the sources.
 use borrow.Author.Needs.{needs}
 use Prim.Native.Nat.{ℕ, _<_}
-use mathlib.Core.Path.{_≡_, refl, sym, ap, _∙_}
+use mathlib.Core.Path.{_≡_, refl}
 use mathlib.Core.List.{List}
-use mathlib.Core.Bool.{Bool, true, false, not, _&&_}
+use mathlib.Core.Bool.{Bool, true, false}
 use lib.ListN.{getD}
 use Rattle.graph.specs.Members.{all}
 use Rattle.entities.specs.declared.Node.{Node}
@@ -17,7 +17,8 @@ module _ (marks : List Bool) (config : List ℕ) (node : Node) (x : ℕ) (v : (x
   unfolding fresh
   old e = let q : getD marks (node .id) false ≡ true = rw (v .0) at e in rw q refl
 
-  new : getD marks x false ≡ false → (ids : List ℕ) → ids ≡ sourcesOf config node → (r : Bool) → r ≡ all (marked marks) ids → r ≡ fresh marks config node
+  new : getD marks x false ≡ false → (ids : List ℕ) → ids ≡ sourcesOf config node → (r : Bool) → r ≡ all (marked marks) ids
+      → r ≡ fresh marks config node
   unfolding fresh
   new e ids i r f = let q : getD marks (node .id) false ≡ false = rw (v .0) at e in rw (q, ← i) f
 

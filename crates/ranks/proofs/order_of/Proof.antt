@@ -1,16 +1,15 @@
 -- Passes, until one adds nothing or all are in: the laws of the loop are in specs/Ordering.
 use borrow.Author.Needs.{needs}
-use Prim.Native.Nat.{ℕ, _+_, _-_, _*_, _<_, _≤_}
-use mathlib.Core.Path.{_≡_, refl, sym, ap, _∙_}
+use Prim.Native.Nat.{ℕ, _+_, _-_, _*_, _<_}
+use mathlib.Core.Path.{_≡_}
 use mathlib.Core.List.{List}
 use mathlib.Core.Logic.{⊎-elim}
 use mathlib.Core.Bool.{Bool, true, false}
-use native.Mathlib.Omega.{arith}
-use lib.ListN.{getD, set}
+use lib.ListN.{set}
 use Rattle.entities.specs.declared.Node.{Node}
 use Rattle.entities.specs.declared.Run.{Run}
-use Rattle.entities.specs.Run.{held, nodeAt, blankNode}
-use Rattle.ranks.specs.Order.{ordered, fresh}
+use Rattle.entities.specs.Run.{nodeAt}
+use Rattle.ranks.specs.Order.{fresh}
 use Rattle.ranks.specs.Ordering.{Ordering, ordering-start, ordering-room, ordering-joined, ordering-left, ordering-next, ordering-falls, ordering-full, ordering-still}
 use Rattle.ranks.specs.Spare.{node-read}
 use Rattle.ranks.proofs.order_of.Statement.{statement}
