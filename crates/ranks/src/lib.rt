@@ -3,7 +3,6 @@
 // carries no meaning: a source that stands after its user costs another pass, nothing else. What this crate promises to the
 // layer above: each public function answers, for every configuration and every run whatever, as the definitions of specs/ say.
 ghost use mathlib.Core.Path.{_≡_};
-ghost use mathlib.Core.Bool.{not, _&&_};
 ghost use Prim.Native.Nat.{_<_};
 ghost use Rattle.graph.specs.Members.{all};
 ghost use Rattle.ranks.specs.Order.{marked, fresh, ordered};
