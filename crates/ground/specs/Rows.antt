@@ -8,6 +8,7 @@
 --   Answers t r       ==  r is put together row by row, each row by what decides it
 --   answers-kept      ==  THE LAWS: then r is 0 and 0 exactly where every rule is kept,
 --   answers-broken    ==  and number n at place p exactly where the first row that is not kept has number n and is broken at p
+--   all-none          ==  where every rule is kept, r refuses nothing
 --   Numbered t        ==  no row has number 0
 --   kept-decides      ==  a rule with one place, decided by a test
 use Prim.Native.Nat.{ℕ}
@@ -54,9 +55,9 @@ refusal-number e = ap (λ (x : Refusal). x .number) e
 refusal-place : {r s : Refusal} → r ≡ s → r .place ≡ s .place
 refusal-place e = ap (λ (x : Refusal). x .place) e
 
-of-kept : (t : Rows) (r : Refusal) → Answers t r → AllKept t → r ≡ none
-of-kept end r a k = a
-of-kept (row n K B behind) r (b, rest, e, d, a) (k, ks) = e ∙ refuse-on n rest (d .kept .1 k) ∙ of-kept (behind k) rest (a k) ks
+pub all-none : (t : Rows) (r : Refusal) → Answers t r → AllKept t → r ≡ none
+all-none end r a k = a
+all-none (row n K B behind) r (b, rest, e, d, a) (k, ks) = e ∙ refuse-on n rest (d .kept .1 k) ∙ all-none (behind k) rest (a k) ks
 
 of-broken : (t : Rows) (r : Refusal) (m p : ℕ) → Answers t r → FirstBroken t m p → r ≡ record { number = m; place = p }
 of-broken end r m p a f = absurd f
@@ -83,7 +84,7 @@ numbered (row n K B behind) m p h (inr (k, f)) e = numbered (behind k) m p (h .1
 
 module _ (t : Rows) (r : Refusal) (h : Numbered t) (a : Answers t r) where
   pub answers-kept : (r .number ≡ 0) ↔ AllKept t
-  answers-kept = (of (outcome t r a), λ k. refusal-number (of-kept t r a k))
+  answers-kept = (of (outcome t r a), λ k. refusal-number (all-none t r a k))
     where
       of : AllKept t ⊎ ((m : ℕ) × (p : ℕ) × FirstBroken t m p) → r .number ≡ 0 → AllKept t
       of (inl k) e = k
@@ -93,7 +94,7 @@ module _ (t : Rows) (r : Refusal) (h : Numbered t) (a : Answers t r) where
   answers-broken m p z = (of (outcome t r a), of-broken t r m p a)
     where
       of : AllKept t ⊎ ((n : ℕ) × (q : ℕ) × FirstBroken t n q) → r ≡ record { number = m; place = p } → FirstBroken t m p
-      of (inl k) e = absurd (z (sym (refusal-number e) ∙ refusal-number (of-kept t r a k)))
+      of (inl k) e = absurd (z (sym (refusal-number e) ∙ refusal-number (all-none t r a k)))
       of (inr (n, q, f)) e =
           let g : _≡_ {A = Refusal} (record { number = n; place = q }) (record { number = m; place = p }) = sym (of-broken t r n q a f) ∙ e in
           rw (← (refusal-number g), ← (refusal-place g)) f
