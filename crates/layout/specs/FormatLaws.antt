@@ -7,7 +7,7 @@
 --   fed-inside       ==  and they end inside d
 --   word-two         ==  a number is its two bytes, put together
 --   here-at, after-at, take-after, drop-after, open-at  ==  a number or a list that stands at offset k, and what stands behind it
---   stretch-length   ==  a part of d that ends inside it is as long as it says
+--   stretch-length   ==  a part of d that ends inside it is as long as it says; one-at: a part of one byte
 use Prim.{tt}
 use Prim.Native.Nat.{ℕ, zero, suc, _+_, _-_, _≤_, _<_}
 use native.Mathlib.Numerals.{add-one}
@@ -216,7 +216,7 @@ again (padded low high F) d k e =
 
 -- ---- the sources
 
-one-at : (d : List ℕ) (k : ℕ) → k < length d → at.byte d k ∷ [] ≡ take 1 (drop k d)
+pub one-at : (d : List ℕ) (k : ℕ) → k < length d → at.byte d k ∷ [] ≡ take 1 (drop k d)
 one-at d k h = sym (ap (λ (l : List ℕ). take 1 l) (drop-cons d k 0 h))
 
 -- a stretch, by its own length

@@ -39,14 +39,18 @@ numberOf feature = 6
 abbrev pub cluster : Format → Format
 cluster F = byte (word (byte F))
 
--- ID, terminal type, associated terminal, cluster, name; ID, terminal type, associated terminal, source, name; ID, p, p sources, cluster,
--- N control bytes, name; ID, p, p sources, name; ID, p, 0, p sources, name; ID, source, control size n, masks, name
 abbrev pub formatOf : Kind → Format
+-- ID, terminal type (2), associated terminal, cluster (4), name
 formatOf input = byte (word (byte (cluster last)))
+-- ID, terminal type (2), associated terminal, source, name
 formatOf output = byte (word (byte (source last)))
+-- ID, pins p, p sources, cluster (4), N control bytes, name
 formatOf mixer = byte (sources 1 mostPins (cluster rest))
+-- ID, pins p, p sources, name
 formatOf selector = byte (sources 1 mostPins last)
+-- ID, pins p, 0, p sources, name
 formatOf printed = byte (padded 1 mostPins last)
+-- ID, source, control size n, masks, name
 formatOf feature = byte (source (ranged 1 4 rest))
 
 abbrev pub kinds : List Kind

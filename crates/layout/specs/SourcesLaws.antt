@@ -16,12 +16,13 @@ use mathlib.Core.Path.{_≡_, refl, sym, ap, _∙_}
 use mathlib.Core.Logic.{⊎-elim}
 use mathlib.Core.Option.{Option, none, some}
 use mathlib.Core.List.{List, [], _∷_, List·Memᴰ, List·Memᴰ·not-nil, List·Memᴰ·cases-cons}
-use lib.ListN.{length, take, drop, length-take, length-drop}
-use lib.Seq.{getD-take, getD-drop, drop-cons}
+use lib.ListN.{length, take, drop, length-take}
+use lib.Seq.{getD-take, getD-drop}
 use native.Mathlib.Omega.{arith}
 use Rattle.ground.specs.Numbers.{byte}
 use Rattle.layout.specs.declared.Entity.{Entity}
 use Rattle.layout.specs.declared.Entity.the-variants.{Unknown, Input, Output, Mixer, Selector, Printed, Feature}
+use Rattle.layout.specs.FormatLaws.{one-at, stretch-length}
 use Rattle.layout.specs.Layouts.{mostPins, Pins}
 use Rattle.layout.specs.Fields as fields
 use Rattle.layout.specs.Fields.{Fields, fieldsOf, fedBy, fedFrom}
@@ -107,9 +108,6 @@ sources-within d = go (fieldsOf d) refl
         omega arith
     go (some f) e = fields-within d f e
 
-one-at : (d : List ℕ) (k : ℕ) → k < length d → take 1 (drop k d) ≡ byte d k ∷ []
-one-at d k h = ap (λ (l : List ℕ). take 1 l) (drop-cons d k 0 h)
-
 pub sources-listed : (d : List ℕ) → sourceIds d ≡ sourceList (entityOf d) d
 unfolding sourcesFrom pinsOf sourceList
 sources-listed d = of (told d)
@@ -117,11 +115,11 @@ sources-listed d = of (told d)
     of : {e : Entity} → Told d e → take (pinsOf e) (drop (sourcesFrom e) d) ≡ sourceList e d
     of (unknown n) = refl
     of (input k l) = refl
-    of (output k l) = one-at d 7 (omega arith)
+    of (output k l) = sym (one-at d 7 (omega arith))
     of (mixer k q l) = refl
     of (selector k q l) = refl
     of (printed k q l z) = refl
-    of (feature k q l) = one-at d 4 (omega arith)
+    of (feature k q l) = sym (one-at d 4 (omega arith))
 
 pub pins-few : (d : List ℕ) → pinsOf (entityOf d) ≤ mostPins
 unfolding pinsOf
@@ -135,9 +133,6 @@ pins-few d = of (told d)
     of (selector k q l) = q .1
     of (printed k q l z) = q .1
     of (feature k q l) = omega arith
-
-stretch-length : (d : List ℕ) (a n : ℕ) → a + n ≤ length d → length (take n (drop a d)) ≡ n
-stretch-length d a n h = simp (length-take, length-drop) (omega arith)
 
 pub sources-length : (d : List ℕ) → length (sourceList (entityOf d) d) ≡ pinsOf (entityOf d)
 unfolding sourceList pinsOf
