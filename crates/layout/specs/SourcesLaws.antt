@@ -5,6 +5,7 @@
 --   sources-within  ==  the sources of what a descriptor is stand inside it
 --   pins-fields, from-fields, sources-fields  ==  as many pins as the fields of a descriptor have sources; they begin at the offset that the
 --                       format says; the part of the descriptor where they stand is the fields' list
+--   ids-length, id-at, id-below  ==  the IDs as a part of the descriptor: as many as pins; the ID of pin j + 1 is the byte j behind the first; bytes
 --   sources-listed  ==  the part of the descriptor where they stand is their list
 --   pins-few        ==  at most eight pins
 --   sources-few     ==  so at most eight sources
@@ -108,6 +109,12 @@ sources-within d = go (fieldsOf d) refl
         omega arith
     go (some f) e = fields-within d f e
 
+pub ids-length : (d : List ℕ) → length (sourceIds d) ≡ pinsOf (entityOf d)
+ids-length d = stretch-length d (sourcesFrom (entityOf d)) (pinsOf (entityOf d)) (sources-within d)
+
+pub id-at : (d : List ℕ) (j : ℕ) → j < pinsOf (entityOf d) → byte (sourceIds d) j ≡ byte d (sourcesFrom (entityOf d) + j)
+id-at d j h = getD-take (pinsOf (entityOf d)) (drop (sourcesFrom (entityOf d)) d) j 0 h ∙ getD-drop (sourcesFrom (entityOf d)) d j 0
+
 pub sources-listed : (d : List ℕ) → sourceIds d ≡ sourceList (entityOf d) d
 unfolding sourcesFrom pinsOf sourceList
 sources-listed d = of (told d)
@@ -199,6 +206,9 @@ module _ (d : List ℕ) (bytes : (k : ℕ) → byte d k < 256) where
       let e : byte (take n (drop a d)) k ≡ byte d (a + k) = getD-take n (drop a d) k 0 (omega arith) ∙ getD-drop a d k 0 in
       let b : byte d (a + k) < 256 = bytes (a + k) in
       omega arith)
+
+  pub id-below : (s : ℕ) → List·Memᴰ s (sourceIds d) → s < 256
+  id-below = bytes-stretch (sourcesFrom (entityOf d)) (pinsOf (entityOf d))
 
   pub source-below : (s : ℕ) → List·Memᴰ s (sourceList (entityOf d) d) → s < 256
   unfolding sourceList
