@@ -6,14 +6,16 @@
 --   descriptorType ==  24 hex, byte 1 of every descriptor of the run
 --   bytesOf f      ==  the descriptor: its length, its type, then the bytes from byte 2 on
 --   Kept f         ==  pins are 1 to 8, and the control size is 1 to 4
+--   LaidOut d      ==  the layout of d is right (refusal 9 is its contrary): there are fields whose bytes d has from byte 2 on
 --   fieldsBy ks d  ==  the fields of d by the first of the layouts ks that it has, whatever byte 2 is; none where it has none of them
 --   fieldsOf d     ==  the fields of d: by the layouts whose number is byte 2
 --   fedBy f        ==  the IDs of its sources, in the order of its pins
 --   fedFrom f      ==  the offset of the first of them; 0 where there is none
 use Prim.Native.Nat.{ℕ, suc}
+use mathlib.Core.Path.{_≡_}
 use mathlib.Core.Option.{Option, none, some}
 use mathlib.Core.List.{List, [], _∷_}
-use lib.ListN.{length}
+use lib.ListN.{length, drop}
 use Rattle.ground.specs.Pick.{pick}
 use Rattle.ground.specs.Numbers.{byte}
 use Rattle.layout.specs.Format.{TwoBytes, Value, emit, fits, valueAt, InRange, fed, firstSource}
@@ -63,6 +65,11 @@ bytesOf f = suc (suc (length (bodyOf f))) ∷ descriptorType ∷ bodyOf f
 
 abbrev pub Kept : Fields → Type 0
 Kept f = InRange (formatOf (layoutBy f)) (valueOf f)
+
+pub record LaidOut (d : List ℕ) : Type 0 where
+  pub fields : Fields
+  pub kept : Kept fields
+  pub same : drop 2 d ≡ bodyOf fields
 
 abbrev pub fieldsBy : List Kind → List ℕ → Option Fields
 fieldsBy [] d = none

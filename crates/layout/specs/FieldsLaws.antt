@@ -6,6 +6,9 @@
 --   written-again  ==  a descriptor with fields has their bytes from byte 2 on, and they are kept
 --   written-whole  ==  so it is their descriptor, where byte 0 is the length and byte 1 the type
 --   fields-one     ==  a descriptor is that of one list of fields alone
+--   laid-fields, laid-only  ==  the layout is right exactly where fields are found, and they are those
+--   laid-whole     ==  a descriptor whose layout is right is that of its fields, where byte 0 is the length and byte 1 the type
+--   laid-written   ==  the layout of what is written is right
 --   Standing, fed-standing  ==  the sources are a part of d, from the first source's offset on, and end inside d
 --   none-some, some-one  ==  none is not some; some of one thing
 use Prim.Native.Nat.{ℕ, suc, _+_, _-_, _≤_, _<_}
@@ -23,7 +26,7 @@ use Rattle.layout.specs.Format.{Value, emit, fits, valueAt, InRange}
 use Rattle.layout.specs.FormatLaws.{found, again, fits-inside, here-at, after-at, fed-part, fed-inside}
 use Rattle.layout.specs.Layouts as kind
 use Rattle.layout.specs.Layouts.{Kind, numberOf, formatOf, mostPins, kinds, kindsIn, kindsOf}
-use Rattle.layout.specs.Fields.{Fields, input, output, mixer, selector, printed, feature, layoutBy, valueOf, fieldsAt, bodyOf, descriptorType, bytesOf, Kept, fieldsBy, fieldsOf, fedBy, fedFrom}
+use Rattle.layout.specs.Fields.{Fields, input, output, mixer, selector, printed, feature, layoutBy, valueOf, fieldsAt, bodyOf, descriptorType, bytesOf, Kept, LaidOut, fieldsBy, fieldsOf, fedBy, fedFrom}
 
 -- ---- the layouts, one by one
 
@@ -153,6 +156,20 @@ module _ (d : List ℕ) where
         ∙ ap (λ (x : ℕ). x ∷ byte d 1 ∷ drop 2 d) (first ∙ m)
         ∙ ap (λ (x : ℕ). suc (suc (length (bodyOf f))) ∷ x ∷ drop 2 d) type
         ∙ ap (λ (l : List ℕ). suc (suc (length (bodyOf f))) ∷ descriptorType ∷ l) b
+
+-- ---- rule 9
+
+pub laid-fields : (d : List ℕ) (f : Fields) → fieldsOf d ≡ some f → LaidOut d
+laid-fields d f e = let w = written-again d f e in record { fields = f; kept = w .0; same = w .1 }
+
+pub laid-only : (d : List ℕ) (l : LaidOut d) → fieldsOf d ≡ some (l .fields)
+laid-only d l = read-body d (l .fields) (l .kept) (l .same)
+
+pub laid-whole : (d : List ℕ) (l : LaidOut d) → byte d 0 ≡ length d → byte d 1 ≡ descriptorType → d ≡ bytesOf (l .fields)
+laid-whole d l first type = written-whole d (l .fields) (laid-only d l) first type
+
+pub laid-written : (f : Fields) → Kept f → LaidOut (bytesOf f)
+laid-written f k = record { fields = f; kept = k; same = refl }
 
 -- ---- the sources
 

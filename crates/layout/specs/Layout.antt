@@ -1,7 +1,6 @@
 -- What a descriptor is to the reader: an enum case with its kind's own numbers, made of the fields that the layouts find in it
 -- (Layouts, Fields); Unknown where they find none. Byte 2 is the kind, byte 3 the ID.
---   mostPins, Pins p         ==  as Layouts has them, for other crates to use
---   LaidOut d                ==  d has one of the six layouts (the printed Selector is a Selector's second)
+--   mostPins, Pins p, LaidOut d  ==  as Layouts and Fields have them, for other crates to use
 --   noCluster                ==  a cluster of no channels, all zeros: what stands where none was given out
 --   declared c l m           ==  the cluster that fields declare
 --   clusterAt d k            ==  the cluster declared at offsets k..k+3: channels, locations (2), name index
@@ -11,12 +10,11 @@
 --   entityOf d               ==  what the reader makes of d: by the layouts whose number is byte 2
 --   layoutOf e               ==  the layout that the entity e has; none for Unknown
 --   printedKind              ==  15 hex, the printed Selector's number on the sheet (document 01, "The sheet")
---   shownAs k, kindOf e      ==  the number of its kind on the sheet: byte 2, but printedKind for the printed Selector; 0 for Unknown
+--   shownAs o, kindOf e      ==  the number of its kind on the sheet: byte 2, but printedKind for the printed Selector; 0 for Unknown
 --   idOf e                   ==  the ID that an entity bears
 --   isUnknown e              ==  the layout was wrong
 --   layoutNumber e           ==  the refusal that it asks for: 9 where the layout was wrong, else 0
-use Prim.Native.Nat.{ℕ, _+_, _≤_}
-use mathlib.Core.Path.{_≡_}
+use Prim.Native.Nat.{ℕ, _+_}
 use mathlib.Core.Bool.{Bool, true, false}
 use mathlib.Core.Option.{Option, none, some}
 use mathlib.Core.List.{List}
@@ -31,14 +29,7 @@ use Rattle.layout.specs.Layouts.{Kind, numberOf, kindsOf}
 use Rattle.layout.specs.Fields as fields
 use Rattle.layout.specs.Fields.{Fields, fieldsBy, fieldsOf}
 pub use Rattle.layout.specs.Layouts.{mostPins, Pins}
-
-pub data LaidOut (d : List ℕ) : Type 0 where
-  input : byte d 2 ≡ 2 → length d ≡ 12 → LaidOut d
-  output : byte d 2 ≡ 3 → length d ≡ 9 → LaidOut d
-  mixer : byte d 2 ≡ 4 → Pins (byte d 4) → 10 + byte d 4 ≤ length d → LaidOut d
-  selector : byte d 2 ≡ 5 → Pins (byte d 4) → length d ≡ 6 + byte d 4 → LaidOut d
-  printed : byte d 2 ≡ 5 → Pins (byte d 4) → length d ≡ 7 + byte d 4 → byte d 5 ≡ 0 → LaidOut d
-  feature : byte d 2 ≡ 6 → (1 ≤ byte d 5) × (byte d 5 ≤ 4) → 7 ≤ length d → LaidOut d
+pub use Rattle.layout.specs.Fields.{LaidOut}
 
 abbrev pub noCluster : Cluster
 noCluster = record { channels = 0; locations = 0; names = 0 }

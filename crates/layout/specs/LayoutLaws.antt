@@ -2,9 +2,8 @@
 --   Told d e      ==  the entity e is what one of the layouts says of d, number by number; Unknown where none of them holds
 --   told, told-only ==  what the reader computes is told by the layouts, and nothing else is
 --   laid-out      ==  a descriptor has a layout or it has none
---   laid-fields   ==  a descriptor in which fields are found has a layout
 --   reads-unknown ==  the reader's "wrong layout" is the rule's: d has none of the layouts (refusal 9)
---   layout-number ==  the number on the enum is 9 exactly there
+--   layout-number, layout-right ==  the number on the enum is 9 exactly there, and 0 elsewhere
 --   input-right, input-wrong, output-right, output-wrong, mixer-right, mixer-wrong, selector-right, printed-right, selector-wrong,
 --   feature-right, feature-wrong  ==  what a kind's own reader makes of its layout, and of any other
 --   kind-input, kind-output, kind-mixer, kind-selector, kind-feature, kind-other ==  byte 2 says which kind's reader it is
@@ -12,16 +11,17 @@
 --                     and where there is none
 --   kind-told     ==  byte 2 is the kind, in every layout but the printed Selector's
 --   id-told       ==  byte 3 is the ID, in every layout
+--   selector-pins ==  a Selector's pins are 1 to 8, in both of its layouts
 use Prim.Native.Nat.{ℕ, _+_, _≤_}
 use mathlib.Core.Path.{_≡_, refl, sym, ap, _∙_}
-use mathlib.Core.Bool.{true, false}
+use mathlib.Core.Bool.{Bool, true, false}
 use mathlib.Core.Logic.{_⊎_, inl, inr, ⊎-elim, _↔_}
 use mathlib.Core.Option.{Option, none, some}
 use mathlib.Core.List.{List, [], _∷_}
 use lib.ListN.{length, take, drop}
 use borrow.Author.Tests.{ne-eqb}
 use native.Mathlib.Omega.{arith}
-use Rattle.ground.specs.Pick.{yes, no, Reads, shows, refutes, true≠false, reads-same, reads-eq, reads-le, reads-and, reads-within}
+use Rattle.ground.specs.Pick.{pick, yes, no, Reads, shows, refutes, true≠false, reads-same, reads-eq, reads-le, reads-and, reads-within}
 use Rattle.ground.specs.Numbers.{byte, word}
 use Rattle.layout.specs.declared.Entity.{Entity}
 use Rattle.layout.specs.declared.Entity.the-variants.{Unknown, Input, Output, Mixer, Selector, Printed, Feature}
@@ -29,10 +29,10 @@ use Rattle.layout.specs.Format.{fits, valueAt}
 use Rattle.layout.specs.FormatLaws.{stretch-length}
 use Rattle.layout.specs.Layouts as kind
 use Rattle.layout.specs.Layouts.{Kind, numberOf, formatOf, kindsOf, mostPins, Pins}
-use Rattle.layout.specs.Fields.{Fields, fieldsAt, fieldsOf}
-use Rattle.layout.specs.FieldsLaws.{found-by}
-use Rattle.layout.specs.Layout.{LaidOut, clusterAt, entityIn, entityBy, inputOf, outputOf, mixerOf, selectorOf, featureOf, entityOf, kindOf, idOf, isUnknown, layoutNumber}
-use Rattle.layout.specs.Layout as layout
+use Rattle.layout.specs.Fields as fields
+use Rattle.layout.specs.Fields.{Fields, LaidOut, fieldsAt, fieldsOf}
+use Rattle.layout.specs.FieldsLaws.{none-some, found-by, laid-fields, laid-only}
+use Rattle.layout.specs.Layout.{clusterAt, entityIn, entityBy, inputOf, outputOf, mixerOf, selectorOf, featureOf, entityOf, kindOf, idOf, isUnknown, layoutNumber}
 
 module _ (d : List ℕ) where
   abbrev p : ℕ
@@ -178,42 +178,21 @@ module _ (d : List ℕ) where
   pub entity-feature : byte d 2 ≡ 6 → (1 ≤ byte d 5) × (byte d 5 ≤ 4) → 7 ≤ length d → entityOf d ≡ Feature (byte d 3) (byte d 4) (byte d 5) (byte d 0)
   entity-feature k q l = kind-feature k ∙ feature-right q l
 
-  by-kind : (k : Kind) → byte d 2 ≡ numberOf k → fits (formatOf k) d 3 ≡ true → LaidOut d
-  by-kind kind.input e t = layout.input e (input-fits .says t)
-  by-kind kind.output e t = layout.output e (output-fits .says t)
-  by-kind kind.mixer e t = let h = mixer-fits .says t in layout.mixer e (h .0) (h .1)
-  by-kind kind.selector e t = let h = selector-fits .says t in layout.selector e (h .0) (h .1)
-  by-kind kind.printed e t = let h = printed-fits .says t in layout.printed e (h .0) (h .1 .1) (h .1 .0)
-  by-kind kind.feature e t = let h = feature-fits .says t in layout.feature e (h .0) (h .1)
-
-  pub laid-fields : (f : Fields) → fieldsOf d ≡ some f → LaidOut d
-  laid-fields f e = let t = found-by d f e in by-kind (t .kind) (t .number) (t .passes)
-
   pub entity-unknown : (LaidOut d → ⊥) → entityOf d ≡ Unknown
   unfolding entityOf
   entity-unknown n = go (fieldsOf d) refl
     where
       go : (o : Option Fields) → fieldsOf d ≡ o → entityIn (byte d 0) o ≡ Unknown
       go none e = refl
-      go (some f) e = absurd (n (laid-fields f e))
-
-  known : LaidOut d → isUnknown (entityOf d) ≡ false
-  unfolding isUnknown
-  known (layout.input k l) = ap isUnknown (entity-input k l)
-  known (layout.output k l) = ap isUnknown (entity-output k l)
-  known (layout.mixer k q l) = ap isUnknown (entity-mixer k q l)
-  known (layout.selector k q l) = ap isUnknown (entity-selector k q l)
-  known (layout.printed k q l z) = ap isUnknown (entity-printed k q l z)
-  known (layout.feature k q l) = ap isUnknown (entity-feature k q l)
+      go (some f) e = absurd (n (laid-fields d f e))
 
   -- a descriptor has a layout or it has none
   pub laid-out : LaidOut d ⊎ (LaidOut d → ⊥)
-  unfolding isUnknown entityOf
   laid-out = go (fieldsOf d) refl
     where
       go : (o : Option Fields) → fieldsOf d ≡ o → LaidOut d ⊎ (LaidOut d → ⊥)
-      go none e = inr (λ l. true≠false (sym (ap (λ (o : Option Fields). isUnknown (entityIn (byte d 0) o)) e) ∙ known l))
-      go (some f) e = inl (laid-fields f e)
+      go none e = inr (λ l. none-some (sym e ∙ laid-only d l))
+      go (some f) e = inl (laid-fields d f e)
 
 -- what the layouts say of d, as an entity
 pub data Told (d : List ℕ) : Entity → Type 0 where
@@ -229,13 +208,16 @@ pub data Told (d : List ℕ) : Entity → Type 0 where
 pub told : (d : List ℕ) → Told d (entityOf d)
 told d = ⊎-elim of (λ n. rw (entity-unknown d n) (unknown n)) (laid-out d)
   where
+    by-kind : (k : Kind) → byte d 2 ≡ numberOf k → fits (formatOf k) d 3 ≡ true → Told d (entityOf d)
+    by-kind kind.input e t = let h = input-fits d .says t in rw (entity-input d e h) (input e h)
+    by-kind kind.output e t = let h = output-fits d .says t in rw (entity-output d e h) (output e h)
+    by-kind kind.mixer e t = let h = mixer-fits d .says t in rw (entity-mixer d e (h .0) (h .1)) (mixer e (h .0) (h .1))
+    by-kind kind.selector e t = let h = selector-fits d .says t in rw (entity-selector d e (h .0) (h .1)) (selector e (h .0) (h .1))
+    by-kind kind.printed e t = let h = printed-fits d .says t in rw (entity-printed d e (h .0) (h .1 .1) (h .1 .0)) (printed e (h .0) (h .1 .1) (h .1 .0))
+    by-kind kind.feature e t = let h = feature-fits d .says t in rw (entity-feature d e (h .0) (h .1)) (feature e (h .0) (h .1))
+
     of : LaidOut d → Told d (entityOf d)
-    of (layout.input k l) = rw (entity-input d k l) (input k l)
-    of (layout.output k l) = rw (entity-output d k l) (output k l)
-    of (layout.mixer k q l) = rw (entity-mixer d k q l) (mixer k q l)
-    of (layout.selector k q l) = rw (entity-selector d k q l) (selector k q l)
-    of (layout.printed k q l z) = rw (entity-printed d k q l z) (printed k q l z)
-    of (layout.feature k q l) = rw (entity-feature d k q l) (feature k q l)
+    of l = let t = found-by d (l .fields) (laid-only d l) in by-kind (t .kind) (t .number) (t .passes)
 
 pub told-only : {d : List ℕ} {e : Entity} → Told d e → entityOf d ≡ e
 told-only {d} (unknown n) = entity-unknown d n
@@ -248,52 +230,76 @@ told-only {d} (feature k q l) = entity-feature d k q l
 
 -- the tie of refusal 9 to what the reader computes
 pub reads-unknown : (d : List ℕ) → Reads (isUnknown (entityOf d)) (LaidOut d → ⊥)
-unfolding isUnknown
-reads-unknown d = of (told d)
+unfolding isUnknown entityOf
+reads-unknown d = go (fieldsOf d) refl
   where
-    known : LaidOut d → Reads false (LaidOut d → ⊥)
-    known l = record { says = λ e. absurd (true≠false (sym e)); denies = λ e n. n l }
+    known : (f : Fields) → isUnknown (entityIn (byte d 0) (some f)) ≡ false
+    known (fields.input i t a c l m n) = refl
+    known (fields.output i t a s n) = refl
+    known (fields.mixer i s c l m k n) = refl
+    known (fields.selector i s n) = refl
+    known (fields.printed i s n) = refl
+    known (fields.feature i s z k n) = refl
 
-    of : {e : Entity} → Told d e → Reads (isUnknown e) (LaidOut d → ⊥)
-    of (unknown n) = record { says = λ e. n; denies = λ e. absurd (true≠false e) }
-    of (input k l) = known (layout.input k l)
-    of (output k l) = known (layout.output k l)
-    of (mixer k q l) = known (layout.mixer k q l)
-    of (selector k q l) = known (layout.selector k q l)
-    of (printed k q l z) = known (layout.printed k q l z)
-    of (feature k q l) = known (layout.feature k q l)
+    go : (o : Option Fields) → fieldsOf d ≡ o → Reads (isUnknown (entityIn (byte d 0) o)) (LaidOut d → ⊥)
+    go none e = record { says = λ t l. none-some (sym e ∙ laid-only d l); denies = λ t. absurd (true≠false t) }
+    go (some f) e = record { says = λ t. absurd (true≠false (sym t ∙ known f)); denies = λ t n. n (laid-fields d f e) }
 
 -- .. and to the number on the enum
-pub layout-number : (d : List ℕ) → (layoutNumber (entityOf d) ≡ 9) ↔ (LaidOut d → ⊥)
-unfolding layoutNumber
-layout-number d = of (told d)
-  where
-    none-of : LaidOut d → (_≡_ {A = ℕ} 0 9) ↔ (LaidOut d → ⊥)
-    none-of l = (λ e. absurd (omega arith), λ n. absurd (n l))
+number-unknown : (e : Entity) → layoutNumber e ≡ pick (isUnknown e) 9 0
+unfolding layoutNumber isUnknown
+number-unknown Unknown = refl
+number-unknown (Input i t c) = refl
+number-unknown (Output i t s) = refl
+number-unknown (Mixer i p c l) = refl
+number-unknown (Selector i p) = refl
+number-unknown (Printed i p) = refl
+number-unknown (Feature i s n l) = refl
 
-    of : {e : Entity} → Told d e → (layoutNumber e ≡ 9) ↔ (LaidOut d → ⊥)
-    of (unknown n) = (λ e. n, λ m. refl)
-    of (input k l) = none-of (layout.input k l)
-    of (output k l) = none-of (layout.output k l)
-    of (mixer k q l) = none-of (layout.mixer k q l)
-    of (selector k q l) = none-of (layout.selector k q l)
-    of (printed k q l z) = none-of (layout.printed k q l z)
-    of (feature k q l) = none-of (layout.feature k q l)
+pub layout-number : (d : List ℕ) → (layoutNumber (entityOf d) ≡ 9) ↔ (LaidOut d → ⊥)
+layout-number d = (of (isUnknown (entityOf d)) refl, λ n. number-unknown (entityOf d) ∙ yes _ _ (shows (reads-unknown d) n))
+  where
+    of : (b : Bool) → isUnknown (entityOf d) ≡ b → layoutNumber (entityOf d) ≡ 9 → LaidOut d → ⊥
+    of true t e = reads-unknown d .says t
+    of false t e = let z : layoutNumber (entityOf d) ≡ 0 = number-unknown (entityOf d) ∙ no _ _ t in absurd (omega arith)
+
+pub layout-right : (d : List ℕ) → LaidOut d → layoutNumber (entityOf d) ≡ 0
+layout-right d l = number-unknown (entityOf d) ∙ no _ _ (refutes (reads-unknown d) (λ n. n l))
 
 pub kind-told : (d : List ℕ) → LaidOut d → (kindOf (entityOf d) ≡ byte d 2) ⊎ (entityOf d ≡ Printed (byte d 3) (byte d 4))
 unfolding kindOf
-kind-told d (layout.input k l) = inl (ap kindOf (entity-input d k l) ∙ sym k)
-kind-told d (layout.output k l) = inl (ap kindOf (entity-output d k l) ∙ sym k)
-kind-told d (layout.mixer k q l) = inl (ap kindOf (entity-mixer d k q l) ∙ sym k)
-kind-told d (layout.selector k q l) = inl (ap kindOf (entity-selector d k q l) ∙ sym k)
-kind-told d (layout.printed k q l z) = inr (entity-printed d k q l z)
-kind-told d (layout.feature k q l) = inl (ap kindOf (entity-feature d k q l) ∙ sym k)
+kind-told d o = of (told d)
+  where
+    of : {e : Entity} → Told d e → (kindOf e ≡ byte d 2) ⊎ (e ≡ Printed (byte d 3) (byte d 4))
+    of (unknown n) = absurd (n o)
+    of (input k l) = inl (sym k)
+    of (output k l) = inl (sym k)
+    of (mixer k q l) = inl (sym k)
+    of (selector k q l) = inl (sym k)
+    of (printed k q l z) = inr refl
+    of (feature k q l) = inl (sym k)
 
 pub id-told : (d : List ℕ) → LaidOut d → idOf (entityOf d) ≡ byte d 3
 unfolding idOf
-id-told d (layout.input k l) = ap idOf (entity-input d k l)
-id-told d (layout.output k l) = ap idOf (entity-output d k l)
-id-told d (layout.mixer k q l) = ap idOf (entity-mixer d k q l)
-id-told d (layout.selector k q l) = ap idOf (entity-selector d k q l)
-id-told d (layout.printed k q l z) = ap idOf (entity-printed d k q l z)
-id-told d (layout.feature k q l) = ap idOf (entity-feature d k q l)
+id-told d o = of (told d)
+  where
+    of : {e : Entity} → Told d e → idOf e ≡ byte d 3
+    of (unknown n) = absurd (n o)
+    of (input k l) = refl
+    of (output k l) = refl
+    of (mixer k q l) = refl
+    of (selector k q l) = refl
+    of (printed k q l z) = refl
+    of (feature k q l) = refl
+
+pub selector-pins : (d : List ℕ) → LaidOut d → byte d 2 ≡ 5 → Pins (byte d 4)
+selector-pins d o e = of (told d)
+  where
+    of : {x : Entity} → Told d x → Pins (byte d 4)
+    of (unknown n) = absurd (n o)
+    of (input k l) = absurd (omega arith)
+    of (output k l) = absurd (omega arith)
+    of (mixer k q l) = absurd (omega arith)
+    of (selector k q l) = q
+    of (printed k q l z) = q
+    of (feature k q l) = absurd (omega arith)
