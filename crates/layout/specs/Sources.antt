@@ -2,20 +2,23 @@
 --   sourceList e d ==  their IDs: none for an Input Terminal, one for an Output Terminal and a Feature Unit, p of them from offset 5
 --                      for a Mixer and a Selector, from 6 for the printed Selector
 --   pinsOf e       ==  how many there are: the pins
---   sourcesFrom e  ==  the offset of the first of them in the descriptor; 0 where there is none
+--   begins o, sourcesFrom e  ==  the offset of the first of them in the descriptor, as the layout has it; 0 where there is none
 --   sourceIds d    ==  their IDs as a part of the descriptor d: pinsOf of them from sourcesFrom on
 --   feedsOf e      ==  it may be a source: every kind but an Output Terminal, which has no output; a wrong layout may not
 --   sourcesIn l    ==  how many IDs l are, and eight places: the IDs, then 00
 --   sourcesOf d    ==  what the reader hands on: how many there are, and the eight places
 use Prim.Native.Nat.{ℕ}
 use mathlib.Core.Bool.{Bool, true, false}
+use mathlib.Core.Option.{Option, none, some}
 use mathlib.Core.List.{List, [], _∷_}
 use lib.ListN.{length, take, drop}
 use Rattle.ground.specs.Lists.{pad}
 use Rattle.layout.specs.declared.Entity.{Entity}
 use Rattle.layout.specs.declared.Entity.the-variants.{Unknown, Input, Output, Mixer, Selector, Printed, Feature}
 use Rattle.layout.specs.declared.Sources.{Sources}
-use Rattle.layout.specs.Layout.{entityOf, mostPins}
+use Rattle.layout.specs.Format.{firstSource}
+use Rattle.layout.specs.Layouts.{Kind, formatOf, mostPins}
+use Rattle.layout.specs.Layout.{entityOf, layoutOf}
 
 unfoldable pub sourceList : Entity → List ℕ → List ℕ
 sourceList Unknown d = []
@@ -35,14 +38,12 @@ pinsOf (Selector i p) = p
 pinsOf (Printed i p) = p
 pinsOf (Feature i s n l) = 1
 
+abbrev pub begins : Option Kind → ℕ
+begins none = 0
+begins (some k) = firstSource (formatOf k) 3
+
 unfoldable pub sourcesFrom : Entity → ℕ
-sourcesFrom Unknown = 0
-sourcesFrom (Input i t c) = 0
-sourcesFrom (Output i t s) = 7
-sourcesFrom (Mixer i p c l) = 5
-sourcesFrom (Selector i p) = 5
-sourcesFrom (Printed i p) = 6
-sourcesFrom (Feature i s n l) = 4
+sourcesFrom e = begins (layoutOf e)
 
 abbrev pub sourceIds : List ℕ → List ℕ
 sourceIds d = take (pinsOf (entityOf d)) (drop (sourcesFrom (entityOf d)) d)

@@ -3,6 +3,9 @@
 --   sources-inside  ==  the sources of what a descriptor is end inside it
 --   sources-from-low ==  the first source stands at offset 7 at most
 --   sources-within  ==  the sources of what a descriptor is stand inside it
+--   pins-fields, from-fields, sources-fields  ==  as many pins as the fields of a descriptor have sources; they begin at the offset that the
+--                       format says; the part of the descriptor where they stand is the fields' list
+--   ids-length, id-at, id-below  ==  the IDs as a part of the descriptor: as many as pins; the ID of pin j + 1 is the byte j behind the first; bytes
 --   sources-listed  ==  the part of the descriptor where they stand is their list
 --   pins-few        ==  at most eight pins
 --   sources-few     ==  so at most eight sources
@@ -10,16 +13,22 @@
 --   sources-input, sources-output, sources-mixer, sources-selector, sources-printed, sources-feature  ==  for each layout
 --   source-below    ==  a source is a byte
 use Prim.Native.Nat.{ℕ, suc, _+_, _≤_, _<_}
-use mathlib.Core.Path.{_≡_, refl, ap, _∙_}
+use mathlib.Core.Path.{_≡_, refl, sym, ap, _∙_}
 use mathlib.Core.Logic.{⊎-elim}
+use mathlib.Core.Option.{Option, none, some}
 use mathlib.Core.List.{List, [], _∷_, List·Memᴰ, List·Memᴰ·not-nil, List·Memᴰ·cases-cons}
-use lib.ListN.{length, take, drop, length-take, length-drop}
-use lib.Seq.{getD-take, getD-drop, drop-cons}
+use lib.ListN.{length, take, drop, length-take}
+use lib.Seq.{getD-take, getD-drop}
 use native.Mathlib.Omega.{arith}
 use Rattle.ground.specs.Numbers.{byte}
 use Rattle.layout.specs.declared.Entity.{Entity}
 use Rattle.layout.specs.declared.Entity.the-variants.{Unknown, Input, Output, Mixer, Selector, Printed, Feature}
-use Rattle.layout.specs.Layout.{mostPins, Pins, entityOf}
+use Rattle.layout.specs.FormatLaws.{one-at, stretch-length}
+use Rattle.layout.specs.Layouts.{mostPins, Pins}
+use Rattle.layout.specs.Fields as fields
+use Rattle.layout.specs.Fields.{Fields, fieldsOf, fedBy, fedFrom}
+use Rattle.layout.specs.FieldsLaws.{fed-standing}
+use Rattle.layout.specs.Layout.{entityOf, entityIn}
 use Rattle.layout.specs.LayoutLaws.{Told, told, unknown, input, output, mixer, selector, printed, feature, entity-input, entity-output, entity-mixer, entity-selector, entity-printed, entity-feature}
 use Rattle.layout.specs.Sources.{sourceList, pinsOf, sourcesFrom, sourceIds}
 
@@ -55,21 +64,56 @@ sources-from-low (Selector i p) = omega arith
 sources-from-low (Printed i p) = omega arith
 sources-from-low (Feature i s n l) = omega arith
 
-pub sources-within : (d : List ℕ) → sourcesFrom (entityOf d) + pinsOf (entityOf d) ≤ length d
-unfolding sourcesFrom pinsOf
-sources-within d = of (told d)
-  where
-    of : {e : Entity} → Told d e → sourcesFrom e + pinsOf e ≤ length d
-    of (unknown n) = omega arith
-    of (input k l) = omega arith
-    of (output k l) = omega arith
-    of (mixer k q l) = omega arith
-    of (selector k q l) = omega arith
-    of (printed k q l z) = omega arith
-    of (feature k q l) = omega arith
+-- the sources of what the fields are, for each layout
+pins-in : (L : ℕ) (f : Fields) → pinsOf (entityIn L (some f)) ≡ length (fedBy f)
+unfolding pinsOf
+pins-in L (fields.input i t a c l m n) = refl
+pins-in L (fields.output i t a s n) = refl
+pins-in L (fields.mixer i s c l m k n) = refl
+pins-in L (fields.selector i s n) = refl
+pins-in L (fields.printed i s n) = refl
+pins-in L (fields.feature i s z k n) = refl
 
-one-at : (d : List ℕ) (k : ℕ) → k < length d → take 1 (drop k d) ≡ byte d k ∷ []
-one-at d k h = ap (λ (l : List ℕ). take 1 l) (drop-cons d k 0 h)
+from-in : (L : ℕ) (f : Fields) → sourcesFrom (entityIn L (some f)) ≡ fedFrom f
+unfolding sourcesFrom
+from-in L (fields.input i t a c l m n) = refl
+from-in L (fields.output i t a s n) = refl
+from-in L (fields.mixer i s c l m k n) = refl
+from-in L (fields.selector i s n) = refl
+from-in L (fields.printed i s n) = refl
+from-in L (fields.feature i s z k n) = refl
+
+module _ (d : List ℕ) (f : Fields) (e : fieldsOf d ≡ some f) where
+  pub pins-fields : pinsOf (entityOf d) ≡ length (fedBy f)
+  unfolding entityOf
+  pins-fields = ap (λ (o : Option Fields). pinsOf (entityIn (byte d 0) o)) e ∙ pins-in (byte d 0) f
+
+  pub from-fields : sourcesFrom (entityOf d) ≡ fedFrom f
+  unfolding entityOf
+  from-fields = ap (λ (o : Option Fields). sourcesFrom (entityIn (byte d 0) o)) e ∙ from-in (byte d 0) f
+
+  pub sources-fields : sourceIds d ≡ fedBy f
+  sources-fields = rw (pins-fields, from-fields) (sym (fed-standing d f e .part))
+
+  fields-within : sourcesFrom (entityOf d) + pinsOf (entityOf d) ≤ length d
+  fields-within = rw (pins-fields, from-fields) (fed-standing d f e .inside)
+
+pub sources-within : (d : List ℕ) → sourcesFrom (entityOf d) + pinsOf (entityOf d) ≤ length d
+unfolding entityOf sourcesFrom pinsOf
+sources-within d = go (fieldsOf d) refl
+  where
+    go : (o : Option Fields) → fieldsOf d ≡ o → sourcesFrom (entityOf d) + pinsOf (entityOf d) ≤ length d
+    go none e =
+        let p : pinsOf (entityOf d) ≡ 0 = ap (λ (o : Option Fields). pinsOf (entityIn (byte d 0) o)) e in
+        let a : sourcesFrom (entityOf d) ≡ 0 = ap (λ (o : Option Fields). sourcesFrom (entityIn (byte d 0) o)) e in
+        omega arith
+    go (some f) e = fields-within d f e
+
+pub ids-length : (d : List ℕ) → length (sourceIds d) ≡ pinsOf (entityOf d)
+ids-length d = stretch-length d (sourcesFrom (entityOf d)) (pinsOf (entityOf d)) (sources-within d)
+
+pub id-at : (d : List ℕ) (j : ℕ) → j < pinsOf (entityOf d) → byte (sourceIds d) j ≡ byte d (sourcesFrom (entityOf d) + j)
+id-at d j h = getD-take (pinsOf (entityOf d)) (drop (sourcesFrom (entityOf d)) d) j 0 h ∙ getD-drop (sourcesFrom (entityOf d)) d j 0
 
 pub sources-listed : (d : List ℕ) → sourceIds d ≡ sourceList (entityOf d) d
 unfolding sourcesFrom pinsOf sourceList
@@ -78,11 +122,11 @@ sources-listed d = of (told d)
     of : {e : Entity} → Told d e → take (pinsOf e) (drop (sourcesFrom e) d) ≡ sourceList e d
     of (unknown n) = refl
     of (input k l) = refl
-    of (output k l) = one-at d 7 (omega arith)
+    of (output k l) = sym (one-at d 7 (omega arith))
     of (mixer k q l) = refl
     of (selector k q l) = refl
     of (printed k q l z) = refl
-    of (feature k q l) = one-at d 4 (omega arith)
+    of (feature k q l) = sym (one-at d 4 (omega arith))
 
 pub pins-few : (d : List ℕ) → pinsOf (entityOf d) ≤ mostPins
 unfolding pinsOf
@@ -96,9 +140,6 @@ pins-few d = of (told d)
     of (selector k q l) = q .1
     of (printed k q l z) = q .1
     of (feature k q l) = omega arith
-
-stretch-length : (d : List ℕ) (a n : ℕ) → a + n ≤ length d → length (take n (drop a d)) ≡ n
-stretch-length d a n h = simp (length-take, length-drop) (omega arith)
 
 pub sources-length : (d : List ℕ) → length (sourceList (entityOf d) d) ≡ pinsOf (entityOf d)
 unfolding sourceList pinsOf
@@ -165,6 +206,9 @@ module _ (d : List ℕ) (bytes : (k : ℕ) → byte d k < 256) where
       let e : byte (take n (drop a d)) k ≡ byte d (a + k) = getD-take n (drop a d) k 0 (omega arith) ∙ getD-drop a d k 0 in
       let b : byte d (a + k) < 256 = bytes (a + k) in
       omega arith)
+
+  pub id-below : (s : ℕ) → List·Memᴰ s (sourceIds d) → s < 256
+  id-below = bytes-stretch (sourcesFrom (entityOf d)) (pinsOf (entityOf d))
 
   pub source-below : (s : ℕ) → List·Memᴰ s (sourceList (entityOf d) d) → s < 256
   unfolding sourceList

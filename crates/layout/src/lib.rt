@@ -1,5 +1,6 @@
-// The layouts of the five kinds of entities (document 01, "Entities"). A descriptor becomes an enum case that carries its kind's
-// own numbers; its sources are read beside it.
+// The layouts of the five kinds of entities (document 01, "Entities"). To the layer above: a descriptor, any slice, becomes an enum case
+// that carries its kind's own numbers, or Unknown where its layout is wrong; the case tells where the IDs of its sources stand in the
+// descriptor, how many they are, whether it may be a source itself, and its kind on the sheet. The layouts are said in specs/Layouts.
 ghost use mathlib.Core.Path.{_≡_};
 ghost use Prim.Native.Nat.{_≤_, _<_};
 ghost use mathlib.Core.List.{[], _∷_};
@@ -20,6 +21,7 @@ pub struct Cluster {
     pub names: u8,
 }
 
+// What a descriptor of the run is: one of the five kinds, with that kind's own numbers.
 pub enum Entity {
     // Any other kind, or a wrong layout.
     Unknown,
