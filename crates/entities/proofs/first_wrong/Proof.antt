@@ -1,8 +1,8 @@
 -- By its three ways out: a wrong layout was met before, or this one's is wrong, or it is one of the six.
 use borrow.Author.Needs.{needs}
 use Prim.Native.Nat.{ℕ}
-use mathlib.Core.Path.{_≡_, refl, sym, ap, _∙_}
-use mathlib.Core.List.{List, [], _∷_}
+use mathlib.Core.Path.{_≡_, refl}
+use mathlib.Core.List.{[], _∷_}
 use types.Run.{OneOf}
 use types.Run as run
 use denote.Enum.Declared.{tagOf, declared}
