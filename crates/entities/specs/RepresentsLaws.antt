@@ -25,7 +25,7 @@ use Rattle.ground.specs.Indexed.{WrongAt, sound-index, breaks-index}
 use Rattle.graph.specs.Members.{_∈_}
 use Rattle.scan.specs.Cutting.{Descriptor, endAt}
 use Rattle.scan.specs.CuttingLaws.{starts-end, starts-part}
-use Rattle.edition.specs.Edition.{Edition, ownId}
+use Rattle.edition.specs.Edition.{Edition}
 use Rattle.edition.specs.Edition as edition
 use Rattle.entities.specs.declared.Node.{Node}
 use Rattle.entities.specs.declared.Run.{Run}
