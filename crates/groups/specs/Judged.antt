@@ -27,6 +27,9 @@ judged-chain s =
     (chain-more 2 (λ e. omega arith) (breach2 s) _
     (chain-more 3 (λ e. omega arith) (breach3 s) _ (chain-more 4 (λ e. omega arith) (breach4 s) _ (group-chain s (frameOf s)))))
 
-pub framed-refused : (n p : ℕ) (f : Frame) (q : Refusal) → eqb n 0 ≡ false → record { number = n; place = p } ≡ q → (r : Framing) → r ≡ unframed n p → r ≡ framedAs q f
+pub framed-refused : (n p : ℕ) (f : Frame) (q : Refusal) → eqb n 0 ≡ false → record { number = n; place = p } ≡ q → (r : Framing)
+    → r ≡ unframed n p → r ≡ framedAs q f
 unfolding framedAs
-framed-refused n p f q z e r h = h ∙ ap (λ (g : Frame). record { refusal = record { number = n; place = p }; frame = g }) (sym (no _ _ z)) ∙ ap (λ (x : Refusal). framedAs x f) e
+framed-refused n p f q z e r h =
+    h ∙ ap (λ (g : Frame). record { refusal = record { number = n; place = p }; frame = g }) (sym (no _ _ z))
+    ∙ ap (λ (x : Refusal). framedAs x f) e

@@ -6,5 +6,6 @@ pub mod CollectionLaws
 pub mod FrameLaws
 pub mod TotalLaws
 pub mod Judged
+pub mod Before
 pub mod Tops
 pub mod Marks

@@ -7,54 +7,54 @@
 --   topped tops n a     ==  the tops behind an interface descriptor of number n and alternate setting a
 --   Repeats, After, Looked  ==  what the test of one descriptor answers, and the tops that it leaves
 --   Interfaced s b r    ==  r tells the place b, and where b is nowhere the AudioControl interface
---   before-none, before-more, before-all  ==  what stands before the first byte, before the next descriptor, before the end
---   control-none, control-seen, control-first, control-later, control-all  ==  the same for the AudioControl interface: where none
---                           is seen, whether one is, the next turn's two cases, the end
---   tops-none, tops-new, tops-more  ==  the tops at the first byte; what stands at the top or above is new; the next turn
-use Prim.Native.Nat.{ℕ, zero, suc, _+_, _-_, _≤_, _<_}
+--   control-none, control-first, control-later, control-all  ==  the AudioControl interface before the first byte; the next turn's two
+--                           cases; before the end
+--   control-seen        ==  one stands before exactly where the place is not L
+--   control-inside      ==  the place is not past the end
+--   tops-none, tops-new, tops-more  ==  the tops at the first byte; what stands at the top or above it is new; the next turn
+use Prim.Native.Nat.{ℕ, _+_, _-_, _≤_, _<_}
 use mathlib.Core.Path.{_≡_, refl, sym, ap, _∙_}
-use mathlib.Core.Bool.{Bool, true, false, not, _&&_, _||_}
-use mathlib.Core.List.{List, [], _∷_, _++_, append-nil, Memᴰ·append-left}
-use mathlib.Core.Logic.{_⊎_, inl, inr, ⊎-elim}
+use mathlib.Core.Bool.{Bool, true, false}
+use mathlib.Core.List.{List}
+use mathlib.Core.Logic.{_⊎_, ⊎-elim}
 use native.Mathlib.Omega.{arith}
-use native.Mathlib.Numerals.{add-one}
 use lib.Dec.{eqb, ltb}
 use lib.ListN.{length, getD, set, replicate, length-set}
-use lib.Seq.{getD-set-same, getD-set-other, append-snoc}
-use borrow.Author.Tests.{lt-ltb, le-ltb, ltb-true, ltb-false, ne-eqb, eq-eqb}
+use lib.Seq.{getD-set-same, getD-set-other}
+use borrow.Author.Tests.{lt-ltb, le-ltb, ltb-true, ltb-false}
 use Rattle.ground.specs.declared.Place.{Place}
 use Rattle.ground.specs.declared.Place.the-variants.{Nowhere, At}
-use Rattle.ground.specs.Pick.{pick, yes, no, Reads, decided, reads-eq, reads-true, refutes, true≠false}
+use Rattle.ground.specs.Pick.{pick, yes, no, decided, reads-eq, refutes}
 use Rattle.ground.specs.Numbers.{byte}
-use Rattle.ground.specs.Lists.{part, part-length, total, total-append, any, Some, reads-any}
-use Rattle.ground.specs.First.{firstFrom, first-at, first-before, isBefore, sound-each}
+use Rattle.ground.specs.Lists.{part}
+use Rattle.ground.specs.First.{isBefore}
 use Rattle.ground.specs.Refuse.{placeOr}
-use Rattle.scan.specs.Cutting.{endAt, rest}
-use Rattle.scan.specs.CuttingLaws.{Standing, standing, end-off, rest-none, rest-more}
-use Rattle.scan.specs.Search.{searched, Passed}
+use Rattle.scan.specs.Cutting.{endAt}
+use Rattle.scan.specs.CuttingLaws.{end-off}
+use Rattle.scan.specs.Search.{Passed}
 use Rattle.scan.specs.Want.{isInterface, isAudio, isSetting, reads-interface, reads-setting, wants, foundFrom}
-use Rattle.scan.specs.Found.{found-before, found-any, found-room}
-use Rattle.scan.specs.declared.Want.{Want}
+use Rattle.scan.specs.Found.{found-any, found-room}
 use Rattle.scan.specs.declared.Want.the-variants as want
 use Rattle.groups.specs.declared.Interfaces.{Interfaces}
 use Rattle.groups.specs.Reading.{wrongAt}
+use Rattle.groups.specs.Before.{standsBefore, or-false, before-none, before-more, before-all, before-here}
 
 abbrev pub controlAt : List ℕ → ℕ
 controlAt s = placeOr (foundFrom s 0 (want.Audio 1)) (length s)
 
 unfoldable pub controlBefore : List ℕ → ℕ → ℕ
-controlBefore s at = pick (isBefore (foundFrom s 0 (want.Audio 1)) at) (controlAt s) (length s)
+controlBefore s at = pick (standsBefore s at (want.Audio 1)) (controlAt s) (length s)
 
 pub record Tops (s : List ℕ) (at : ℕ) (tops : List ℕ) : Type 0 where
   pub long : length tops ≡ 256
-  pub above : (n a : ℕ) → getD tops n 0 ≤ a → isBefore (foundFrom s 0 (want.Setting n a)) at ≡ false
+  pub above : (n a : ℕ) → getD tops n 0 ≤ a → standsBefore s at (want.Setting n a) ≡ false
 
 unfoldable pub topped : List ℕ → ℕ → ℕ → List ℕ
 topped tops n a = pick (ltb a (getD tops n 0)) tops (set tops n (a + 1))
 
 pub record Repeats (s : List ℕ) (at : ℕ) (i tops tops′ : List ℕ) (r : Bool) : Type 0 where
   pub small : byte i 2 < 256
-  pub told : r ≡ isBefore (foundFrom s 0 (want.Setting (byte i 2) (byte i 3))) at
+  pub told : r ≡ standsBefore s at (want.Setting (byte i 2) (byte i 3))
   pub left : tops′ ≡ topped tops (byte i 2) (byte i 3)
 
 pub data After (i tops tops′ : List ℕ) : Type 0 where
@@ -69,92 +69,21 @@ pub record Interfaced (s : List ℕ) (b : Place) (r : Interfaces) : Type 0 where
   pub wrong : r .wrong ≡ b
   pub control : b ≡ Nowhere → r .control ≡ controlAt s
 
--- what is wanted stands before a place
-module _ (w : Want) (s : List ℕ) where
-  pub before-none : isBefore (foundFrom s 0 w) 0 ≡ false
-  unfolding isBefore
-  before-none = go (foundFrom s 0 w)
-    where
-      go : (r : Place) → isBefore r 0 ≡ false
-      go Nowhere = refl
-      go (At q) = le-ltb q 0 (omega arith)
-
-  module _ (t : List (List ℕ) → List ℕ → Bool) (at e : ℕ) (g : Passed t s 0 at) (f : e ≡ endAt s at) where
-    pub before-all : e ≡ at → isBefore (foundFrom s 0 w) at ≡ any (wants w) (rest s 0)
-    before-all h = found-before w s t at g ∙ ap (any (wants w)) (sym (g .whole ∙ ap (λ (r : List (List ℕ)). g .behind ++ r) (rest-none s at (sym f ∙ h)) ∙ append-nil (g .behind)))
-
-    module _ (h : e ≡ at → ⊥) where
-      passed : List (List ℕ)
-      passed = g .behind ++ part s at e ∷ []
-
-      whole : rest s 0 ≡ passed ++ rest s e
-      unfolding passed
-      whole = g .whole ∙ ap (λ (r : List (List ℕ)). g .behind ++ r) (rw f (rest-more s at (λ q. h (f ∙ q)))) ∙ sym (append-snoc (g .behind) (part s at e) (rest s e))
-
-      place : e ≡ 0 + total passed
-      unfolding passed total
-      place =
-          let o = end-off s at (λ q. h (f ∙ q)) in
-          let l : length (part s at e) ≡ e - at = part-length s at e (omega arith) in
-          let p = g .place in
-          let k : total (g .behind ++ part s at e ∷ []) ≡ total (g .behind) + (length (part s at e) + 0) = total-append (g .behind) (part s at e ∷ []) in
-          omega arith
-
-      any-snoc : (x : List (List ℕ)) (d : List ℕ) → any (wants w) (x ++ d ∷ []) ≡ (any (wants w) x || wants w d)
-      unfolding any
-      any-snoc [] d = go (wants w d)
-        where
-          go : (b : Bool) → (b || false) ≡ (false || b)
-          go true = refl
-          go false = refl
-      any-snoc (c ∷ x) d = go (wants w c) (any-snoc x d)
-        where
-          go : (b : Bool) → any (wants w) (x ++ d ∷ []) ≡ (any (wants w) x || wants w d) → (b || any (wants w) (x ++ d ∷ [])) ≡ ((b || any (wants w) x) || wants w d)
-          go true ih = refl
-          go false ih = ih
-
-      pub before-more : isBefore (foundFrom s 0 w) e ≡ (isBefore (foundFrom s 0 w) at || wants w (part s at e))
-      unfolding foundFrom searched passed
-      before-more =
-          let k = standing s 0 (omega arith) in
-          ap (λ (r : List (List ℕ)). isBefore (firstFrom (λ b d. wants w d) 0 [] r) e) whole
-          ∙ ap (λ (i : ℕ). isBefore (firstFrom (λ b d. wants w d) 0 [] (passed ++ rest s e)) i) place
-          ∙ first-before (wants w) 0 [] passed (rest s e) (λ d m. let two = k .each d (rw whole (Memᴰ·append-left (rest s e) m)) .two in omega arith)
-          ∙ any-snoc (g .behind) (part s at e)
-          ∙ ap (λ (b : Bool). b || wants w (part s at e)) (sym (found-before w s t at g))
-
-      pub before-here : isBefore (foundFrom s 0 w) at ≡ false → wants w (part s at e) ≡ true → foundFrom s 0 w ≡ At at
-      unfolding foundFrom searched
-      before-here n y =
-          first-at (λ b d. wants w d) (λ b d. wants w d ≡ true) (λ b d. reads-true (wants w d)) 0 (rest s 0) at .1
-          (record {
-            before = g .behind;
-            offender = part s at e;
-            after = rest s e;
-            split = g .whole ∙ ap (λ (r : List (List ℕ)). g .behind ++ r) (rw f (rest-more s at (λ q. h (f ∙ q))));
-            wrong = y;
-            place = g .place;
-            none-before = sound-each (λ d. wants w d ≡ true) (g .behind) .1 (λ d m v. none-wanted .denies (sym (found-before w s t at g) ∙ n) (record { one = d; among = m; has = v }));
-          })
-        where
-          none-wanted : Reads (any (wants w) (g .behind)) (Some (λ d. wants w d ≡ true) (g .behind))
-          none-wanted = reads-any (wants w) (λ d. wants w d ≡ true) (λ d. reads-true (wants w d)) (g .behind)
-
 -- the AudioControl interface
 module _ (s : List ℕ) where
   pub control-none : length s ≡ controlBefore s 0
   unfolding controlBefore
   control-none = sym (no _ _ (before-none (want.Audio 1) s))
 
-  pub control-seen : (at control : ℕ) → control ≡ controlBefore s at → ltb control (length s) ≡ isBefore (foundFrom s 0 (want.Audio 1)) at
+  pub control-seen : (at control : ℕ) → control ≡ controlBefore s at → ltb control (length s) ≡ standsBefore s at (want.Audio 1)
   unfolding controlBefore isBefore placeOr
   control-seen at control e = go (foundFrom s 0 (want.Audio 1)) refl
     where
-      go : (r : Place) → foundFrom s 0 (want.Audio 1) ≡ r → ltb control (length s) ≡ isBefore (foundFrom s 0 (want.Audio 1)) at
+      go : (r : Place) → foundFrom s 0 (want.Audio 1) ≡ r → ltb control (length s) ≡ standsBefore s at (want.Audio 1)
       go Nowhere q = let z : control ≡ length s = rw q at e in rw q (le-ltb control (length s) (omega arith))
       go (At p) q = case (ltb p at) refl
         where
-          case : (b : Bool) → ltb p at ≡ b → ltb control (length s) ≡ isBefore (foundFrom s 0 (want.Audio 1)) at
+          case : (b : Bool) → ltb p at ≡ b → ltb control (length s) ≡ standsBefore s at (want.Audio 1)
           case true l =
               let room = found-room (want.Audio 1) s 0 p q in
               let z : control ≡ p = rw (q, l) at e in
@@ -187,14 +116,10 @@ module _ (s : List ℕ) where
       unfolding controlBefore wants
       control-later control k n = k ∙ ap (λ (b : Bool). pick b (controlAt s) (length s)) same
         where
-          last : (b : Bool) → b ≡ (b || false)
-          last true = refl
-          last false = refl
+          same : standsBefore s at (want.Audio 1) ≡ standsBefore s e (want.Audio 1)
+          same = rw (before-more (want.Audio 1) s t at e g f h, n) (or-false (standsBefore s at (want.Audio 1)))
 
-          same : isBefore (foundFrom s 0 (want.Audio 1)) at ≡ isBefore (foundFrom s 0 (want.Audio 1)) e
-          same = rw (before-more (want.Audio 1) s t at e g f h, n) (last (isBefore (foundFrom s 0 (want.Audio 1)) at))
-
-      pub control-first : isAudio 1 (part s at e) ≡ true → isBefore (foundFrom s 0 (want.Audio 1)) at ≡ false → at ≡ controlBefore s e
+      pub control-first : isAudio 1 (part s at e) ≡ true → standsBefore s at (want.Audio 1) ≡ false → at ≡ controlBefore s e
       unfolding controlBefore wants isBefore placeOr
       control-first y n =
           let q = before-here (want.Audio 1) s t at e g f h n y in
@@ -206,35 +131,46 @@ pub tops-none : (s : List ℕ) → Tops s 0 (replicate 256 0)
 tops-none s = record { long = refl; above = λ n a h. before-none (want.Setting n a) s }
 
 module _ (s : List ℕ) (at : ℕ) (tops : List ℕ) (k : Tops s at tops) where
-  pub tops-new : (n a : ℕ) → getD tops n 0 ≤ a → false ≡ isBefore (foundFrom s 0 (want.Setting n a)) at
+  pub tops-new : (n a : ℕ) → getD tops n 0 ≤ a → false ≡ standsBefore s at (want.Setting n a)
   tops-new n a h = sym (k .above n a h)
 
   -- behind a descriptor of number m and setting b, what is neither is as new as before
-  by-top : (e m b : ℕ) → m < 256 → ((n a : ℕ) → (m ≡ n → b ≡ a → ⊥) → getD tops n 0 ≤ a → isBefore (foundFrom s 0 (want.Setting n a)) e ≡ false) → Tops s e (topped tops m b)
+  abbrev StillNew : ℕ → ℕ → ℕ → Type 0
+  StillNew e m b = (n a : ℕ) → (m ≡ n → b ≡ a → ⊥) → getD tops n 0 ≤ a → standsBefore s e (want.Setting n a) ≡ false
+
+  by-top : (e m b : ℕ) → m < 256 → StillNew e m b → Tops s e (topped tops m b)
   unfolding topped
   by-top e m b small still = go (ltb b (getD tops m 0)) refl
     where
+      same-top : {n : ℕ} → m ≡ n → getD tops m 0 ≡ getD tops n 0
+      same-top p = ap (λ (j : ℕ). getD tops j 0) p
+
       go : (c : Bool) → ltb b (getD tops m 0) ≡ c → Tops s e (pick c tops (set tops m (b + 1)))
       go true l =
           let o = ltb-true b (getD tops m 0) l in
-          record { long = k .long; above = λ n a h. still n a (λ p q. let z : getD tops m 0 ≡ getD tops n 0 = ap (λ (j : ℕ). getD tops j 0) p in omega arith) h }
+          record { long = k .long; above = λ n a h. still n a (λ p q. let z = same-top p in omega arith) h }
       go false l =
           let o = ltb-false b (getD tops m 0) l in
-          record { long = length-set tops m (b + 1) ∙ k .long; above = λ n a h. ⊎-elim (here n a h) (other n a h) (decided (eqb n m) (reads-eq n m)) }
+          record {
+            long = length-set tops m (b + 1) ∙ k .long;
+            above = λ n a h. ⊎-elim (here n a h) (other n a h) (decided (eqb n m) (reads-eq n m));
+          }
         where
-          here : (n a : ℕ) → getD (set tops m (b + 1)) n 0 ≤ a → n ≡ m → isBefore (foundFrom s 0 (want.Setting n a)) e ≡ false
+          here : (n a : ℕ) → getD (set tops m (b + 1)) n 0 ≤ a → n ≡ m → standsBefore s e (want.Setting n a) ≡ false
           here n a h q =
               let z : getD (set tops m (b + 1)) n 0 ≡ b + 1 = rw q (getD-set-same tops m (b + 1) 0 (let w = k .long in omega arith)) in
-              let y : getD tops m 0 ≡ getD tops n 0 = ap (λ (j : ℕ). getD tops j 0) (sym q) in
+              let y = same-top (sym q) in
               let o = ltb-false b (getD tops m 0) l in
               still n a (λ p r. omega arith) (omega arith)
 
-          other : (n a : ℕ) → getD (set tops m (b + 1)) n 0 ≤ a → (n ≡ m → ⊥) → isBefore (foundFrom s 0 (want.Setting n a)) e ≡ false
-          other n a h q = let z : getD (set tops m (b + 1)) n 0 ≡ getD tops n 0 = getD-set-other tops m n (b + 1) 0 q in still n a (λ p r. q (sym p)) (omega arith)
+          other : (n a : ℕ) → getD (set tops m (b + 1)) n 0 ≤ a → (n ≡ m → ⊥) → standsBefore s e (want.Setting n a) ≡ false
+          other n a h q =
+              let z : getD (set tops m (b + 1)) n 0 ≡ getD tops n 0 = getD-set-other tops m n (b + 1) 0 q in
+              still n a (λ p r. q (sym p)) (omega arith)
 
   module _ (t : List (List ℕ) → List ℕ → Bool) (e : ℕ) (g : Passed t s 0 at) (f : e ≡ endAt s at) (h : e ≡ at → ⊥) where
     -- what was new before the descriptor is new behind it, unless the descriptor bears it
-    still : (n a : ℕ) → getD tops n 0 ≤ a → isSetting n a (part s at e) ≡ false → isBefore (foundFrom s 0 (want.Setting n a)) e ≡ false
+    still : (n a : ℕ) → getD tops n 0 ≤ a → isSetting n a (part s at e) ≡ false → standsBefore s e (want.Setting n a) ≡ false
     unfolding wants
     still n a l q = before-more (want.Setting n a) s t at e g f h ∙ rw (k .above n a l, q) refl
 
@@ -248,6 +184,7 @@ module _ (s : List ℕ) (at : ℕ) (tops : List ℕ) (k : Tops s at tops) where
         rw q
         (record {
           long = k .long;
-          above = λ n′ a l. still n′ a l (refutes (reads-setting n′ a (part s at e)) (λ p. reads-interface (part s at e) .denies n (p .0)));
+          above = λ m a l. still m a l (refutes (reads-setting m a (part s at e)) (λ p. reads-interface (part s at e) .denies n (p .0)));
         })
-    tops-more tops′ (interface small q) = rw q (by-top e (byte (part s at e) 2) (byte (part s at e) 3) small (λ n a p l. still n a l (not-other n a p)))
+    tops-more tops′ (interface small q) =
+        rw q (by-top e (byte (part s at e) 2) (byte (part s at e) 3) small (λ n a p l. still n a l (not-other n a p)))

@@ -215,22 +215,16 @@ fn check_interfaces(config: &[u8]) -> Interfaces
     let found = first_wrong_interface(config);
     let wrong = found.wrong;
     let control = found.control;
-    if let Place::At(place) = wrong {
+    if let Place::At(_) = wrong {
+        return found;
+    }
+    if config.len() <= control {
         return Interfaces {
-            wrong: Place::At(place),
+            wrong: Place::At(config.len()),
             control,
         };
     }
-    if control < config.len() {
-        return Interfaces {
-            wrong: Place::Nowhere,
-            control,
-        };
-    }
-    Interfaces {
-        wrong: Place::At(config.len()),
-        control,
-    }
+    found
 }
 
 // The place that was found, or another where there is none.

@@ -1,20 +1,20 @@
 -- The loop stands behind descriptors that open no such group, or one whose number is listed; the known numbers are those that stand before.
 use borrow.Author.Needs.{needs}
-use Prim.Native.Nat.{ℕ, _-_, _<_}
-use mathlib.Core.Path.{_≡_, refl, sym, ap, _∙_}
+use Prim.Native.Nat.{ℕ, _-_}
+use mathlib.Core.Path.{_≡_, refl, sym, _∙_}
 use mathlib.Core.Bool.{Bool, true, false, not, _&&_, _||_}
 use mathlib.Core.List.{List}
-use lib.ListN.{length, getD, set, replicate}
+use lib.ListN.{length, getD, replicate}
 use borrow.Author.Tests.{eq-eqb, ne-eqb}
 use Rattle.ground.specs.Pick.{true≠false}
 use Rattle.ground.specs.Numbers.{byte}
-use Rattle.ground.specs.Lists.{part, any}
-use Rattle.ground.specs.First.{isBefore, first-none-any, first-at-any}
+use Rattle.ground.specs.Lists.{part}
+use Rattle.ground.specs.First.{first-none-any, first-at-any}
 use Rattle.scan.specs.Cutting.{endAt, rest}
 use Rattle.scan.specs.Search.{searched, Passed, start, stop, hit, miss, ordered, inside, falls}
-use Rattle.scan.specs.Want.{isMember, wants, foundFrom}
+use Rattle.scan.specs.Want.{isMember, wants}
 use Rattle.scan.specs.declared.Want.the-variants as want
-use Rattle.groups.specs.Tops.{before-none, before-more, before-all}
+use Rattle.groups.specs.Before.{standsBefore, or-false, or-true, before-none, before-more, before-all}
 use Rattle.groups.specs.Marks.{Holds, holds-none, holds-same, holds-more, isGrouped, unlistedBy, Met, other, member, Members}
 use Rattle.groups.proofs.any_unlisted.Statement.{statement}
 use Rattle.groups.proofs.any_unlisted.Tie as tie
@@ -24,7 +24,7 @@ test marks b d = unlistedBy marks d
 
 -- a group of number k stands before a place
 abbrev stands : List ℕ → ℕ → ℕ → Bool
-stands s at k = isBefore (foundFrom s 0 (want.Member k)) at
+stands s at k = standsBefore s at (want.Member k)
 
 record Going (s : List ℕ) (marks known : List Bool) (at : ℕ) : Type 0 where
   pub passed : Passed (test marks) s 0 at
@@ -61,22 +61,14 @@ module _ (s : List ℕ) (marks known : List Bool) (at e : ℕ) (g : Going s mark
     unfolding wants
     stands-more k = before-more (want.Member k) s (test marks) at e (g .passed) f h
 
-    with-false : (b : Bool) → b ≡ (b || false)
-    with-false true = refl
-    with-false false = refl
-
-    with-true : (b : Bool) → (b || true) ≡ true
-    with-true true = refl
-    with-true false = refl
-
     next : Met (part s at e) marks known known′ r → Holds (stands s e) known′
     unfolding isMember
-    next (other a b c) = rw c (holds-same (g .holds) (λ k. rw (stands-more k, a) (with-false (stands s at k))))
+    next (other a b c) = rw c (holds-same (g .holds) (λ k. rw (stands-more k, a) (or-false (stands s at k))))
     next (member a l b c) =
         rw c
         (holds-more (byte (part s at e) 2) (g .holds) l
-        (rw (stands-more (byte (part s at e) 2), a, eq-eqb (byte (part s at e) 2) (byte (part s at e) 2) refl) (with-true (stands s at (byte (part s at e) 2))))
-        (λ k q. rw (stands-more k, a, ne-eqb (byte (part s at e) 2) k (λ p. q (sym p))) (with-false (stands s at k))))
+        (rw (stands-more (byte (part s at e) 2), a, eq-eqb (byte (part s at e) 2) (byte (part s at e) 2) refl) (or-true (stands s at (byte (part s at e) 2))))
+        (λ k q. rw (stands-more k, a, ne-eqb (byte (part s at e) 2) k (λ p. q (sym p))) (or-false (stands s at k))))
 
     listed-here : r ≡ false → Going s marks known′ e
     listed-here y = record { passed = miss (test marks) s 0 at e (g .passed) f h (sym told ∙ y); holds = next m }

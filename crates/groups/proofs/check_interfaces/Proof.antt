@@ -39,37 +39,37 @@ none-stands s h = go (foundFrom s 0 (want.Audio 1)) refl
     go (At p) q = let z : length s ≤ p = rw q at h in let room = found-room (want.Audio 1) s 0 p q in absurd (omega arith)
 
 module _ (s : List ℕ) (x : Interfaces) (k : Interfaced s (searched wrongInterface s 0) x) where
-  wrong : (p : ℕ) → x .wrong ≡ At p → Interfaced s (breach4 s) (record { wrong = At p; control = x .control })
+  wrong : (p : ℕ) → x .wrong ≡ At p → Interfaced s (breach4 s) x
   unfolding breach4
   wrong p h =
       let e : At p ≡ breach4 s = sym (rw (breach4, sym (k .wrong) ∙ h) refl) in
-      record { wrong = e; control = λ n. let q : At p ≡ Nowhere = e ∙ n in let z : _≡_ {A = ℕ} 0 1 = cc in absurd (omega arith) }
+      record { wrong = h ∙ e; control = λ n. let q : At p ≡ Nowhere = e ∙ n in let z : _≡_ {A = ℕ} 0 1 = cc in absurd (omega arith) }
 
   module _ (h : x .wrong ≡ Nowhere) where
     place : x .control ≡ controlAt s
     place = k .control (sym (k .wrong) ∙ h)
 
-    control : x .control < length s → Interfaced s (breach4 s) (record { wrong = Nowhere; control = x .control })
-    unfolding breach4
-    control l = record { wrong = sym (rw (breach4, sym (k .wrong) ∙ h, stands s (rw place at l)) refl); control = λ n. place }
-
     no-control : length s ≤ x .control → Interfaced s (breach4 s) (record { wrong = At (length s); control = x .control })
     unfolding breach4
     no-control l = record { wrong = sym (rw (breach4, sym (k .wrong) ∙ h, none-stands s (rw place at l)) refl); control = λ n. place }
 
-ruleset laws = (wrong, control, no-control, needs)
+    control : x .control < length s → Interfaced s (breach4 s) x
+    unfolding breach4
+    control l = record { wrong = h ∙ sym (rw (breach4, sym (k .wrong) ∙ h, stands s (rw place at l)) refl); control = λ n. place }
+
+ruleset laws = (wrong, no-control, control, needs)
 
 first-wrong-interface-requires : tie.Need-first-wrong-interface-requires
 first-wrong-interface-requires c κs = search laws
 
-enum-known-wrong : tie.Need-enum-known-wrong
-enum-known-wrong c = search laws
+enum-told : tie.Need-enum-told
+enum-told c = search laws
 
 returns : tie.Need-returns
 returns c = search laws
 
-enum-told : tie.Need-enum-told
-enum-told c = search laws
+enum-told-2 : tie.Need-enum-told-2
+enum-told-2 c = search laws
 
 returns-2 : tie.Need-returns-2
 returns-2 c = search laws
@@ -80,10 +80,4 @@ returns-3 c = search laws
 pub check-interfaces-spec : {M : Type 1} → statement M
 check-interfaces-spec =
     tie.close
-    (tie.spec
-    first-wrong-interface-requires
-    enum-known-wrong
-    returns
-    enum-told
-    returns-2
-    returns-3)
+    (tie.spec first-wrong-interface-requires enum-told returns enum-told-2 returns-2 returns-3)

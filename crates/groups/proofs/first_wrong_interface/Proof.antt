@@ -7,7 +7,6 @@ use mathlib.Core.List.{List}
 use native.Mathlib.Omega.{arith}
 use lib.Dec.{eqb}
 use lib.ListN.{length, replicate}
-use Rattle.ground.specs.declared.Place.{Place}
 use Rattle.ground.specs.declared.Place.the-variants.{Nowhere, At}
 use Rattle.ground.specs.Pick.{pick, yes, no, shows, true≠false}
 use Rattle.ground.specs.Numbers.{byte}
@@ -15,7 +14,7 @@ use Rattle.ground.specs.Lists.{part}
 use Rattle.ground.specs.First.{isBefore}
 use Rattle.scan.specs.Cutting.{endAt}
 use Rattle.scan.specs.Search.{searched, Passed, start, stop, hit, miss, ordered, inside, falls}
-use Rattle.scan.specs.Want.{isInterface, isAudio, reads-interface, reads-audio, wants, foundFrom}
+use Rattle.scan.specs.Want.{isAudio, reads-interface, reads-audio, wants, foundFrom}
 use Rattle.scan.specs.Found.{found-before}
 use Rattle.scan.specs.declared.Want.the-variants as want
 use Rattle.groups.specs.Reading.{wrongInterface, wrongAt}

@@ -11,7 +11,7 @@ use Rattle.ground.specs.Pick.{true≠false}
 use Rattle.ground.specs.Numbers.{byte}
 use Rattle.scan.specs.Want.{isInterface, isAudio}
 use Rattle.groups.specs.Reading.{wrongAt}
-use Rattle.groups.specs.Tops.{controlBefore, Repeats, After, other, interface, Looked, control-seen}
+use Rattle.groups.specs.Tops.{controlBefore, Repeats, other, interface, Looked, control-seen}
 use Rattle.groups.proofs.wrong_interface.Statement.{statement}
 use Rattle.groups.proofs.wrong_interface.Tie as tie
 
