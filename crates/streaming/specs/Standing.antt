@@ -1,7 +1,4 @@
 -- Which Terminals the reader has, where its run stands for descriptors: those that the descriptors say, with no search among them.
---   says-of, of-says ==  what is listed of an entity, its descriptor says, and the other way
---   Stands ds cs t   ==  t is the Terminal of one of the descriptors ds, with the cluster of the same index
---   terminal-stands, stands-terminal  ==  the Terminals of a run that stands for ds are these
 --   terminals-are    ==  the Terminals that the reader has of a run are the run's: each Input and each Output Terminal, and no other
 --   one-each         ==  where the descriptors have distinct IDs, an ID is borne by one Terminal at most
 use Prim.Native.Nat.{ℕ, zero, suc, _+_, _≤_, _<_}
@@ -10,7 +7,6 @@ use mathlib.Core.Logic.{_⊎_, inl, inr, ⊎-elim}
 use mathlib.Core.List.{List, [], _∷_, List·Memᴰ·head, List·Memᴰ·not-nil, List·Memᴰ·append-cases, List·Memᴰ·eq-of-singleton, Memᴰ·append-left, Memᴰ·append-right}
 use lib.ListN.{length, getD, length-append, drop, take}
 use lib.Seq.{split-at, getD-append-seam}
-use lib.Dec.{eqb}
 use native.Mathlib.Omega.{arith}
 use native.Mathlib.Nat.{eq-or-lt-of-le}
 use Rattle.ground.specs.Numbers.{byte, word}
@@ -51,7 +47,7 @@ module _ (cluster : ℕ → Cluster) (d : List ℕ) where
   heard-says : (byte d 2 ≡ 2) ⊎ (byte d 2 ≡ 3) → (t : Terminal) → t ≡ heard d own → SaysTerminal cluster t d
   heard-says h t e = rw e (record { either = h; id = refl; kind = refl; channels = refl })
 
-  pub says-of : {e : Entity} → Told d e → (t : Terminal) → t ∈ terminalOf e own → SaysTerminal cluster t d
+  says-of : {e : Entity} → Told d e → (t : Terminal) → t ∈ terminalOf e own → SaysTerminal cluster t d
   unfolding terminalOf
   says-of (laid.unknown n) t m = absurd (List·Memᴰ·not-nil m)
   says-of (laid.input k l) t m = heard-says (inl k) t (List·Memᴰ·eq-of-singleton m)
@@ -70,7 +66,7 @@ module _ (cluster : ℕ → Cluster) (d : List ℕ) where
   another : {n : ℕ} → byte d 2 ≡ n → (n ≡ 2 → ⊥) → (n ≡ 3 → ⊥) → (byte d 2 ≡ 2) ⊎ (byte d 2 ≡ 3) → ⊥
   another e a b = ⊎-elim (λ h. a (sym e ∙ h)) (λ h. b (sym e ∙ h))
 
-  pub of-says : {e : Entity} → Told d e → LaidOut d → (t : Terminal) → SaysTerminal cluster t d → t ∈ terminalOf e own
+  of-says : {e : Entity} → Told d e → LaidOut d → (t : Terminal) → SaysTerminal cluster t d → t ∈ terminalOf e own
   unfolding terminalOf
   of-says (laid.unknown n) o t h = absurd (n o)
   of-says (laid.input k l) o t h = List·Memᴰ·head (says-heard t h)
@@ -100,16 +96,17 @@ module _ (s : List ℕ) (r : Run) (cs : List Cluster) (t : Terminal) where
       (λ (n : suc i ≤ j). Memᴰ·append-right (terminalAt s r cs i) (of-index k (suc i) j n (omega arith) m))
       (eq-or-lt-of-le l)
 
-pub record Stands (ds : List (List ℕ)) (cs : List Cluster) (t : Terminal) : Type 0 where
-  pub index : ℕ
-  pub below : index < length ds
-  pub is : t ∈ terminalOf (entityOf (getD ds index [])) (getD cs index noCluster .channels)
+-- t is the Terminal of one of the descriptors ds, with the cluster of the same index
+record Stands (ds : List (List ℕ)) (cs : List Cluster) (t : Terminal) : Type 0 where
+  index : ℕ
+  below : index < length ds
+  is : t ∈ terminalOf (entityOf (getD ds index [])) (getD cs index noCluster .channels)
 
 module _ {s : List ℕ} {p : ℕ} {ds : List (List ℕ)} {r : Run} (rep : Represents audio s p ds r) (cs : List Cluster) (t : Terminal) where
   same-at : (j : ℕ) → j < length ds → terminalAt s r cs j ≡ terminalOf (entityOf (getD ds j [])) (getD cs j noCluster .channels)
   same-at j h = ap (λ (d : List ℕ). terminalOf (entityOf d) (getD cs j noCluster .channels)) (rep .bytes j h)
 
-  pub terminal-stands : t ∈ terminalsOf s r cs → Stands ds cs t
+  terminal-stands : t ∈ terminalsOf s r cs → Stands ds cs t
   unfolding terminalsOf
   terminal-stands m =
       let k = index-of s r cs t (held r) 0 m in
@@ -118,7 +115,7 @@ module _ {s : List ℕ} {p : ℕ} {ds : List (List ℕ)} {r : Run} (rep : Repres
       let h : k .0 < length ds = omega arith in
       record { index = k .0; below = h; is = along (same-at (k .0) h) (k .2) }
 
-  pub stands-terminal : Stands ds cs t → t ∈ terminalsOf s r cs
+  stands-terminal : Stands ds cs t → t ∈ terminalsOf s r cs
   unfolding terminalsOf
   stands-terminal k =
       let n = rep .counted in

@@ -37,8 +37,7 @@ fn enter(kinds: &mut [u16; 256], counts: &mut [u16; 256], own: u8, terminal: u16
     ensures { λ r. ⌜ Entered (record { id = own; kind = terminal; channels = channels } ∷ []) (now (kinds .entry)) (now (counts .entry)) (now (kinds .exit)) (now (counts .exit)) ⌝ }
 {
     let at = wide(own);
-    let count = counts[at];
-    if count != 0 {
+    if counts[at] != 0 {
         return;
     }
     kinds[at] = terminal;

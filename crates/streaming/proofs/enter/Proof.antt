@@ -9,26 +9,26 @@ use Rattle.streaming.specs.Table.{Entered, entered-kept, entered-new}
 use Rattle.streaming.proofs.enter.Statement.{statement}
 use Rattle.streaming.proofs.enter.Tie as tie
 
-module _ (kinds counts : List ℕ) (i k c at : ℕ) (w : (at ≡ i) × (at < 256)) where
+module _ (kinds counts : List ℕ) (i k c at : ℕ) (e : at ≡ i) (l : at < 256) where
   borne : (getD counts at 0 ≡ 0 → ⊥) → Entered (record { id = i; kind = k; channels = c } ∷ []) kinds counts kinds counts
-  borne = rw (w .0) (entered-kept kinds counts i k c)
+  borne = rw e (entered-kept kinds counts i k c)
 
   written : getD counts at 0 ≡ 0 → Entered (record { id = i; kind = k; channels = c } ∷ []) kinds counts (set kinds at k) (set counts at (c + 1))
-  written = let l = w .1 in rw (← (w .0)) (entered-new kinds counts at k c l)
+  written = rw (← e) (entered-new kinds counts at k c l)
 
 ruleset laws = (borne, written, needs)
 
 wide-requires : tie.Need-wide-requires
 wide-requires c κs = search laws
 
-mul-count : tie.Need-mul-count
-mul-count c = search laws
+mul-if1 : tie.Need-mul-if1
+mul-if1 c = search laws
 
-element-copy-out-count : tie.Need-element-copy-out-count
-element-copy-out-count c = search laws
+element-copy-out-if1 : tie.Need-element-copy-out-if1
+element-copy-out-if1 c = search laws
 
 returns : tie.Need-returns
-returns c = borne _ _ _ _ _ _ (search needs) (c .if1 .taken)
+returns c = search laws
 
 mul-kinds : tie.Need-mul-kinds
 mul-kinds c = search laws
@@ -53,8 +53,8 @@ enter-spec =
     tie.close
     (tie.spec
     wide-requires
-    mul-count
-    element-copy-out-count
+    mul-if1
+    element-copy-out-if1
     returns
     mul-kinds
     element-write-kinds
