@@ -4,7 +4,8 @@
 use Prim.Native.Nat.{ℕ, zero, suc, _+_, _≤_, _<_}
 use mathlib.Core.Path.{_≡_, refl, sym, ap, _∙_}
 use mathlib.Core.Logic.{_⊎_, inl, inr, ⊎-elim}
-use mathlib.Core.List.{List, [], _∷_, List·Memᴰ·head, List·Memᴰ·not-nil, List·Memᴰ·append-cases, List·Memᴰ·eq-of-singleton, Memᴰ·append-left, Memᴰ·append-right}
+use mathlib.Core.List.{List, [], _∷_, List·Memᴰ·head, List·Memᴰ·not-nil, List·Memᴰ·append-cases, List·Memᴰ·eq-of-singleton}
+use mathlib.Core.List.{Memᴰ·append-left, Memᴰ·append-right}
 use lib.ListN.{length, getD, length-append, drop, take}
 use lib.Seq.{split-at, getD-append-seam}
 use native.Mathlib.Omega.{arith}
@@ -83,7 +84,9 @@ module _ (s : List ℕ) (r : Run) (cs : List Cluster) (t : Terminal) where
   index-of zero i m = absurd (List·Memᴰ·not-nil m)
   index-of (suc k) i m = go (List·Memᴰ·append-cases (terminalAt s r cs i) m) (index-of k (suc i))
     where
-      go : (t ∈ terminalAt s r cs i) ⊎ (t ∈ terminalsFrom k (suc i) s r cs) → (t ∈ terminalsFrom k (suc i) s r cs → (j : ℕ) × (j < suc i + k) × (t ∈ terminalAt s r cs j)) → (j : ℕ) × (j < i + suc k) × (t ∈ terminalAt s r cs j)
+      go : (t ∈ terminalAt s r cs i) ⊎ (t ∈ terminalsFrom k (suc i) s r cs)
+          → (t ∈ terminalsFrom k (suc i) s r cs → (j : ℕ) × (j < suc i + k) × (t ∈ terminalAt s r cs j))
+          → (j : ℕ) × (j < i + suc k) × (t ∈ terminalAt s r cs j)
       go (inl h) ih = (i, omega arith, h)
       go (inr h) ih = let a = ih h in let l = a .1 in (a .0, omega arith, a .2)
 
@@ -96,14 +99,17 @@ module _ (s : List ℕ) (r : Run) (cs : List Cluster) (t : Terminal) where
       (λ (n : suc i ≤ j). Memᴰ·append-right (terminalAt s r cs i) (of-index k (suc i) j n (omega arith) m))
       (eq-or-lt-of-le l)
 
--- t is the Terminal of one of the descriptors ds, with the cluster of the same index
+-- the Terminal that the j-th of the descriptors ds is, with the j-th of the clusters cs
+abbrev terminalIn : List (List ℕ) → List Cluster → ℕ → List Terminal
+terminalIn ds cs j = terminalOf (entityOf (getD ds j [])) (getD cs j noCluster .channels)
+
 record Stands (ds : List (List ℕ)) (cs : List Cluster) (t : Terminal) : Type 0 where
   index : ℕ
   below : index < length ds
-  is : t ∈ terminalOf (entityOf (getD ds index [])) (getD cs index noCluster .channels)
+  is : t ∈ terminalIn ds cs index
 
 module _ {s : List ℕ} {p : ℕ} {ds : List (List ℕ)} {r : Run} (rep : Represents audio s p ds r) (cs : List Cluster) (t : Terminal) where
-  same-at : (j : ℕ) → j < length ds → terminalAt s r cs j ≡ terminalOf (entityOf (getD ds j [])) (getD cs j noCluster .channels)
+  same-at : (j : ℕ) → j < length ds → terminalAt s r cs j ≡ terminalIn ds cs j
   same-at j h = ap (λ (d : List ℕ). terminalOf (entityOf d) (getD cs j noCluster .channels)) (rep .bytes j h)
 
   terminal-stands : t ∈ terminalsOf s r cs → Stands ds cs t
@@ -124,10 +130,12 @@ module _ {s : List ℕ} {p : ℕ} {ds : List (List ℕ)} {r : Run} (rep : Repres
 
 -- THE LAW, where each descriptor has its layout (rule 9) and each index of the array has the cluster on its descriptor's ID
 module _ {s : List ℕ} {p : ℕ} {ds : List (List ℕ)} {r : Run} (rep : Represents audio s p ds r) where
-  pub terminals-are : ((d : List ℕ) → d ∈ ds → LaidOut d) → (cluster : ℕ → Cluster) (cs : List Cluster) → ((i : ℕ) → i < length ds → getD cs i noCluster ≡ cluster (ownId (getD ds i []))) → AreAll ds cluster (terminalsOf s r cs)
+  pub terminals-are : ((d : List ℕ) → d ∈ ds → LaidOut d)
+      → (cluster : ℕ → Cluster) (cs : List Cluster) → ((i : ℕ) → i < length ds → getD cs i noCluster ≡ cluster (ownId (getD ds i [])))
+      → AreAll ds cluster (terminalsOf s r cs)
   terminals-are laid-out cluster cs on t = (of, to)
     where
-      at-id : (i : ℕ) → i < length ds → terminalOf (entityOf (getD ds i [])) (getD cs i noCluster .channels) ≡ terminalOf (entityOf (getD ds i [])) (cluster (ownId (getD ds i [])) .channels)
+      at-id : (i : ℕ) → i < length ds → terminalIn ds cs i ≡ terminalOf (entityOf (getD ds i [])) (cluster (ownId (getD ds i [])) .channels)
       at-id i h = ap (λ (c : Cluster). terminalOf (entityOf (getD ds i [])) (c .channels)) (on i h)
 
       of : t ∈ terminalsOf s r cs → IsTerminal ds cluster t
@@ -146,16 +154,20 @@ module _ {s : List ℕ} {p : ℕ} {ds : List (List ℕ)} {r : Run} (rep : Repres
           let i = length (q .0) in
           let l : i < length ds = omega (arith, ap length (q .2) ∙ length-append (q .0) (k .one ∷ q .1)) in
           let e : getD ds i [] ≡ k .one = ap (λ (x : List (List ℕ)). getD x i []) (q .2) ∙ getD-append-seam (q .0) (k .one) (q .1) [] in
-          let m : t ∈ terminalOf (entityOf (k .one)) (cluster (ownId (k .one)) .channels) = of-says cluster (k .one) (told (k .one)) (laid-out (k .one) (k .among)) t (k .has) in
+          let o = laid-out (k .one) (k .among) in
+          let m : t ∈ terminalOf (entityOf (k .one)) (cluster (ownId (k .one)) .channels) = of-says cluster (k .one) (told (k .one)) o t (k .has) in
           stands-terminal rep cs t (record { index = i; below = l; is = along (sym (at-id i l)) (rw e m) })
 
-  pub one-each : (cs : List Cluster) → ((i j : ℕ) → i < length ds → j < length ds → ownId (getD ds i []) ≡ ownId (getD ds j []) → i ≡ j) → OneEach (terminalsOf s r cs)
+  pub one-each : (cs : List Cluster)
+      → ((i j : ℕ) → i < length ds → j < length ds → ownId (getD ds i []) ≡ ownId (getD ds j []) → i ≡ j)
+      → OneEach (terminalsOf s r cs)
   one-each cs distinct t u m n e =
       let a = terminal-stands rep cs t m in
       let b = terminal-stands rep cs u n in
       let x = heard-at t a in
       let y = heard-at u b in
-      let i : a .index ≡ b .index = distinct (a .index) (b .index) (a .below) (b .below) (sym (ap (λ (v : Terminal). v .id) x) ∙ e ∙ ap (λ (v : Terminal). v .id) y) in
+      let q = sym (ap (λ (v : Terminal). v .id) x) ∙ e ∙ ap (λ (v : Terminal). v .id) y in
+      let i : a .index ≡ b .index = distinct (a .index) (b .index) (a .below) (b .below) q in
       x ∙ ap (λ (j : ℕ). heard (getD ds j []) (getD cs j noCluster .channels)) i ∙ sym y
     where
       heard-at : (v : Terminal) (k : Stands ds cs v) → v ≡ heard (getD ds (k .index) []) (getD cs (k .index) noCluster .channels)

@@ -2,7 +2,8 @@
 -- "byte 4 equals that terminal's c". The cluster at an Input Terminal's index is its own, at an Output Terminal's the entering one.
 --   Terminal           ==  an ID, a terminal type, channels c
 --   terminalOf e c     ==  the Terminal that the entity e is, with c channels; none for the other kinds
---   terminalAt s r cs i  ==  the same of the i-th entity of the run r, by its descriptor in the configuration s, with the i-th of the clusters cs
+--   terminalAt s r cs i  ==  the same of the i-th entity of the run r, by its descriptor in the configuration s, with the i-th of the
+--                          clusters cs
 --   terminalsFrom k i s r cs  ==  those of the next k entities from the i-th on
 --   terminalsOf s r cs ==  the Terminals of the run r in its order, with the clusters cs at its indices
 --   bearerIn ts id     ==  type and channels of the first of the Terminals ts that bears the ID id, or nothing

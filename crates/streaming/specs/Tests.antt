@@ -2,7 +2,8 @@
 --   opensAs k d          ==  the test of OpensAs, type 24 and subtype k
 --   isGeneral g, isFormat f, samplesRight f, ratesRight f, isTypeOne c f  ==  the tests of the sentences of Rule
 --   formatRight tag c f  ==  the test of FORMAT_TYPE f under a tag, for a Terminal of c channels
---   bearerRight b g f    ==  the test of b, what bears the ID at GENERAL's byte 3: no number refuses it, and FORMAT_TYPE is right for its channels
+--   bearerRight b g f    ==  the test of b, what bears the ID at GENERAL's byte 3: no number refuses it, and FORMAT_TYPE is right for its
+--                            channels
 --   describedBy find g f ==  the test of Described, where find tells what bears an ID
 --   describedAt find s e ==  the same of the two descriptors of the bytes s from place e on
 --   holdsClass ds        ==  a type 24 descriptor stands among ds before the next interface descriptor
