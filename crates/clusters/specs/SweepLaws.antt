@@ -2,10 +2,11 @@
 --   Sweeping s run channels locations names i  ==  the loop along the run has come to the i-th entity: the arrays hold what was given out
 --   sweeping-start, sweeping-long, sweeping-more, sweeping-over  ==  its start, its arrays' lengths, its step and its end
 --   givenAfter s run i x  ==  what the ID x gives out after the first i entities of the run
+--   breach13-same, clusters-same  ==  clusters that agree on every ID are checked and shown alike
 --   keeps-channels   ==  whether an entity keeps its rule hangs on the channels alone
 use Prim.Native.Nat.{ℕ, zero, suc, _+_, _≤_, _<_}
 use mathlib.Core.Path.{_≡_, refl, sym, ap, _∙_}
-use mathlib.Core.Bool.{Bool, false}
+use mathlib.Core.Bool.{Bool, false, not}
 use mathlib.Core.List.{List, [], _∷_, map}
 use mathlib.Core.Logic.{⊎-elim}
 use native.Mathlib.Omega.{arith}
@@ -13,7 +14,9 @@ use native.Mathlib.Numerals.{add-one}
 use lib.Dec.{eqb}
 use lib.ListN.{length, getD, set, take, replicate, length-set, length-replicate}
 use lib.Seq.{take-all, getD-set-same, getD-set-other}
+use Rattle.ground.specs.declared.Place.the-variants.{Nowhere, At}
 use Rattle.ground.specs.Pick.{decided, reads-eq}
+use Rattle.ground.specs.Places.{first-same}
 use Rattle.layout.specs.declared.Cluster.{Cluster}
 use Rattle.layout.specs.declared.Entity.{Entity}
 use Rattle.layout.specs.declared.Entity.the-variants.{Unknown, Input, Output, Mixer, Selector, Printed, Feature}
@@ -23,10 +26,10 @@ use Rattle.graph.specs.Tables.{tabulate, tabulate-same, tabulate-getD, getD-tab
 use Rattle.graph.specs.Along.{put, put-at, put-other, gives, given, given-take}
 use Rattle.entities.specs.declared.Node.{Node}
 use Rattle.entities.specs.declared.Run.{Run}
-use Rattle.entities.specs.Run.{blankNode, held, nodeAt, idAt, sourcesOf, sourcesAt, descriptorAt}
+use Rattle.entities.specs.Run.{mostEntities, blankNode, held, nodeAt, idAt, placeAt, sourcesOf, sourcesAt, descriptorAt}
 use Rattle.edition.specs.Audio.{firstOf, channelsIn, giveOut, alike, alikeIn, mixerKept, mixerLength, featureKept, featureLength, keeps}
 use Rattle.clusters.specs.declared.Given.{Given}
-use Rattle.clusters.specs.Sweep.{clusterBy, channelsOn, bytesOf, givesBy, givenIn, swept, keepsBy}
+use Rattle.clusters.specs.Sweep.{clusterBy, channelsOn, bytesOf, givesBy, givenIn, swept, Sweeps, keepsBy, breach13, clustersOf}
 
 -- what the rules look at
 module _ (f g : ℕ → Cluster) (same : (x : ℕ) → f x .channels ≡ g x .channels) where
@@ -59,6 +62,18 @@ pub keeps-channels : (s : List ℕ) (n : Node) (channels locations names : List 
 unfolding keepsBy
 keeps-channels s n channels locations names =
     keeps-same (channelsOn channels) (clusterBy channels locations names) (λ x. refl) (entityOf (bytesOf s n)) (length (bytesOf s n)) (sourcesOf s n)
+
+-- clusters that agree on every ID are checked and shown alike
+module _ (run : Run) (f g : ℕ → Cluster) (same : (x : ℕ) → f x ≡ g x) where
+  pub breach13-same : (s : List ℕ) → breach13 s run f ≡ breach13 s run g
+  unfolding breach13 keepsBy
+  breach13-same s =
+      first-same _ _ (λ i. At (placeAt run i)) Nowhere (held run)
+      (λ i l. ap not (keeps-same f g (λ x. ap (λ (c : Cluster). c .channels) (same x)) (entityOf (descriptorAt s run i)) (length (descriptorAt s run i)) (sourcesAt s run i)))
+
+  pub clusters-same : clustersOf run f ≡ clustersOf run g
+  unfolding clustersOf
+  clusters-same = tabulate-same mostEntities (λ i. f (idAt run i)) (λ i. g (idAt run i)) (λ i l. same (idAt run i))
 
 -- three arrays by ID, one ID's cluster written
 module _ (channels locations names : List ℕ) (x : ℕ) (c : Cluster) (a : x < length channels) (b : x < length locations) (d : x < length names) where
@@ -122,7 +137,7 @@ module _ (s : List ℕ) (run : Run) where
     sweeping-long = (g .long-channels, g .long-locations, g .long-names)
 
     module _ (n : ℕ) (m : n ≡ held run) where
-      pub sweeping-over : n ≤ i → givenBy channels locations names ≡ swept s run
+      pub sweeping-over : n ≤ i → Sweeps s run (givenBy channels locations names)
       unfolding swept givenIn
       sweeping-over h =
           let l = g .low in
@@ -131,9 +146,13 @@ module _ (s : List ℕ) (run : Run) where
           let a = table-of channels (λ x. givenIn s run x .channels) (g .long-channels) (λ x. ap (λ (c : Cluster). c .channels) (whole x)) in
           let b = table-of locations (λ x. givenIn s run x .locations) (g .long-locations) (λ x. ap (λ (c : Cluster). c .locations) (whole x)) in
           let d = table-of names (λ x. givenIn s run x .names) (g .long-names) (λ x. ap (λ (c : Cluster). c .names) (whole x)) in
-          ap (λ (t : List ℕ). givenBy t locations names) a
-          ∙ ap (λ (t : List ℕ). givenBy (tabulate 256 (λ x. givenIn s run x .channels)) t names) b
-          ∙ ap (givenBy (tabulate 256 (λ x. givenIn s run x .channels)) (tabulate 256 (λ x. givenIn s run x .locations))) d
+          record {
+            whole =
+                ap (λ (t : List ℕ). givenBy t locations names) a
+                ∙ ap (λ (t : List ℕ). givenBy (tabulate 256 (λ x. givenIn s run x .channels)) t names) b
+                ∙ ap (givenBy (tabulate 256 (λ x. givenIn s run x .channels)) (tabulate 256 (λ x. givenIn s run x .locations))) d;
+            holds = whole;
+          }
 
       pub sweeping-more : i < n → (c : Cluster) → c ≡ givesBy s (getD (run .nodes) i blank) (clusterBy channels locations names)
           → (x : ℕ) → (x ≡ getD (run .nodes) i blank .id) × (x < 256)

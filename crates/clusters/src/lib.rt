@@ -8,7 +8,7 @@ ghost use lib.ListN.{length, getD};
 ghost use Rattle.layout.specs.Layout.{noCluster, entityOf};
 ghost use Rattle.entities.specs.Run.{sourcesOf};
 ghost use Rattle.edition.specs.Audio.{channelsIn, alike, alikeIn, giveOut, mixerLength, mixerKept, featureLength, featureKept, keeps};
-ghost use Rattle.clusters.specs.Sweep.{clusterBy, channelsOn, firstBy, givesBy, keepsBy, Entering, swept, breach13, clustersOf};
+ghost use Rattle.clusters.specs.Sweep.{clusterBy, clusterOn, channelsOn, firstBy, givesBy, keepsBy, Entering, Sweeps, breach13, clustersOf};
 use entities::MOST_ENTITIES;
 use entities::Node;
 use entities::Run;
@@ -79,7 +79,7 @@ fn give_out(
 
 // What each ID gives out, along the run: each entity finds what its sources gave out before it.
 pub fn sweep(config: &[u8], run: Run) -> Given
-    ensures { λ r. ⌜ r ≡ swept (now (config .entry)) run ⌝ }
+    ensures { λ r. ⌜ Sweeps (now (config .entry)) run r ⌝ }
 {
     let n = entities::count(run);
     let mut channels = [0u8; 256];
@@ -209,7 +209,7 @@ fn kept(config: &[u8], node: Node, counts: &[u8; 256]) -> bool
 
 // The first entity that breaks rule 13, where each ID gives out these clusters.
 pub fn check_clusters(config: &[u8], run: Run, given: Given) -> Place
-    ensures { λ r. ⌜ r ≡ breach13 (now (config .entry)) run given ⌝ }
+    ensures { λ r. ⌜ r ≡ breach13 (now (config .entry)) run (clusterOn given) ⌝ }
 {
     let n = entities::count(run);
     let counts = given.channels;
@@ -226,7 +226,7 @@ pub fn check_clusters(config: &[u8], run: Run, given: Given) -> Place
 
 // The cluster of each entity of a run, by its index.
 pub fn by_index(run: Run, given: Given) -> [Cluster; 32]
-    ensures { λ r. ⌜ r ≡ clustersOf run given ⌝ }
+    ensures { λ r. ⌜ r ≡ clustersOf run (clusterOn given) ⌝ }
 {
     let mut clusters = [Cluster {
         channels: 0,

@@ -30,7 +30,7 @@ module _ (run : Run) (g : Given) where
     unfolding blankNode
     more h x e = record { filled = filled-more (a .filled) h (ap (clusterOn g) (e .0)) }
 
-    over : 32 ≤ i → clusters ≡ clustersOf run g
+    over : 32 ≤ i → clusters ≡ clustersOf run (clusterOn g)
     unfolding clustersOf
     over h = filled-full (a .filled) h
 

@@ -12,7 +12,7 @@ use Rattle.entities.specs.declared.Node.{Node}
 use Rattle.entities.specs.declared.Run.{Run}
 use Rattle.entities.specs.Run.{blankNode, held, nodeAt, placeAt}
 use Rattle.clusters.specs.declared.Given.{Given}
-use Rattle.clusters.specs.Sweep.{channelsOn, keepsBy, breach13}
+use Rattle.clusters.specs.Sweep.{clusterOn, channelsOn, keepsBy, breach13}
 use Rattle.clusters.specs.SweepLaws.{keeps-channels}
 use Rattle.clusters.proofs.check_clusters.Statement.{statement}
 use Rattle.clusters.proofs.check_clusters.Tie as tie
@@ -30,17 +30,17 @@ module _ (s : List ℕ) (run : Run) where
   start : (counts : List ℕ) → Passed counts 0
   start counts = come-none _ (λ j. At (placeAt run j)) Nowhere (held run)
 
-  by-channels : (given : Given) → firstIn (wrong (given .channels)) (λ j. At (placeAt run j)) Nowhere 0 (held run) ≡ breach13 s run given
+  by-channels : (given : Given) → firstIn (wrong (given .channels)) (λ j. At (placeAt run j)) Nowhere 0 (held run) ≡ breach13 s run (clusterOn given)
   unfolding breach13
   by-channels given =
       first-same _ _ (λ j. At (placeAt run j)) Nowhere (held run) (λ j l. ap not (keeps-channels s (nodeAt run j) (given .channels) (given .locations) (given .names)))
 
   module _ (n : ℕ) (m : n ≡ held run) (i : ℕ) where
-    over : (given : Given) → Passed (given .channels) i → n ≤ i → Nowhere ≡ breach13 s run given
+    over : (given : Given) → Passed (given .channels) i → n ≤ i → Nowhere ≡ breach13 s run (clusterOn given)
     over given g h = come-over _ (λ j. At (placeAt run j)) Nowhere (held run) i g (omega arith) ∙ by-channels given
 
     module _ (h : i < n) (b : Bool) where
-      here : (given : Given) → Passed (given .channels) i → b ≡ keepsBy s (getD (run .nodes) i zeros) (channelsOn (given .channels)) → not b ≡ true → At (getD (run .nodes) i zeros .place) ≡ breach13 s run given
+      here : (given : Given) → Passed (given .channels) i → b ≡ keepsBy s (getD (run .nodes) i zeros) (channelsOn (given .channels)) → not b ≡ true → At (getD (run .nodes) i zeros .place) ≡ breach13 s run (clusterOn given)
       unfolding blankNode
       here given g f y = come-here _ (λ j. At (placeAt run j)) Nowhere (held run) i g (omega arith) (not b) (ap not f) y ∙ by-channels given
 
