@@ -1,2 +1,4 @@
 pub mod Rules
 pub mod Sweep
+pub mod SweepLaws
+pub mod Topology

@@ -8,10 +8,11 @@
 --   givesBy s n cl       ==  what the entity n gives out where the clusters cl are given out on IDs
 --   givenIn s run x      ==  what the ID x gives out along the run
 --   swept s run          ==  the same, as arrays by ID
+--   Sweeps s run g       ==  g is that, so that on each ID it has what is given out there
 --   Entering cs r        ==  r is i, the channels entering in all, and small enough to reckon with
 --   keepsBy s n cl       ==  whether the entity n keeps its rule there
---   breach13 s run g     ==  the place of the first entity that does not, where g was given out
---   clustersOf run g     ==  the cluster of each entity by index
+--   breach13 s run cl    ==  the place of the first entity that does not, where the clusters cl are given out on IDs
+--   clustersOf run cl    ==  the cluster of each entity by index
 use Prim.Native.Nat.{ℕ, _≤_}
 use mathlib.Core.Path.{_≡_}
 use mathlib.Core.Bool.{Bool, not}
@@ -61,6 +62,11 @@ swept s run = record {
   names = tabulate 256 (λ x. givenIn s run x .names);
 }
 
+-- an ID is a byte, so that what is given out on any other is nothing
+pub record Sweeps (s : List ℕ) (run : Run) (g : Given) : Type 0 where
+  pub whole : g ≡ swept s run
+  pub holds : (x : ℕ) → clusterOn g x ≡ givenIn s run x
+
 -- at most 255 pins of 255 channels each
 pub record Entering (cs : List Cluster) (r : ℕ) : Type 0 where
   pub all-channels : r ≡ channelsIn cs
@@ -69,8 +75,8 @@ pub record Entering (cs : List Cluster) (r : ℕ) : Type 0 where
 unfoldable pub keepsBy : List ℕ → Node → (ℕ → Cluster) → Bool
 keepsBy s n cl = keeps (entityOf (bytesOf s n)) (length (bytesOf s n)) (map cl (sourcesOf s n))
 
-unfoldable pub breach13 : List ℕ → Run → Given → Place
-breach13 s run g = firstIn (λ i. not (keepsBy s (nodeAt run i) (clusterOn g))) (λ i. At (placeAt run i)) Nowhere 0 (held run)
+unfoldable pub breach13 : List ℕ → Run → (ℕ → Cluster) → Place
+breach13 s run cl = firstIn (λ i. not (keepsBy s (nodeAt run i) cl)) (λ i. At (placeAt run i)) Nowhere 0 (held run)
 
-unfoldable pub clustersOf : Run → Given → List Cluster
-clustersOf run g = tabulate mostEntities (λ i. clusterOn g (idAt run i))
+unfoldable pub clustersOf : Run → (ℕ → Cluster) → List Cluster
+clustersOf run cl = tabulate mostEntities (λ i. cl (idAt run i))

@@ -2,13 +2,13 @@
 // its kind's rule. What this crate promises to the layer above: each public function answers, for every configuration and every
 // run whatever, as the definitions of specs/ say.
 ghost use mathlib.Core.Path.{_≡_};
-ghost use Prim.Native.Nat.{_≤_};
+ghost use Prim.Native.Nat.{_≤_, _<_};
 ghost use mathlib.Core.List.{map};
 ghost use lib.ListN.{length, getD};
 ghost use Rattle.layout.specs.Layout.{noCluster, entityOf};
 ghost use Rattle.entities.specs.Run.{sourcesOf};
 ghost use Rattle.edition.specs.Audio.{channelsIn, alike, alikeIn, giveOut, mixerLength, mixerKept, featureLength, featureKept, keeps};
-ghost use Rattle.clusters.specs.Sweep.{clusterBy, channelsOn, firstBy, givesBy, keepsBy, Entering, swept, breach13, clustersOf};
+ghost use Rattle.clusters.specs.Sweep.{clusterBy, clusterOn, channelsOn, firstBy, givesBy, keepsBy, Entering, Sweeps, breach13, clustersOf};
 use entities::MOST_ENTITIES;
 use entities::Node;
 use entities::Run;
@@ -64,17 +64,22 @@ fn give_out(
 ) -> Cluster
     ensures { λ r. ⌜ r ≡ givesBy (now (config .entry)) node (clusterBy (now (channels .entry)) (now (locations .entry)) (now (names .entry))) ⌝ }
 {
+    let first = first_entering(entities::sources(config, node), channels, locations, names);
     let entity = layout::read(scan::descriptor_at(config, node.place));
     match entity {
+        Entity::Unknown => first,
         Entity::Input { cluster, .. } => cluster,
+        Entity::Output { .. } => first,
         Entity::Mixer { cluster, .. } => cluster,
-        _ => first_entering(entities::sources(config, node), channels, locations, names),
+        Entity::Selector { .. } => first,
+        Entity::Printed { .. } => first,
+        Entity::Feature { .. } => first,
     }
 }
 
 // What each ID gives out, along the run: each entity finds what its sources gave out before it.
 pub fn sweep(config: &[u8], run: Run) -> Given
-    ensures { λ r. ⌜ r ≡ swept (now (config .entry)) run ⌝ }
+    ensures { λ r. ⌜ Sweeps (now (config .entry)) run r ⌝ }
 {
     let n = entities::count(run);
     let mut channels = [0u8; 256];
@@ -97,6 +102,13 @@ pub fn sweep(config: &[u8], run: Run) -> Given
     }
 }
 
+// How many channels an ID gives out.
+fn count_of(counts: &[u8; 256], id: u8) -> u8
+    ensures { λ r. ⌜ r ≡ getD (now (counts .entry)) id 0 ⌝ }
+{
+    counts[wide(id)]
+}
+
 // How many channels enter in all.
 fn channels_in(ids: &[u8], counts: &[u8; 256]) -> usize
     requires { ⌜ length (now ids) ≤ 255 ⌝ }
@@ -105,7 +117,7 @@ fn channels_in(ids: &[u8], counts: &[u8; 256]) -> usize
     let mut sum: usize = 0;
     let mut k: usize = 0;
     while k < ids.len() {
-        sum += counts[wide(ids[k])] as usize;
+        sum += wide(count_of(counts, ids[k]));
         k += 1;
     }
     sum
@@ -117,7 +129,7 @@ fn all_have(ids: &[u8], counts: &[u8; 256], c: u8) -> bool
 {
     let mut k: usize = 0;
     while k < ids.len() {
-        if counts[wide(ids[k])] != c {
+        if count_of(counts, ids[k]) != c {
             return false;
         }
         k += 1;
@@ -148,7 +160,7 @@ fn first_count(ids: &[u8], counts: &[u8; 256]) -> u8
     if ids.len() == 0 {
         return 0;
     }
-    counts[wide(ids[0])]
+    count_of(counts, ids[0])
 }
 
 // Whether as many channels enter by each pin of a Selector as by pin 1.
@@ -197,7 +209,7 @@ fn kept(config: &[u8], node: Node, counts: &[u8; 256]) -> bool
 
 // The first entity that breaks rule 13, where each ID gives out these clusters.
 pub fn check_clusters(config: &[u8], run: Run, given: Given) -> Place
-    ensures { λ r. ⌜ r ≡ breach13 (now (config .entry)) run given ⌝ }
+    ensures { λ r. ⌜ r ≡ breach13 (now (config .entry)) run (clusterOn given) ⌝ }
 {
     let n = entities::count(run);
     let counts = given.channels;
@@ -214,7 +226,7 @@ pub fn check_clusters(config: &[u8], run: Run, given: Given) -> Place
 
 // The cluster of each entity of a run, by its index.
 pub fn by_index(run: Run, given: Given) -> [Cluster; 32]
-    ensures { λ r. ⌜ r ≡ clustersOf run given ⌝ }
+    ensures { λ r. ⌜ r ≡ clustersOf run (clusterOn given) ⌝ }
 {
     let mut clusters = [Cluster {
         channels: 0,
