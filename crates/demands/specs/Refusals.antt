@@ -20,7 +20,7 @@ use Rattle.ground.specs.Refuse.{none}
 use Rattle.ground.specs.Rows.{Rows, end, row, AllKept, FirstBroken, Numbered, Answers, Decides, kept-decides, answers-kept, answers-broken}
 use Rattle.layout.specs.declared.Cluster.{Cluster}
 use Rattle.edition.specs.Audio.{audio}
-use Rattle.cutting.specs.Rules.{headerPlace, Kept, At, cuttingRows}
+use Rattle.cutting.specs.Rules.{headerPlace, Kept, BrokenAt, cuttingRows}
 use Rattle.cutting.specs.Exact.{cutting-answers, cutting-numbered}
 use Rattle.sources.specs.Rules.{WrongId, Rule10, WrongSources, Rule11}
 use Rattle.ranks.specs.Rules.{Endless, Rule12}
@@ -33,8 +33,8 @@ module _ {s : List ℕ} (k : Kept s) where
   abbrev pub runRows : (ℕ → Cluster) → ℕ → Rows
   runRows cluster room =
       row 14 (Streams k cluster) (Breaks14 (runOf k) cluster (k .opened .descriptors)) (λ a.
-      row 15 (FewControls k cluster) (At (headerPlace (k .opened)) (FewControls k cluster)) (λ b.
-      row 16 (Rule16 (runOf k) room) (At (headerPlace (k .opened)) (Rule16 (runOf k) room)) (λ c. end)))
+      row 15 (FewControls k cluster) (BrokenAt (headerPlace (k .opened)) (FewControls k cluster)) (λ b.
+      row 16 (Rule16 (runOf k) room) (BrokenAt (headerPlace (k .opened)) (Rule16 (runOf k) room)) (λ c. end)))
 
   abbrev pub connectedRows : ℕ → Rows
   connectedRows room =
