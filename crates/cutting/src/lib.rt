@@ -95,9 +95,10 @@ fn number_of(config: &[u8], at: usize) -> u8
 pub fn cut(config: &[u8]) -> Survey
     ensures { λ r. ⌜ r ≡ surveyOf (now (config .entry)) ⌝ }
 {
-    let verdict = groups::judge(config);
+    let framing = groups::framed(config);
+    let verdict = framing.refusal;
     if verdict.number != 0 {
         return refused(verdict);
     }
-    survey_run(config, groups::frame_of(config))
+    survey_run(config, framing.frame)
 }
