@@ -18,12 +18,11 @@ use Rattle.entities.specs.Run.{mostEntities}
 use Rattle.sources.specs.Breaches.{breach10, breach11}
 use Rattle.ranks.specs.Order.{ordered}
 use Rattle.ranks.specs.Breach.{breach12}
-use Rattle.clusters.specs.declared.Given.{Given}
-use Rattle.clusters.specs.Sweep.{swept, breach13, clustersOf}
+use Rattle.clusters.specs.Sweep.{givenIn, breach13, clustersOf}
 use Rattle.connections.specs.declared.Connected.{Connected}
 
-abbrev pub givenFor : List ℕ → Run → Given
-givenFor s run = swept s (ordered s run)
+abbrev pub givenFor : List ℕ → Run → ℕ → Cluster
+givenFor s run = givenIn s (ordered s run)
 
 unfoldable pub judged : List ℕ → Run → Refusal → Refusal
 judged s run r = refuse 10 (breach10 run) (refuse 11 (breach11 s run) (refuse 12 (breach12 run (ordered s run)) (refuse 13 (breach13 s run (givenFor s run)) r)))
