@@ -72,9 +72,21 @@ module _ {s : List ℕ} {p : ℕ} {ds : List (List ℕ)} {run : Run} (k : Repres
       → Answers (connectedRows p ds behind) (judged s run r)
   unfolding judged
   judged-answers behind r h = (
-    breach10 run, _, refl, decides-10, λ a. (
-      breach11 s run, _, refl, decides-11 a, λ b. (
-        breach12 run (ordered s run), _, refl, decides-12 a b, λ c. (breach13 s run (givenFor s run), r, refl, decides-13 a b c, λ e. h a b c e),
+    breach10 run,
+    _,
+    refl,
+    decides-10,
+    λ a. (
+      breach11 s run,
+      _,
+      refl,
+      decides-11 a,
+      λ b. (
+        breach12 run (ordered s run),
+        _,
+        refl,
+        decides-12 a b,
+        λ c. (breach13 s run (givenFor s run), r, refl, decides-13 a b c, λ e. h a b c e),
       ),
     ),
   )

@@ -2,6 +2,8 @@
 -- where every rule before n is kept, n is not, and p is its place. What keeps the rules is unique: the cutting, the header, the run.
 --   verdict-kept     ==  nothing is refused exactly where the nine rules are kept
 --   verdict-refused  ==  number n is given at place p exactly where that is the refusal that document 01 gives
+--   cutting-answers  ==  the verdict, with whatever is judged behind the nine, is put together by their rows; cutting-numbered: none is number 0
+--   nine-kept, all-nine  ==  the nine rows kept are the nine rules kept, and the other way
 --   kept-cutting, kept-header, kept-run  ==  the cutting, the header and the run that keep the rules are those that the reader works
 --                        with, so they are one
 use Prim.Native.Nat.{ℕ, _+_}
@@ -134,12 +136,32 @@ module _ (s : List ℕ) where
     group-answers : (o : Opened s) → Answers (groupRows o behind) (groupJudged s (frameOf s) (runJudged s (frameOf s) r))
     unfolding groupJudged runJudged
     group-answers o = (
-      breach5 s (frameOf s), _, refl, record { kept = keeps5 o; broken = breaks5 o }, λ e. (
-        breach6 s (frameOf s), _, refl, record { kept = keeps6 o e; broken = breaks6 o e }, λ t. (
-          breach7 s (frameOf s), _, refl, record { kept = keeps7 o e; broken = breaks7 o e }, λ c. (
-            breach8 s (frameOf s), _, refl, record { kept = keeps8 o e t; broken = breaks8 o e t }, λ m. (
-              breach9 s (frameOf s), r, refl, record { kept = keeps9 o e t; broken = breaks9 o e t }, λ l.
-                h (record { opened = o; rule5 = e; rule6 = t; rule7 = c; rule8 = m; rule9 = l }),
+      breach5 s (frameOf s),
+      _,
+      refl,
+      record { kept = keeps5 o; broken = breaks5 o },
+      λ e. (
+        breach6 s (frameOf s),
+        _,
+        refl,
+        record { kept = keeps6 o e; broken = breaks6 o e },
+        λ t. (
+          breach7 s (frameOf s),
+          _,
+          refl,
+          record { kept = keeps7 o e; broken = breaks7 o e },
+          λ c. (
+            breach8 s (frameOf s),
+            _,
+            refl,
+            record { kept = keeps8 o e t; broken = breaks8 o e t },
+            λ m. (
+              breach9 s (frameOf s),
+              r,
+              refl,
+              record { kept = keeps9 o e t; broken = breaks9 o e t },
+              λ l.
+                  h (record { opened = o; rule5 = e; rule6 = t; rule7 = c; rule8 = m; rule9 = l }),
             ),
           ),
         ),
@@ -149,10 +171,24 @@ module _ (s : List ℕ) where
     pub cutting-answers : Answers (cuttingRows s behind) (verdictThen s r)
     unfolding verdictThen judged
     cutting-answers = (
-      breach1 s, _, refl, record { kept = keeps1; broken = breaks1 }, λ a. (
-        breach2 s, _, refl, record { kept = keeps2; broken = breaks2 }, λ b. (
-          breach3 s, _, refl, record { kept = cutting-exists s; broken = cutting-misfit s }, λ c. (
-            breach4 s, _, refl,
+      breach1 s,
+      _,
+      refl,
+      record { kept = keeps1; broken = breaks1 },
+      λ a. (
+        breach2 s,
+        _,
+        refl,
+        record { kept = keeps2; broken = breaks2 },
+        λ b. (
+          breach3 s,
+          _,
+          refl,
+          record { kept = cutting-exists s; broken = cutting-misfit s },
+          λ c. (
+            breach4 s,
+            _,
+            refl,
             record { kept = (λ e. opens (c .0) (c .1) (keeps4 (c .0) (c .1) .0 e), λ o. keeps4 (c .0) (c .1) .1 (o .rule4)); broken = breaks4 (c .0) (c .1) },
             λ o. group-answers (opened a b c o),
           ),
@@ -162,25 +198,30 @@ module _ (s : List ℕ) where
 
   pub cutting-numbered : (behind : Kept s → Rows) → ((k : Kept s) → Numbered (behind k)) → Numbered (cuttingRows s behind)
   cutting-numbered behind h = (
-    λ e. omega arith, λ a. (
-      λ e. omega arith, λ b. (
-        λ e. omega arith, λ c. (
-          λ e. omega arith, λ o. (
-            λ e. omega arith, λ d. (λ e. omega arith, λ t. (λ e. omega arith, λ k. (λ e. omega arith, λ m. (λ e. omega arith, λ l. h (record { opened = opened a b c o; rule5 = d; rule6 = t; rule7 = k; rule8 = m; rule9 = l }))))),
+    λ e. omega arith,
+    λ a. (
+      λ e. omega arith,
+      λ b. (
+        λ e. omega arith,
+        λ c. (
+          λ e. omega arith,
+          λ o. (
+            λ e. omega arith,
+            λ d. (λ e. omega arith, λ t. (λ e. omega arith, λ k. (λ e. omega arith, λ m. (λ e. omega arith, λ l. h (record { opened = opened a b c o; rule5 = d; rule6 = t; rule7 = k; rule8 = m; rule9 = l }))))),
           ),
         ),
       ),
     ),
   )
 
-  kept-rows : AllKept (cuttingRows s (λ k. end)) → Kept s
-  kept-rows (a, (b, (c, (o, (e, (t, (k, (m, (l, x))))))))) = record { opened = opened a b c o; rule5 = e; rule6 = t; rule7 = k; rule8 = m; rule9 = l }
+  pub nine-kept : (behind : Kept s → Rows) → AllKept (cuttingRows s behind) → (k : Kept s) × AllKept (behind k)
+  nine-kept behind (a, (b, (c, (o, (e, (t, (k, (m, (l, x))))))))) = (record { opened = opened a b c o; rule5 = e; rule6 = t; rule7 = k; rule8 = m; rule9 = l }, x)
 
-  rows-kept : Kept s → AllKept (cuttingRows s (λ k. end))
-  rows-kept k =
+  pub all-nine : (behind : Kept s → Rows) (k : Kept s) → AllKept (behind k) → AllKept (cuttingRows s behind)
+  all-nine behind k x =
       let o = k .opened in
       let q : Opening (o .descriptors) = record { rule4 = o .rule4; before = o .before; control = o .control; tail = o .tail; split = o .split; is-control = o .is-control } in
-      (o .rule1, (o .rule2, ((o .descriptors, o .rule3), (q, (k .rule5, (k .rule6, (k .rule7, (k .rule8, (k .rule9, tt)))))))))
+      (o .rule1, (o .rule2, ((o .descriptors, o .rule3), (q, (k .rule5, (k .rule6, (k .rule7, (k .rule8, (k .rule9, x)))))))))
 
   answers : Answers (cuttingRows s (λ k. end)) (verdict s)
   unfolding verdict
@@ -188,8 +229,8 @@ module _ (s : List ℕ) where
 
   pub verdict-kept : (verdict s ≡ none) ↔ Kept s
   verdict-kept = (
-    λ e. kept-rows (answers-kept (cuttingRows s (λ k. end)) (verdict s) (cutting-numbered (λ k. end) (λ k. tt)) answers .0 (ap (λ (x : Refusal). x .number) e)),
-    λ k. all-none (cuttingRows s (λ k. end)) (verdict s) answers (rows-kept k),
+    λ e. nine-kept (λ k. end) (answers-kept (cuttingRows s (λ k. end)) (verdict s) (cutting-numbered (λ k. end) (λ k. tt)) answers .0 (ap (λ (x : Refusal). x .number) e)) .0,
+    λ k. all-none (cuttingRows s (λ k. end)) (verdict s) answers (all-nine (λ k. end) k tt),
   )
 
   pub verdict-refused : (n p : ℕ) → (n ≡ 0 → ⊥) → (verdict s ≡ record { number = n; place = p }) ↔ FirstBroken (cuttingRows s (λ k. end)) n p

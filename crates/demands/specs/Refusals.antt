@@ -1,32 +1,51 @@
 -- The papers' table of refusals of a configuration (document 01), row by row, and that the reader gives exactly the first row that applies,
 -- at exactly its place.
 --   runRows k cluster room  ==  the rows 14 to 16, with the clusters on IDs and a sheet of room bytes
---   connectedRows k room    ==  the rows 10 to 16 of a configuration that keeps the rules 1 to 9
+--   keptRows k room         ==  the rows 10 to 16 of a configuration that keeps the rules 1 to 9
 --   tableOfRows s room      ==  THE TABLE: all sixteen rows
 --   Refused s room n p      ==  number n at place p: every rule before n is kept, n is not, and p is its place
 --   Shown s room            ==  the bytes s are a configuration, and its records have room
 --   shown-rows              ==  .. which is: all sixteen rules are kept
---   first-by-place          ==  the place that is given is the lowest of all offenders' places
+--   clusters-on, controls-on  ==  what the reader has at an entity's index is the cluster on its ID; its controls are those of the descriptors
+--   reads-room              ==  the test of room decides rule 16
 --   accepted-exactly, refused-exactly  ==  THE THEOREMS, for every configuration and every room
-use Prim.Native.Nat.{ℕ, _≤_, _<_}
+use Prim.Native.Nat.{ℕ, _*_, _<_}
 use mathlib.Core.Path.{_≡_, refl, sym, ap, _∙_}
 use mathlib.Core.List.{List, []}
 use mathlib.Core.Logic.{_↔_}
-use lib.ListN.{length, getD, take}
+use lib.ListN.{length, getD}
 use native.Mathlib.Omega.{arith}
 use Rattle.ground.specs.declared.Refusal.{Refusal}
-use Rattle.ground.specs.First.{Breaks}
-use Rattle.ground.specs.Refuse.{none}
+use Rattle.ground.specs.Refuse.{none, keptAt}
 use Rattle.ground.specs.Rows.{Rows, end, row, AllKept, FirstBroken, Numbered, Answers, Decides, kept-decides, answers-kept, answers-broken}
+use Rattle.ground.specs.Pick.{Reads, reads-le}
 use Rattle.layout.specs.declared.Cluster.{Cluster}
+use Rattle.layout.specs.Layout.{noCluster}
+use Rattle.edition.specs.Edition.{ownId}
 use Rattle.edition.specs.Audio.{audio}
+use Rattle.entities.specs.Run.{held}
+use Rattle.cutting.specs.declared.Survey.{Survey}
 use Rattle.cutting.specs.Rules.{headerPlace, Kept, BrokenAt, cuttingRows}
-use Rattle.cutting.specs.Exact.{cutting-answers, cutting-numbered}
-use Rattle.sources.specs.Rules.{WrongId, Rule10, WrongSources, Rule11}
-use Rattle.ranks.specs.Rules.{Endless, Rule12}
-use Rattle.clusters.specs.Rules.{Broken, Rule13}
+use Rattle.cutting.specs.Survey.{surveyOf}
+use Rattle.cutting.specs.Exact.{cutting-answers, cutting-numbered, all-nine, nine-kept}
+use Rattle.sources.specs.Rules.{Rule10, Rule11}
+use Rattle.sources.specs.OwnIds.{own-ids, distinct-ids}
+use Rattle.ranks.specs.Rules.{Rule12}
+use Rattle.clusters.specs.Rules.{Rule13, Connected}
+use Rattle.clusters.specs.Topology.{clusters-shown}
+use Rattle.connections.specs.JudgementLaws.{connectedRows, connected-with, connected-kept, judged-answers}
 use Rattle.streaming.specs.Rule.{Breaks14}
-use Rattle.demands.specs.Surveyed.{placeOfRun}
+use Rattle.streaming.specs.Terminals.{terminalsOf}
+use Rattle.streaming.specs.Tests.{breach14}
+use Rattle.streaming.specs.Standing.{terminals-are, one-each}
+use Rattle.streaming.specs.Breaches.{rule14-kept, rule14-broken}
+use Rattle.controls.specs.Controls.{controlsOf, controlsOfRun, breach15}
+use Rattle.controls.specs.Growth.{tableOf}
+use Rattle.controls.specs.Rule.{rule15-kept, rule15-broken}
+use Rattle.controls.specs.Reader.{controls-same}
+use Rattle.records.specs.Records.{recordSize, roomFor}
+use Rattle.topology.specs.Reading.{clustersAt, tableFor, restJudged, surveyJudged, judgedThen, roomJudged, verdictOf}
+use Rattle.demands.specs.Surveyed.{placeOfRun, entitiesOf, keptSurvey, survey-kept, represented}
 use Rattle.demands.specs.Configuration.{runOf, Streams, FewControls, Configuration, Rule16}
 
 module _ {s : List ℕ} (k : Kept s) where
@@ -36,15 +55,110 @@ module _ {s : List ℕ} (k : Kept s) where
       row 15 (FewControls k cluster) (BrokenAt (headerPlace (k .opened)) (FewControls k cluster)) (λ b.
       row 16 (Rule16 (runOf k) room) (BrokenAt (headerPlace (k .opened)) (Rule16 (runOf k) room)) (λ c. end)))
 
-  abbrev pub connectedRows : ℕ → Rows
-  connectedRows room =
-      row 10 (Rule10 (runOf k)) (Breaks WrongId (placeOfRun k) (runOf k)) (λ a.
-      row 11 (Rule11 audio (runOf k)) (Breaks (λ b d. WrongSources audio (runOf k) d) (placeOfRun k) (runOf k)) (λ b.
-      row 12 (Rule12 audio (runOf k)) (Breaks (λ b d. Endless audio (runOf k) d) (placeOfRun k) (runOf k)) (λ c.
-      row 13 (Rule13 audio (runOf k)) (Breaks (λ b d. Broken audio (runOf k) d) (placeOfRun k) (runOf k)) (λ e. runRows (e .0) room))))
+  abbrev pub keptRows : ℕ → Rows
+  keptRows room = connectedRows (placeOfRun k) (runOf k) (λ a b c e. runRows (e .0) room)
 
 abbrev pub tableOfRows : List ℕ → ℕ → Rows
-tableOfRows s room = cuttingRows s (λ k. connectedRows k room)
+tableOfRows s room = cuttingRows s (λ k. keptRows k room)
 
 abbrev pub Refused : List ℕ → ℕ → ℕ → ℕ → Type 0
 Refused s room n p = FirstBroken (tableOfRows s room) n p
+
+abbrev pub Shown : List ℕ → ℕ → Type 0
+Shown s room = (t : Configuration s) × Rule16 (runOf (t .kept)) room
+
+module _ (s : List ℕ) (k : Kept s) where
+  pub clusters-on : (c : Connected audio (runOf k)) (i : ℕ) → i < length (runOf k) → getD (clustersAt s (keptSurvey k)) i noCluster ≡ c .cluster (ownId (getD (runOf k) i []))
+  clusters-on c = clusters-shown (represented s k) c
+
+  pub reads-room : (room : ℕ) → Reads (roomFor (entitiesOf k) room) (Rule16 (runOf k) room)
+  unfolding roomFor
+  reads-room room = rw (← (represented s k .counted)) (reads-le (held (entitiesOf k) * recordSize) room)
+
+  pub controls-on : (c : Connected audio (runOf k)) → controlsOfRun s (entitiesOf k) (clustersAt s (keptSurvey k)) ≡ controlsOf (runOf k) (c .cluster)
+  controls-on c = controls-same (represented s k) (c .cluster) (clustersAt s (keptSurvey k)) (clusters-on c)
+
+  module _ (room : ℕ) (c : Connected audio (runOf k)) where
+    decides-14 : Decides (breach14 (terminalsOf s (entitiesOf k) (clustersAt s (keptSurvey k))) s) (Streams k (c .cluster)) (Breaks14 (runOf k) (c .cluster) (k .opened .descriptors))
+    decides-14 =
+        let all = terminals-are (represented s k) (k .rule9) (c .cluster) (clustersAt s (keptSurvey k)) (clusters-on c) in
+        let one = one-each (represented s k) (clustersAt s (keptSurvey k)) (own-ids (runOf k) (c .rule10)) in
+        let ts = terminalsOf s (entitiesOf k) (clustersAt s (keptSurvey k)) in
+        record {
+          kept = rule14-kept (runOf k) (c .cluster) ts all one s (k .opened .descriptors) (k .opened .rule3);
+          broken = rule14-broken (runOf k) (c .cluster) ts all one s (k .opened .descriptors) (k .opened .rule3);
+        }
+
+    decides-15 : Decides (breach15 (tableFor s (keptSurvey k) (clustersAt s (keptSurvey k)) .count) (headerPlace (k .opened))) (FewControls k (c .cluster)) (BrokenAt (headerPlace (k .opened)) (FewControls k (c .cluster)))
+    decides-15 = rw (controls-on c) (record {
+      kept = rule15-kept (runOf k) (c .cluster) (k .rule9) (distinct-ids (runOf k) (c .rule10)) (headerPlace (k .opened));
+      broken = rule15-broken (runOf k) (c .cluster) (k .rule9) (distinct-ids (runOf k) (c .rule10)) (headerPlace (k .opened));
+    })
+
+    run-answers : Answers (runRows k (c .cluster) room) (restJudged s (keptSurvey k) (clustersAt s (keptSurvey k)) (roomJudged (keptSurvey k) room none))
+    unfolding restJudged roomJudged
+    run-answers = (
+      _,
+      _,
+      refl,
+      decides-14,
+      λ a. (
+        _,
+        _,
+        refl,
+        decides-15,
+        λ b. (keptAt (roomFor (entitiesOf k) room) (headerPlace (k .opened)), none, refl, kept-decides (headerPlace (k .opened)) (reads-room room), λ e. refl),
+      ),
+    )
+
+  kept-answers : (room : ℕ) → Answers (keptRows k room) (surveyJudged s (keptSurvey k) (roomJudged (keptSurvey k) room none))
+  unfolding surveyJudged
+  kept-answers room =
+      judged-answers (represented s k) (λ a b c e. runRows k (e .0) room) (restJudged s (keptSurvey k) (clustersAt s (keptSurvey k)) (roomJudged (keptSurvey k) room none))
+      (λ a b c e. run-answers room (connected-with (represented s k) a b c e))
+
+  kept-numbered : (room : ℕ) → Numbered (keptRows k room)
+  kept-numbered room = (
+    λ e. omega arith,
+    λ a. (
+      λ e. omega arith,
+      λ b. (
+        λ e. omega arith,
+        λ c. (λ e. omega arith, λ x. (λ e. omega arith, λ f. (λ e. omega arith, λ g. (λ e. omega arith, λ h. tt)))),
+      ),
+    ),
+  )
+
+module _ (s : List ℕ) (room : ℕ) where
+  answers : Answers (tableOfRows s room) (verdictOf s room)
+  unfolding verdictOf judgedThen
+  answers =
+      cutting-answers s (λ k. keptRows k room) (surveyJudged s (surveyOf s) (roomJudged (surveyOf s) room none))
+      (λ k. rw (survey-kept s k) (kept-answers s k room))
+
+  numbered : Numbered (tableOfRows s room)
+  numbered = cutting-numbered s (λ k. keptRows k room) (λ k. kept-numbered s k room)
+
+  pub shown-rows : AllKept (tableOfRows s room) ↔ Shown s room
+  shown-rows = (to, from)
+    where
+      to : AllKept (tableOfRows s room) → Shown s room
+      to h = let n = nine-kept s (λ k. keptRows k room) h in of (n .0) (n .1)
+        where
+          of : (k : Kept s) → AllKept (keptRows k room) → Shown s room
+          of k (a, (b, (c, (e, (x, (y, (z, u))))))) = (record { kept = k; connected = connected-with (represented s k) a b c e; rule14 = x; rule15 = y }, z)
+
+      from : Shown s room → AllKept (tableOfRows s room)
+      from (t, z) =
+          let c = t .connected in
+          all-nine s (λ k. keptRows k room) (t .kept)
+          (c .rule10, (c .rule11, (connected-kept (represented s (t .kept)) c, ((c .cluster, c .given-out, c .fits), (t .rule14, (t .rule15, (z, tt)))))))
+
+  -- THE THEOREMS
+  pub accepted-exactly : (verdictOf s room .number ≡ 0) ↔ Shown s room
+  accepted-exactly =
+      let a = answers-kept (tableOfRows s room) (verdictOf s room) numbered answers in
+      (λ e. shown-rows .0 (a .0 e), λ t. a .1 (shown-rows .1 t))
+
+  pub refused-exactly : (n p : ℕ) → (n ≡ 0 → ⊥) → (verdictOf s room ≡ record { number = n; place = p }) ↔ Refused s room n p
+  refused-exactly = answers-broken (tableOfRows s room) (verdictOf s room) numbered answers
