@@ -15,14 +15,16 @@ use native.Mathlib.Omega.{arith}
 use lib.ListN.{length, getD}
 use Rattle.ground.specs.Pick.{pick}
 use Rattle.ground.specs.Numbers.{byte}
+use Rattle.graph.specs.Members.{_∈_}
 use Rattle.layout.specs.declared.Cluster.{Cluster}
 use Rattle.layout.specs.declared.Entity.{Entity}
 use Rattle.layout.specs.declared.Entity.the-variants.{Unknown, Input, Output, Mixer, Selector, Printed, Feature}
 use Rattle.layout.specs.Layout.{entityOf}
 use Rattle.layout.specs.LayoutLaws.{told}
+use Rattle.edition.specs.Edition.{ownId}
 use Rattle.table.specs.declared.Control.{Control}
 use Rattle.controls.specs.Controls.{unitControl, maskOf, bitCarries, bitControls, bitsFrom, maskControls, channelsFrom, featureControls, entityControls, controlsOf}
-use Rattle.controls.specs.Standing.{Carries, feature, selector, FromBit, bit-of, bits-of, FromUnit, of-mask, channels-of, carried, Stands, here, there, stands-of}
+use Rattle.controls.specs.Standing.{Carries, feature, selector, FromBit, bit-of, bits-of, FromUnit, of-mask, channels-of, carried, Stands, stands-of}
 
 pub data Pairs {A : Type 0} (R : A → A → Type 0) : List A → Type 0 where
   none : Pairs R []
@@ -125,9 +127,8 @@ carried-unit (selector i) = refl
 unit-of : (d : List ℕ) (c : ℕ) (x : Control) → List·Memᴰ x (entityControls (entityOf d) d c) → x .unit ≡ byte d 3
 unit-of d c x m = carried-unit (carried d c (told d) x m)
 
-unit-among : {ds : List (List ℕ)} {cs : List Cluster} {x : Control} → Stands ds cs x → (e : List ℕ) × (List·Memᴰ e ds) × (byte e 3 ≡ x .unit)
-unit-among (here {d} h) = (d, List·Memᴰ·head refl, sym (carried-unit h))
-unit-among (there h) = let r = unit-among h in (r .0, List·Memᴰ·tail (r .1), r .2)
+unit-among : (cluster : ℕ → Cluster) {ds : List (List ℕ)} {x : Control} → Stands ds cluster x → (e : List ℕ) × e ∈ ds × (byte e 3 ≡ x .unit)
+unit-among cluster h = (h .one, h .among, sym (carried-unit (h .has)))
 
 before-more : (d : List ℕ) (ds : List (List ℕ)) (a b : Control) → Before ds a b → Before (d ∷ ds) a b
 before-more d ds a b (inl e) =
@@ -135,13 +136,15 @@ before-more d ds a b (inl e) =
 before-more d ds a b (inr h) = inr h
 
 -- THE LAW: by entity place, channel, selector
-pub controls-ordered : (ds : List (List ℕ)) (cs : List Cluster) → Pairs (Before ds) (controlsOf ds cs)
+pub controls-ordered : (cluster : ℕ → Cluster) (ds : List (List ℕ)) → Pairs (Before ds) (controlsOf ds cluster)
 unfolding controlsOf
-controls-ordered [] cs = none
-controls-ordered (d ∷ ds) [] = none
-controls-ordered (d ∷ ds) (c ∷ cs) =
+controls-ordered cluster [] = none
+controls-ordered cluster (d ∷ ds) =
     pairs-append (Before (d ∷ ds))
-    (pairs-as (λ a. a .unit ≡ byte d 3) Lower (Before (d ∷ ds)) (λ a b p q l. inr (p ∙ sym q, l)) (unit-of d (c .channels)) (entity-pairs (entityOf d) d (c .channels)))
-    (pairs-as (λ a. Control) (Before ds) (Before (d ∷ ds)) (λ a b p q l. before-more d ds a b l) (λ a m. a) (controls-ordered ds cs))
-    (λ a b i j. let r = unit-among (stands-of ds cs b j) in
-    inl (record { before = []; one = d; behind = ds; other = r .0; split = refl; among = r .1; first = sym (unit-of d (c .channels) a i); second = r .2 }))
+    (pairs-as (λ a. a .unit ≡ byte d 3) Lower (Before (d ∷ ds)) (λ a b p q l. inr (p ∙ sym q, l)) (unit-of d c) (entity-pairs (entityOf d) d c))
+    (pairs-as (λ a. Control) (Before ds) (Before (d ∷ ds)) (λ a b p q l. before-more d ds a b l) (λ a m. a) (controls-ordered cluster ds))
+    (λ a b i j. let r = unit-among cluster (stands-of cluster ds b j) in
+    inl (record { before = []; one = d; behind = ds; other = r .0; split = refl; among = r .1; first = sym (unit-of d c a i); second = r .2 }))
+  where
+    c : ℕ
+    c = cluster (ownId d) .channels

@@ -1,27 +1,24 @@
--- The control goes to the next place; past the last, `put` changes nothing.
 use borrow.Author.Needs.{needs}
-use Prim.Native.Nat.{_+_}
-use mathlib.Core.Path.{_≡_, ap}
-use Rattle.table.specs.declared.Control.{Control}
-use Rattle.table.specs.declared.Table.{Table}
-use Rattle.table.specs.Controls.{placed}
-use Rattle.controls.specs.Growth.{added}
 use Rattle.controls.proofs.add.Statement.{statement}
 use Rattle.controls.proofs.add.Tie as tie
+use Rattle.controls.proofs.add.Reads as reads
+use Rattle.controls.proofs.add.Lts as lts
 
-next-place : (t kept : Table) (x : Control) → kept ≡ placed t (t .count) x → record { count = t .count + 1; controls = kept .controls } ≡ added t x
-next-place t kept x e = ap (λ (k : Table). record { count = t .count + 1; controls = k .controls }) e
+-- src/lib.rt:51:9
+mul-notes : tie.Need-mul-notes
+mul-notes c = search needs
 
-ruleset laws = (next-place, needs)
+-- src/lib.rt:51:9
+element-write-notes : tie.Need-element-write-notes
+element-write-notes c = search needs
 
-put-requires : tie.Need-put-requires
-put-requires c κs = search laws
+-- src/lib.rt:53:5
+add-result : tie.Need-add-result
+add-result c = search needs
 
-add-t6 : tie.Need-add-t6
-add-t6 c = search laws
-
+-- src/lib.rt:46:1
 returns : tie.Need-returns
-returns c = search laws
+returns c = ?
 
 pub add-spec : {M : Type 1} → statement M
-add-spec = tie.close (tie.spec put-requires add-t6 returns)
+add-spec = tie.close (tie.spec mul-notes element-write-notes add-result returns)

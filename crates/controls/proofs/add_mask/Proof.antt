@@ -1,73 +1,38 @@
--- The controls of the bits before `bit` are in the table, at most one for each.
-use borrow.Author.Needs.{needs}
-use Prim.Native.Nat.{ℕ, suc, _+_, _-_, _≤_, _<_}
-use mathlib.Core.Path.{_≡_, refl, sym, ap, _∙_}
-use mathlib.Core.List.{List}
-use native.Mathlib.Omega.{arith}
-use lib.ListN.{length}
-use Rattle.table.specs.declared.Table.{Table}
-use Rattle.controls.specs.Controls.{bitControls, bitsFrom, maskControls}
-use Rattle.controls.specs.Growth.{grown, grown-append, grown-count}
-use Rattle.controls.specs.Counts.{bit-few}
 use Rattle.controls.proofs.add_mask.Statement.{statement}
 use Rattle.controls.proofs.add_mask.Tie as tie
-
-module _ (m : List ℕ) (u k : ℕ) (t : Table) where
-  record Come (held : Table) (bit : ℕ) : Type 0 where
-    low : bit ≤ 10
-    same : grown t (maskControls m u k) ≡ grown held (bitsFrom (10 - bit) bit m u k)
-    few : held .count ≤ t .count + bit
-
-  start : Come t 0
-  unfolding maskControls
-  start = record { low = omega arith; same = refl; few = omega arith }
-
-  module _ (held : Table) (bit : ℕ) (g : Come held bit) where
-    room : t .count < 990000 → held .count < 1000000
-    room h = let l = g .low in let f = g .few in omega arith
-
-    on : (next : Table) → bit < 10 → next ≡ grown held (bitControls m u k bit) → Come next (bit + 1)
-    unfolding bitsFrom
-    on next h e =
-        let q : 10 - bit ≡ suc (10 - (bit + 1)) = omega arith in
-        let f = g .few in
-        let one = bit-few m u k bit in
-        let c : next .count ≡ held .count + length (bitControls m u k bit) = ap (λ (x : Table). x .count) e ∙ grown-count held (bitControls m u k bit) in
-        record {
-          low = omega arith;
-          same = g .same ∙ ap (λ (n : ℕ). grown held (bitsFrom n bit m u k)) q ∙ grown-append held (bitControls m u k bit) (bitsFrom (10 - (bit + 1)) (bit + 1) m u k) ∙ ap (λ (x : Table). grown x (bitsFrom (10 - (bit + 1)) (bit + 1) m u k)) (sym e);
-          few = omega arith;
-        }
-
-    over : 10 ≤ bit → held ≡ grown t (maskControls m u k)
-    unfolding bitsFrom grown
-    over h = let z : 10 - bit ≡ 0 = omega arith in sym (g .same ∙ ap (λ (n : ℕ). grown held (bitsFrom n bit m u k)) z)
-
-ruleset laws = (start, room, on, over, needs)
+use Rattle.controls.proofs.add_mask.Reads as reads
+use Rattle.controls.proofs.add_mask.Lts as lts
+use Rattle.controls.proofs.add_bit.Reads as add-bit-reads
 
 abbrev Inv-loop : tie.InvT-loop
-Inv-loop mask unit channel held₀ bit₀ held bit = Come mask unit channel held₀ held bit
+Inv-loop notes₀ count mask unit channel made₀ bit₀ notes made bit = ?
 
 abbrev μ-loop : tie.MeasureT-loop
-μ-loop mask unit channel held₀ bit₀ held bit = 10 - bit
+μ-loop notes₀ count mask unit channel made₀ bit₀ notes made bit = ?
 
+-- src/lib.rt:93:5
 loop-holds : tie.Need-loop-holds Inv-loop μ-loop
-loop-holds c = search laws
+loop-holds c = ?
 
+-- src/lib.rt:94:13
 add-bit-requires : tie.Need-add-bit-requires Inv-loop μ-loop
-add-bit-requires c κs = search laws
+add-bit-requires c κs = ?
 
+-- src/lib.rt:96:9
 add-bit : tie.Need-add-bit Inv-loop μ-loop
-add-bit c = search laws
+add-bit c = ?
 
+-- src/lib.rt:93:5
 loop-less : tie.Need-loop-less Inv-loop μ-loop
-loop-less c = search laws
+loop-less c = ?
 
+-- src/lib.rt:93:5
 loop-again : tie.Need-loop-again Inv-loop μ-loop
-loop-again c = search laws
+loop-again c = ?
 
+-- src/lib.rt:87:1
 returns : tie.Need-returns Inv-loop μ-loop
-returns c = search laws
+returns c = ?
 
 pub add-mask-spec : {M : Type 1} → statement M
 add-mask-spec =
