@@ -24,6 +24,7 @@ use Rattle.scan.specs.CuttingLaws.{cutting-exists, cutting-misfit, cutting-rest
 use Rattle.scan.specs.Search.{searched}
 use Rattle.layout.specs.Layout.{LaidOut, entityOf, isUnknown}
 use Rattle.layout.specs.LayoutLaws.{reads-unknown, laid-out}
+use Rattle.edition.specs.Audio.{audio}
 use Rattle.entities.specs.Run.{mostEntities}
 use Rattle.groups.specs.Rules.{mostBytes, Rule1, Rule2, Rule4, Broken4, Rule5, listedOf, Rule6, Rule7}
 use Rattle.groups.specs.Reading.{frameOf, breach1, breach2, breach4, breach5, breach6, breach7, groupJudged, judged, headerOf}
@@ -109,13 +110,13 @@ module _ (s : List ℕ) where
         unfolding breach9 searched runOf
         breach9-is = ap (firstFrom (λ b d. isUnknown (entityOf d)) (frameOf s .run) []) (run-is s o h t) ∙ ap (λ (i : ℕ). firstFrom (λ b d. isUnknown (entityOf d)) i [] (t .run)) (run-place s o h)
 
-        keeps9 : (breach9 s (frameOf s) ≡ Nowhere) ↔ Rule9 (t .run)
+        keeps9 : (breach9 s (frameOf s) ≡ Nowhere) ↔ Rule9 audio (t .run)
         keeps9 = rw breach9-is (λ e. of (first .0 e), λ k. first .1 (sound-each (λ d. LaidOut d → ⊥) (t .run) .1 (λ d m n. n (k d m))))
           where
             first : (firstFrom (λ b d. isUnknown (entityOf d)) (headerPlace o + length (h .header)) [] (t .run) ≡ Nowhere) ↔ Sound (λ b d. LaidOut d → ⊥) (t .run)
             first = first-nowhere (λ b d. isUnknown (entityOf d)) (λ b d. LaidOut d → ⊥) (λ b d. reads-unknown d) (headerPlace o + length (h .header)) (t .run)
 
-            of : Sound (λ b d. LaidOut d → ⊥) (t .run) → Rule9 (t .run)
+            of : Sound (λ b d. LaidOut d → ⊥) (t .run) → Rule9 audio (t .run)
             of k d m = ⊎-elim (λ l. l) (λ n. absurd (sound-each (λ d. LaidOut d → ⊥) (t .run) .0 k d m n)) (laid-out d)
 
         breaks9 : (p : ℕ) → (breach9 s (frameOf s) ≡ At p) ↔ Breaks (λ b d. LaidOut d → ⊥) (headerPlace o + length (h .header)) (t .run) p

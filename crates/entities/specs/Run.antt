@@ -4,6 +4,10 @@
 --   nodesFrom ed p ds ==  one descriptor after another from place p on
 --   blankNode        ==  a spare place: all zeros
 --   runIn ed p ds    ==  how many there are, and the first 32 of them, spare places blank
+--   walkOf s p       ==  the descriptors that stand in s one after another from place p on, as a run by the Audio 1.0 edition, and the place of
+--                        the first that has a wrong layout
+--   wrongAt e p      ==  the place p where the entity e, which stands there, has a wrong layout; else nowhere
+--   earlier a b      ==  the place that a names; where it names none, what b says: a search, then another that goes on behind it
 --   held r           ==  how many entities of the run r are looked at: as many as it counts, at most 32
 --   nodeAt r i       ==  the i-th entity of the run, counted from 0
 --   idAt, placeAt, feedsAt  ==  its ID; its place, an offset from the first byte; whether it may be a source
@@ -13,11 +17,19 @@ use Prim.Native.Nat.{ℕ, _+_, min}
 use mathlib.Core.Bool.{Bool, false}
 use mathlib.Core.List.{List, [], _∷_}
 use lib.ListN.{length, getD, take, drop}
+use Rattle.ground.specs.declared.Place.{Place}
+use Rattle.ground.specs.declared.Place.the-variants.{Nowhere, At}
+use Rattle.ground.specs.Pick.{pick}
 use Rattle.ground.specs.Lists.{pad, part}
-use Rattle.scan.specs.Cutting.{endAt}
+use Rattle.scan.specs.Cutting.{endAt, rest}
+use Rattle.scan.specs.Search.{searched}
+use Rattle.layout.specs.declared.Entity.{Entity}
+use Rattle.layout.specs.Layout.{entityOf, isUnknown}
 use Rattle.edition.specs.Edition.{Edition, ownId}
+use Rattle.edition.specs.Audio.{audio}
 use Rattle.entities.specs.declared.Node.{Node}
 use Rattle.entities.specs.declared.Run.{Run}
+use Rattle.entities.specs.declared.Walk.{Walk}
 
 abbrev pub mostEntities : ℕ
 mostEntities = 32
@@ -34,6 +46,16 @@ blankNode = record { place = 0; first = 0; pins = 0; id = 0; feeds = false }
 
 unfoldable pub runIn : Edition → ℕ → List (List ℕ) → Run
 runIn ed p ds = record { count = length ds; nodes = pad blankNode mostEntities (nodesFrom ed p ds) }
+
+unfoldable pub walkOf : List ℕ → ℕ → Walk
+walkOf s p = record { run = runIn audio p (rest s p); wrong = searched (λ b d. isUnknown (entityOf d)) s p }
+
+unfoldable pub wrongAt : Entity → ℕ → Place
+wrongAt e p = pick (isUnknown e) (At p) Nowhere
+
+unfoldable pub earlier : Place → Place → Place
+earlier Nowhere b = b
+earlier (At p) b = At p
 
 abbrev pub held : Run → ℕ
 held r = min (r .count) mostEntities

@@ -1,12 +1,12 @@
 // The run of entities by value. What it promises to the layer above: how many descriptors stand one after another, and of the first 32
 // of them where each stands, the ID that it bears, whether it may be a source, and where its own source IDs stand in the
 // configuration. A node knows no edition; the kind's own numbers are read from its descriptor where they are needed.
+ghost use Prim.Native.Nat.{_+_, _<_, _^_};
 ghost use mathlib.Core.Path.{_≡_};
-ghost use Rattle.ground.specs.First.{firstFrom};
-ghost use Rattle.scan.specs.Cutting.{rest};
-ghost use Rattle.layout.specs.Layout.{entityOf, isUnknown};
+ghost use lib.ListN.{length};
+ghost use Rattle.layout.specs.Layout.{entityOf};
 ghost use Rattle.edition.specs.Audio.{audio};
-ghost use Rattle.entities.specs.Run.{blankNode, nodeOf, runIn, held, sourcesOf};
+ghost use Rattle.entities.specs.Run.{blankNode, nodeOf, held, sourcesOf, earlier, wrongAt, walkOf};
 use ground::Place;
 use layout::Entity;
 use scan::byte_at;
@@ -73,4 +73,59 @@ pub fn sources(config: &[u8], node: Node) -> &[u8]
     }
     let end = first + pins;
     &config[first..end]
+}
+
+// The descriptor d at a place, whose layout was read as an entity.
+fn node_of(d: &[u8], entity: Entity, place: usize) -> Node
+    requires { ⌜ entity ≡ entityOf (now d) ⌝ }
+    requires { ⌜ place + length (now d) < 2 ^ 64 ⌝ }
+    ensures { λ r. ⌜ r ≡ nodeOf audio place (now (d .entry)) ⌝ }
+{
+    Node {
+        place,
+        first: place + layout::sources_from(entity),
+        pins: layout::pins(entity),
+        id: byte_at(d, 3),
+        feeds: layout::feeds(entity),
+    }
+}
+
+// The place of the first wrong layout so far, where an entity stands at the next place.
+fn first_wrong(before: Place, entity: Entity, at: usize) -> Place
+    ensures { λ r. ⌜ r ≡ earlier before (wrongAt entity at) ⌝ }
+{
+    if let Place::At(_) = before {
+        return before;
+    }
+    if let Entity::Unknown = entity {
+        Place::At(at)
+    } else {
+        Place::Nowhere
+    }
+}
+
+// The descriptors that stand one after another from a place on, as entities, and the first of them that has a wrong layout.
+pub fn read_run(s: &[u8], from: usize) -> Walk
+    ensures { λ r. ⌜ r ≡ walkOf (now (s .entry)) from ⌝ }
+{
+    let spare = blank();
+    let mut nodes = [spare; 32];
+    let mut count: usize = 0;
+    let mut wrong = Place::Nowhere;
+    let mut at = from;
+    loop {
+        let e = scan::end_of(s, at);
+        if e == at {
+            let run = Run { count, nodes };
+            return Walk { run, wrong };
+        }
+        let entity = layout::read(&s[at..e]);
+        let next = first_wrong(wrong, entity, at);
+        wrong = next;
+        if count < MOST_ENTITIES {
+            nodes[count] = node_of(&s[at..e], entity, at);
+        }
+        count += 1;
+        at = e;
+    }
 }
