@@ -5,7 +5,7 @@
 --   tableBy l n        ==  the table that the notes l tell, n of them counted
 --   tableFrom l n      ==  the same, spare places behind the first n
 --   Room t most        ==  the table t has its 128 places, and counts fewer than that many
---   room-grown         ==  .. a table that has grown has its places still
+--   room-more, room-grown  ==  .. so fewer than more; a table that has grown has its places still
 --   notes-empty        ==  no notes tell the table with no control
 --   notes-added, notes-full  ==  a note put in the next place, and past the last place, tells the table with that control added
 --   notes-front        ==  where the notes tell the table of some controls, the notes that are counted are enough
@@ -35,7 +35,7 @@ low : (a w : ℕ) → a < 256 → (a + 256 * w) % 256 ≡ a
 low a w h = add-mul-mod-self-left a 256 w ∙ mod-eq-of-lt h
 
 above : (a w : ℕ) → a < 256 → (a + 256 * w) / 256 ≡ w
-above a w h = add-mul-div-left a w (lit< tt) ∙ ap (λ (x : ℕ). x + w) (div-eq-of-lt h)
+above a w h = add-mul-div-left a w (lit< tt) ∙ ap (λ (x : ℕ). x + w) (div-eq-of-lt h) ∙ omega arith
 
 pub noted : (u k v p f : ℕ) → u < 256 → k < 256 → v < 256 → p < 256 → f < 256 → controlFrom (noteOf u k v p f) ≡ freshControl u k v p f
 unfolding controlFrom
@@ -56,13 +56,16 @@ pub record Room (t : Table) (most : ℕ) : Type 0 where
   pub places : length (t .controls) ≡ mostControls
   pub few : t .count < most
 
+pub room-more : (t : Table) (n m : ℕ) → Room t n → n ≤ m → Room t m
+room-more t n m r h = let f = r .few in record { places = r .places; few = omega arith }
+
 grown-places : (t : Table) (l : List Control) → length (grown t l .controls) ≡ length (t .controls)
 unfolding grown
 grown-places t [] = refl
 grown-places t (x ∷ l) = grown-places (added t x) l ∙ length-set (t .controls) (t .count) x
 
-pub room-grown : (t : Table) (l : List Control) (n m k : ℕ) → Room t n → length l ≤ k → n + k ≤ m → Room (grown t l) m
-room-grown t l n m k r h e =
+pub room-grown : (t : Table) (l : List Control) (n k : ℕ) → Room t n → length l ≤ k → Room (grown t l) (n + k)
+room-grown t l n k r h =
     let c = grown-count t l in
     let f = r .few in
     record { places = grown-places t l ∙ r .places; few = omega arith }

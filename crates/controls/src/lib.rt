@@ -47,9 +47,10 @@ fn add(notes: &mut [u64; 128], count: usize, note: u64) -> usize
     requires { ⌜ Room (tableBy (now notes) count) 1000000 ⌝ }
     ensures { λ r. ⌜ tableBy (now (notes .exit)) r ≡ added (tableBy (now (notes .entry)) count) (controlFrom note) ⌝ }
 {
-    if count < table::CONTROLS {
-        notes[count] = note;
+    if table::CONTROLS <= count {
+        return count + 1;
     }
+    notes[count] = note;
     count + 1
 }
 

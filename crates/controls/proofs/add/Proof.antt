@@ -1,24 +1,38 @@
+-- The note goes to the next place; past the last place nothing is kept of it.
 use borrow.Author.Needs.{needs}
+use Prim.Native.Nat.{ℕ, _+_, _≤_}
+use mathlib.Core.Path.{_≡_}
+use mathlib.Core.List.{List}
+use native.Mathlib.Omega.{arith}
+use Rattle.table.specs.Controls.{mostControls}
+use Rattle.controls.specs.Growth.{added}
+use Rattle.controls.specs.Notes.{controlFrom, tableBy, Room, notes-added, notes-full}
 use Rattle.controls.proofs.add.Statement.{statement}
 use Rattle.controls.proofs.add.Tie as tie
-use Rattle.controls.proofs.add.Reads as reads
-use Rattle.controls.proofs.add.Lts as lts
 
--- src/lib.rt:51:9
-mul-notes : tie.Need-mul-notes
-mul-notes c = search needs
+full : (l : List ℕ) (n x : ℕ) → Room (tableBy l n) 1000000 → mostControls ≤ n → tableBy l (n + 1) ≡ added (tableBy l n) (controlFrom x)
+full l n x r h = notes-full l n x (let p = r .places in omega arith)
 
--- src/lib.rt:51:9
-element-write-notes : tie.Need-element-write-notes
-element-write-notes c = search needs
+ruleset laws = (full, notes-added, needs)
 
--- src/lib.rt:53:5
 add-result : tie.Need-add-result
-add-result c = search needs
+add-result c = search laws
 
--- src/lib.rt:46:1
 returns : tie.Need-returns
-returns c = ?
+returns c = search laws
+
+mul-notes : tie.Need-mul-notes
+mul-notes c = search laws
+
+element-write-notes : tie.Need-element-write-notes
+element-write-notes c = search laws
+
+add-result-2 : tie.Need-add-result-2
+add-result-2 c = search laws
+
+returns-2 : tie.Need-returns-2
+returns-2 c = search laws
 
 pub add-spec : {M : Type 1} → statement M
-add-spec = tie.close (tie.spec mul-notes element-write-notes add-result returns)
+add-spec =
+    tie.close (tie.spec add-result returns mul-notes element-write-notes add-result-2 returns-2)
