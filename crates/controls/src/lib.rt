@@ -5,7 +5,7 @@ ghost use mathlib.Core.Path.{_≡_};
 ghost use Prim.Native.Nat.{_<_};
 ghost use Rattle.layout.specs.Layout.{entityOf};
 ghost use Rattle.table.specs.Controls.{mostControls};
-ghost use Rattle.controls.specs.Controls.{freshControl, bitSet, bitControls, maskControls, featureControls, entityControls, controlsOfRun, breach15};
+ghost use Rattle.controls.specs.Controls.{freshControl, maskOf, bitSet, bitControls, maskControls, featureControls, entityControls, controlsOfRun, breach15};
 ghost use Rattle.controls.specs.Growth.{added, grown, tableOf};
 ghost use Rattle.controls.specs.Notes.{noteOf, controlFrom, tableBy, tableFrom, Room};
 use entities::Run;
@@ -99,6 +99,14 @@ fn add_mask(notes: &mut [u64; 128], count: usize, mask: &[u8], unit: u8, channel
     made
 }
 
+// A channel's mask in a Feature Unit of this control size: masks of so many bytes stand from 6 on.
+fn mask_of(d: &[u8], size: u8, channel: u8) -> &[u8]
+    ensures { λ r. ⌜ now r ≡ maskOf (now (d .entry)) size channel ⌝ }
+{
+    let at = 6 + channel as usize * size as usize;
+    stretch(d, at, at + size as usize)
+}
+
 // The controls of a Feature Unit: channel 0 is master, and one for each channel of its cluster.
 fn add_unit(
     notes: &mut [u64; 128],
@@ -114,8 +122,7 @@ fn add_unit(
     let mut made = count;
     let mut channel: usize = 0;
     while channel <= channels as usize {
-        let at = 6 + channel * size as usize;
-        let mask = stretch(d, at, at + size as usize);
+        let mask = mask_of(d, size, channel as u8);
         let more = add_mask(notes, made, mask, unit, channel as u8);
         made = more;
         channel += 1;

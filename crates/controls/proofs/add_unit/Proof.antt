@@ -1,59 +1,81 @@
+-- The controls of the channels before `channel` are noted, at most ten for each.
+use borrow.Author.Needs.{needs}
+use Prim.Native.Nat.{ℕ, suc, _+_, _*_, _-_, _≤_, _<_}
+use mathlib.Core.Path.{_≡_, sym, ap, _∙_}
+use mathlib.Core.List.{List}
+use native.Mathlib.Omega.{arith}
+use Rattle.table.specs.declared.Table.{Table}
+use Rattle.controls.specs.Controls.{maskOf, maskControls, channelsFrom, featureControls}
+use Rattle.controls.specs.Growth.{grown, grown-append}
+use Rattle.controls.specs.Notes.{tableBy, Room, room-more, room-grown}
+use Rattle.controls.specs.Counts.{mask-few}
 use Rattle.controls.proofs.add_unit.Statement.{statement}
 use Rattle.controls.proofs.add_unit.Tie as tie
-use Rattle.controls.proofs.add_unit.Reads as reads
-use Rattle.controls.proofs.add_unit.Lts as lts
-use Rattle.controls.proofs.add_mask.Reads as add-mask-reads
-use Rattle.groups.proofs.stretch.Reads as stretch-reads
+
+module _ (d : List ℕ) (u n c : ℕ) (t : Table) where
+  record Come (held : Table) (k : ℕ) : Type 0 where
+    low : k ≤ c + 1
+    same : grown t (featureControls u n c d) ≡ grown held (channelsFrom (c + 1 - k) k u n d)
+    room : Room held (900000 + 10 * k)
+
+  start : Room t 900000 → Come t 0
+  unfolding featureControls
+  start r = let q : suc c ≡ c + 1 - 0 = omega arith in record { low = omega arith; same = ap (λ (j : ℕ). grown t (channelsFrom j 0 u n d)) q; room = r }
+
+  module _ (held : Table) (k : ℕ) (g : Come held k) where
+    room-next : k ≤ c → c < 256 → Room held 990000
+    room-next l m = room-more held (900000 + 10 * k) 990000 (g .room) (omega arith)
+
+    on : (mask : List ℕ) (next : Table) → k ≤ c → mask ≡ maskOf d n k → next ≡ grown held (maskControls mask u k) → Come next (k + 1)
+    unfolding channelsFrom
+    on mask next h e f =
+        let q : c + 1 - k ≡ suc (c + 1 - (k + 1)) = omega arith in
+        let z : 900000 + 10 * k + 10 ≡ 900000 + 10 * (k + 1) = omega arith in
+        let r : next ≡ grown held (maskControls (maskOf d n k) u k) = f ∙ ap (λ (x : List ℕ). grown held (maskControls x u k)) e in
+        record {
+          low = omega arith;
+          same = g .same ∙ ap (λ (j : ℕ). grown held (channelsFrom j k u n d)) q ∙ grown-append held (maskControls (maskOf d n k) u k) (channelsFrom (c + 1 - (k + 1)) (k + 1) u n d) ∙ ap (λ (x : Table). grown x (channelsFrom (c + 1 - (k + 1)) (k + 1) u n d)) (sym r);
+          room = rw (f, ← z) (room-grown held (maskControls mask u k) (900000 + 10 * k) 10 (g .room) (mask-few mask u k));
+        }
+
+    over : c < k → held ≡ grown t (featureControls u n c d)
+    unfolding channelsFrom grown
+    over h = let z : c + 1 - k ≡ 0 = omega arith in sym (g .same ∙ ap (λ (j : ℕ). grown held (channelsFrom j k u n d)) z)
+
+ruleset laws = (start, room-next, on, over, needs)
 
 abbrev Inv-loop : tie.InvT-loop
-Inv-loop notes₀ count d unit size channels made₀ channel₀ notes made channel = ?
+Inv-loop notes₀ count d unit size channels made₀ channel₀ notes made channel = Come d unit size channels (tableBy notes₀ count) (tableBy notes made) channel
 
 abbrev μ-loop : tie.MeasureT-loop
-μ-loop notes₀ count d unit size channels made₀ channel₀ notes made channel = ?
+μ-loop notes₀ count d unit size channels made₀ channel₀ notes made channel = channels + 1 - channel
 
--- src/lib.rt:116:5
 loop-holds : tie.Need-loop-holds Inv-loop μ-loop
-loop-holds c = ?
+loop-holds c = search laws
 
--- src/lib.rt:117:22
-mul-at : tie.Need-mul-at Inv-loop μ-loop
-mul-at c = ?
+cast-mask-of : tie.Need-cast-mask-of Inv-loop μ-loop
+cast-mask-of c = search laws
 
--- src/lib.rt:117:18
-add-at : tie.Need-add-at Inv-loop μ-loop
-add-at c = ?
+mask-of-requires : tie.Need-mask-of-requires Inv-loop μ-loop
+mask-of-requires c κs = search laws
 
--- src/lib.rt:118:35
-add-stretch : tie.Need-add-stretch Inv-loop μ-loop
-add-stretch c = ?
-
--- src/lib.rt:118:13
-stretch-requires : tie.Need-stretch-requires Inv-loop μ-loop
-stretch-requires c κs = ?
-
--- src/lib.rt:119:54
 cast-add-mask : tie.Need-cast-add-mask Inv-loop μ-loop
-cast-add-mask c = ?
+cast-add-mask c = search laws
 
--- src/lib.rt:119:13
 add-mask-requires : tie.Need-add-mask-requires Inv-loop μ-loop
-add-mask-requires c κs = ?
+add-mask-requires c κs = search laws
 
--- src/lib.rt:121:9
 add-channel : tie.Need-add-channel Inv-loop μ-loop
-add-channel c = ?
+add-channel c = search laws
 
--- src/lib.rt:116:5
 loop-less : tie.Need-loop-less Inv-loop μ-loop
-loop-less c = ?
+loop-less c = search laws
 
--- src/lib.rt:116:5
 loop-again : tie.Need-loop-again Inv-loop μ-loop
-loop-again c = ?
+loop-again c = search laws
 
--- src/lib.rt:103:1
 returns : tie.Need-returns Inv-loop μ-loop
-returns c = ?
+returns c = search laws
 
 pub add-unit-spec : {M : Type 1} → statement M
 add-unit-spec =
@@ -62,10 +84,8 @@ add-unit-spec =
     Inv-loop
     μ-loop
     loop-holds
-    mul-at
-    add-at
-    add-stretch
-    stretch-requires
+    cast-mask-of
+    mask-of-requires
     cast-add-mask
     add-mask-requires
     add-channel
