@@ -4,6 +4,7 @@
 --   noted              ==  the control of a note is the one that it was made of, where all five are bytes
 --   tableBy l n        ==  the table that the notes l tell, n of them counted
 --   tableFrom l n      ==  the same, spare places behind the first n
+--   Come t l most r    ==  the table r is t, grown by the controls l, which are no more than that many
 --   Room t most        ==  the table t has its 128 places, and counts fewer than that many
 --   room-more, room-grown  ==  .. so fewer than more; a table that has grown has its places still
 --   notes-empty        ==  no notes tell the table with no control
@@ -51,6 +52,10 @@ tableBy l n = record { count = n; controls = map controlFrom l }
 
 abbrev pub tableFrom : List ℕ → ℕ → Table
 tableFrom l n = record { count = n; controls = pad blankControl mostControls (take n (map controlFrom l)) }
+
+pub record Come (t : Table) (l : List Control) (most : ℕ) (r : Table) : Type 0 where
+  pub same : r ≡ grown t l
+  pub few : length l ≤ most
 
 pub record Room (t : Table) (most : ℕ) : Type 0 where
   pub places : length (t .controls) ≡ mostControls

@@ -7,7 +7,7 @@ ghost use Rattle.layout.specs.Layout.{entityOf};
 ghost use Rattle.table.specs.Controls.{mostControls};
 ghost use Rattle.controls.specs.Controls.{freshControl, maskOf, bitSet, bitControls, maskControls, featureControls, entityControls, controlsOfRun, breach15};
 ghost use Rattle.controls.specs.Growth.{added, grown, tableOf};
-ghost use Rattle.controls.specs.Notes.{noteOf, controlFrom, tableBy, tableFrom, Room};
+ghost use Rattle.controls.specs.Notes.{noteOf, controlFrom, tableBy, tableFrom, Come, Room};
 use entities::Run;
 use ground::Place;
 use groups::stretch;
@@ -133,7 +133,7 @@ fn add_unit(
 // The controls of the entity with this descriptor and these channels.
 fn add_entity(notes: &mut [u64; 128], count: usize, d: &[u8], channels: u8) -> usize
     requires { ⌜ Room (tableBy (now notes) count) 900000 ⌝ }
-    ensures { λ r. ⌜ tableBy (now (notes .exit)) r ≡ grown (tableBy (now (notes .entry)) count) (entityControls (entityOf (now (d .entry))) (now (d .entry)) channels) ⌝ }
+    ensures { λ r. ⌜ Come (tableBy (now (notes .entry)) count) (entityControls (entityOf (now (d .entry))) (now (d .entry)) channels) 2560 (tableBy (now (notes .exit)) r) ⌝ }
 {
     let entity = layout::read(d);
     match entity {
@@ -157,18 +157,12 @@ fn table_of(notes: &[u64; 128], count: usize) -> Table
     let mut i: usize = 0;
     while i < table::CONTROLS {
         if count <= i {
-            return Table {
-                count,
-                controls,
-            };
+            return Table { count, controls };
         }
         controls[i] = control_from(notes[i]);
         i += 1;
     }
-    Table {
-        count,
-        controls,
-    }
+    Table { count, controls }
 }
 
 // The table of controls of a run, none loaded. It counts every control and holds the first 128 of them.

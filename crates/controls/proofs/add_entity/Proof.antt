@@ -1,9 +1,10 @@
 -- One law for each kind of entity.
 use borrow.Author.Needs.{needs}
-use Prim.Native.Nat.{ℕ}
+use Prim.Native.Nat.{ℕ, _≤_, _<_}
 use mathlib.Core.Path.{_≡_, sym, ap, _∙_}
 use mathlib.Core.List.{List}
 use native.Mathlib.Omega.{arith}
+use lib.ListN.{length}
 use Rattle.layout.specs.declared.Cluster.{Cluster}
 use Rattle.layout.specs.declared.Entity.{Entity}
 use Rattle.layout.specs.declared.Entity.the-variants.{Unknown, Input, Output, Mixer, Selector, Printed, Feature}
@@ -12,6 +13,7 @@ use Rattle.table.specs.declared.Table.{Table}
 use Rattle.controls.specs.Controls.{selectorControl, featureControls, entityControls}
 use Rattle.controls.specs.Growth.{added, grown}
 use Rattle.controls.specs.Notes.{controlFrom, Room, room-more}
+use Rattle.controls.specs.Counts.{entity-few}
 use Rattle.controls.proofs.add_entity.Statement.{statement}
 use Rattle.controls.proofs.add_entity.Tie as tie
 
@@ -48,10 +50,14 @@ module _ (t : Table) (d : List ℕ) (c : ℕ) (e : Entity) (read : e ≡ entityO
     unfolding entityControls
     at-feature i f n l h g = g ∙ sym (by-kind (Feature i f n l) h)
 
+-- ten at most for each channel, and ten for master
+few : (d : List ℕ) (c : ℕ) → c < 256 → length (entityControls (entityOf d) d c) ≤ 2560
+few d c h = let k = entity-few (entityOf d) d c in omega arith
+
 room : (t : Table) → Room t 900000 → Room t 1000000
 room t r = room-more t 900000 1000000 r (omega arith)
 
-ruleset laws = (at-unknown, at-input, at-output, at-mixer, at-selector, at-printed, at-feature, room, needs)
+ruleset laws = (at-unknown, at-input, at-output, at-mixer, at-selector, at-printed, at-feature, few, room, needs)
 
 read-requires : tie.Need-read-requires
 read-requires c κs = search laws

@@ -2,6 +2,7 @@
 use borrow.Author.Needs.{needs}
 use Prim.Native.Nat.{ℕ, _+_, _*_, _-_, _≤_, _<_}
 use mathlib.Core.Path.{_≡_, refl, sym, ap, _∙_}
+use mathlib.Core.Bool.{false}
 use mathlib.Core.List.{List, _++_}
 use native.Mathlib.Omega.{arith}
 use native.Mathlib.Numerals.{add-one}
@@ -14,11 +15,10 @@ use Rattle.entities.specs.declared.Node.{Node}
 use Rattle.entities.specs.declared.Run.{Run}
 use Rattle.entities.specs.Run.{mostEntities, blankNode, held, nodeAt}
 use Rattle.table.specs.declared.Table.{Table}
-use Rattle.table.specs.Controls.{mostControls}
+use Rattle.table.specs.Controls.{mostControls, blankControl}
 use Rattle.controls.specs.Controls.{entityControls, nodeControls, controlsTo, controlsOfRun}
 use Rattle.controls.specs.Growth.{grown, tableOf, table-empty, table-grown}
-use Rattle.controls.specs.Notes.{tableBy, tableFrom, Room, room-more, room-grown, notes-empty, notes-front}
-use Rattle.controls.specs.Counts.{entity-few}
+use Rattle.controls.specs.Notes.{tableBy, tableFrom, Come, Room, room-more, room-grown, notes-empty, notes-front}
 use Rattle.controls.proofs.read_controls.Statement.{statement}
 use Rattle.controls.proofs.read_controls.Tie as tie
 
@@ -27,24 +27,24 @@ abbrev zeros : Node
 zeros = record { place = 0; first = 0; pins = 0; id = 0; feeds = false }
 
 module _ (s : List ℕ) (run : Run) (cs : List Cluster) where
-  record Come (t : Table) (n i : ℕ) : Type 0 where
+  record Listed (t : Table) (n i : ℕ) : Type 0 where
     low : i ≤ n
     told : n ≡ held run
     few : n ≤ mostEntities
     same : t ≡ tableOf (controlsTo i s run cs)
     room : Room t (1 + 2560 * i)
 
-  start : (n : ℕ) → n ≡ held run → Come (tableBy (replicate mostControls 0) 0) n 0
+  start : (n : ℕ) → n ≡ held run → Listed (tableBy (replicate mostControls 0) 0) n 0
   unfolding controlsTo
   start n e = record {
     low = omega arith;
     told = e;
     few = omega arith;
     same = notes-empty ∙ table-empty;
-    room = rw notes-empty (record { places = length-replicate mostControls _; few = omega arith });
+    room = rw notes-empty (record { places = length-replicate mostControls blankControl; few = omega arith });
   }
 
-  module _ (t : Table) (n i : ℕ) (g : Come t n i) where
+  module _ (t : Table) (n i : ℕ) (g : Listed t n i) where
     below : i < n → i < mostEntities
     below h = let f = g .few in omega arith
 
@@ -52,25 +52,24 @@ module _ (s : List ℕ) (run : Run) (cs : List Cluster) where
     room-next = let f = g .few in let l = g .low in room-more t (1 + 2560 * i) 900000 (g .room) (omega arith)
 
     on : (d : List ℕ) (next : Table) → i < n → d ≡ part s (getD (run .nodes) i zeros .place) (endAt s (getD (run .nodes) i zeros .place))
-        → getD cs i noCluster .channels < 256 → next ≡ grown t (entityControls (entityOf d) d (getD cs i noCluster .channels)) → Come next n (i + 1)
+        → Come t (entityControls (entityOf d) d (getD cs i noCluster .channels)) 2560 next → Listed next n (i + 1)
     unfolding controlsTo blankNode
-    on d next h e w f =
+    on d next h e f =
         let z : 1 + 2560 * i + 2560 ≡ 1 + 2560 * (i + 1) = omega arith in
-        let k = entity-few (entityOf d) d (getD cs i noCluster .channels) in
         record {
           low = omega arith;
           told = g .told;
           few = g .few;
           same =
-              f
+              f .same
               ∙ ap (λ (x : Table). grown x (entityControls (entityOf d) d (getD cs i noCluster .channels))) (g .same)
               ∙ table-grown (controlsTo i s run cs) (entityControls (entityOf d) d (getD cs i noCluster .channels))
               ∙ ap (λ (x : List ℕ). tableOf (controlsTo i s run cs ++ entityControls (entityOf x) x (getD cs i noCluster .channels))) e
               ∙ rw add-one refl;
-          room = rw (f, ← z) (room-grown t (entityControls (entityOf d) d (getD cs i noCluster .channels)) (1 + 2560 * i) 2560 (g .room) (omega arith));
+          room = rw (f .same, ← z) (room-grown t (entityControls (entityOf d) d (getD cs i noCluster .channels)) (1 + 2560 * i) 2560 (g .room) (f .few));
         }
 
-  over : (l : List ℕ) (m n i : ℕ) → Come (tableBy l m) n i → n ≤ i → (r : Table) → r ≡ tableFrom l m → r ≡ tableOf (controlsOfRun s run cs)
+  over : (l : List ℕ) (m n i : ℕ) → Listed (tableBy l m) n i → n ≤ i → (r : Table) → r ≡ tableFrom l m → r ≡ tableOf (controlsOfRun s run cs)
   unfolding controlsOfRun
   over l m n i g h r e =
       let b = g .low in
@@ -81,7 +80,7 @@ module _ (s : List ℕ) (run : Run) (cs : List Cluster) where
 ruleset laws = (start, below, room-next, on, over, needs)
 
 abbrev Inv-loop : tie.InvT-loop
-Inv-loop config run clusters n notes₀ count₀ i₀ notes count i = Come config run clusters (tableBy notes count) n i
+Inv-loop config run clusters n notes₀ count₀ i₀ notes count i = Listed config run clusters (tableBy notes count) n i
 
 abbrev μ-loop : tie.MeasureT-loop
 μ-loop config run clusters n notes₀ count₀ i₀ notes count i = n - i
