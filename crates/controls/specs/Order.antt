@@ -1,7 +1,6 @@
 -- "The table goes by entity place, channel, selector" (document 01).
 --   Pairs R l        ==  each element of l is related by R to each that stands behind it
 --   pairs-as, pairs-at ==  elements that have P, related by R, are related by S; the elements at two places are related
---   member-at        ==  what stands at a place of a list is an element
 --   Lower a b        ==  a has the lower channel, or the same channel and the lower selector
 --   Earlier ds u v   ==  in the run ds an entity with ID u stands before one with ID v
 --   Before ds a b    ==  a's entity stands earlier, or the two are of one unit and a is Lower
@@ -15,6 +14,7 @@ use native.Mathlib.Omega.{arith}
 use lib.ListN.{length, getD}
 use Rattle.ground.specs.Pick.{pick}
 use Rattle.ground.specs.Numbers.{byte}
+use Rattle.ground.specs.Lists.{member-at}
 use Rattle.graph.specs.Members.{_∈_}
 use Rattle.layout.specs.declared.Cluster.{Cluster}
 use Rattle.layout.specs.declared.Entity.{Entity}
@@ -42,12 +42,6 @@ pub pairs-as : {A : Type 0} (P : A → Type 0) (R S : A → A → Type 0) {l : L
 pairs-as P R S h g none = none
 pairs-as P R S h g (more f p) =
     more (λ b i. h _ b (g _ (List·Memᴰ·head refl)) (g b (List·Memᴰ·tail i)) (f b i)) (pairs-as P R S h (λ x i. g x (List·Memᴰ·tail i)) p)
-
--- what stands at a place is an element
-pub member-at : {A : Type 0} (z : A) (l : List A) (i : ℕ) → i < length l → List·Memᴰ (getD l i z) l
-member-at z [] i h = absurd (omega arith)
-member-at z (a ∷ l) zero h = List·Memᴰ·head refl
-member-at z (a ∷ l) (suc i) h = List·Memᴰ·tail (member-at z l i (omega arith))
 
 -- two elements at two places
 pub pairs-at : {A : Type 0} (R : A → A → Type 0) (z : A) {l : List A} → Pairs R l → (p q : ℕ) → p < q → q < length l → R (getD l p z) (getD l q z)

@@ -10,11 +10,11 @@ use mathlib.Core.Logic.{⊎-elim, _↔_}
 use mathlib.Core.List.{List, [], _∷_, _++_, append-assoc, append-nil}
 use native.Mathlib.Omega.{arith}
 use lib.Dec.{ltb}
-use lib.ListN.{length, getD, take, length-append, List·getD-eq-default}
-use lib.Seq.{take-suc, take-length, getD-append-seam}
+use lib.ListN.{length, getD, take, List·getD-eq-default}
+use lib.Seq.{take-suc, take-length}
 use Rattle.ground.specs.Pick.{decided, reads-lt}
 use Rattle.ground.specs.Numbers.{byte}
-use Rattle.ground.specs.Lists.{pad, pad-length, pad-at, split-of}
+use Rattle.ground.specs.Lists.{pad, pad-length, pad-at, member-at, member-index}
 use Rattle.graph.specs.Members.{_∈_}
 use Rattle.layout.specs.declared.Cluster.{Cluster}
 use Rattle.layout.specs.Layout.{Pins, LaidOut, noCluster, entityOf}
@@ -35,7 +35,7 @@ use Rattle.table.specs.Fresh.{FreshAs, Fresh}
 use Rattle.controls.specs.Controls.{unitControl, entityControls, controlsOf, nodeControls, controlsTo, controlsOfRun}
 use Rattle.controls.specs.Growth.{tableOf}
 use Rattle.controls.specs.Standing.{Carries, feature, selector, Stands, stands-of, control-stands}
-use Rattle.controls.specs.Order.{member-at, pairs-at, Before, controls-ordered}
+use Rattle.controls.specs.Order.{pairs-at, Before, controls-ordered}
 use Rattle.controls.specs.Rule.{DistinctIds, Rule15, before-other, listed-few}
 
 controls-append : (cluster : ℕ → Cluster) (xs ys : List (List ℕ)) → controlsOf (xs ++ ys) cluster ≡ controlsOf xs cluster ++ controlsOf ys cluster
@@ -122,7 +122,8 @@ carried-fresh {d} o h (feature k b i p q f g) = unit-fresh (known b q f) (byte d
 carried-fresh {d} o h (selector i) =
     record { channel = refl; pins = selector-pins d o i; unused = record { unloaded = refl; min = refl; max = refl; res = refl }; first = refl }
 
-module _ (ds : List (List ℕ)) (cluster : ℕ → Cluster) (laid : (d : List ℕ) → d ∈ ds → LaidOut d) (distinct : DistinctIds ownId ds) (rule : Rule15 ds cluster) where
+module _ (ds : List (List ℕ)) (cluster : ℕ → Cluster) (laid : (d : List ℕ) → d ∈ ds → LaidOut d)
+    (distinct : DistinctIds ownId ds) (rule : Rule15 ds cluster) where
   abbrev listed : List Control
   listed = controlsOf ds cluster
 
@@ -141,14 +142,8 @@ module _ (ds : List (List ℕ)) (cluster : ℕ → Cluster) (laid : (d : List �
 
       to : Stands ds cluster x → InTable (tableOf listed) x
       to h =
-          let k = split-of (control-stands cluster ds laid x .1 h) in
-          let a = k .0 in
-          let n : length listed ≡ length a + suc (length (k .1)) = ap length (k .2) ∙ length-append a (x ∷ k .1) in
-          record {
-            place = length a;
-            inside = omega arith;
-            stands = at-place listed few (length a) (omega arith) ∙ ap (λ (m : List Control). getD m (length a) blankControl) (k .2) ∙ getD-append-seam a x (k .1) blankControl;
-          }
+          let k = member-index blankControl (control-stands cluster ds laid x .1 h) in
+          record { place = k .0; inside = k .1; stands = at-place listed few (k .0) (k .1) ∙ k .2 }
 
   -- THE LAW: the table goes by entity place, channel, selector
   pub table-ordered : (p q : ℕ) → p < q → q < tableOf listed .count → Before ds (at (tableOf listed) p) (at (tableOf listed) q)
