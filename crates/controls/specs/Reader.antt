@@ -18,7 +18,9 @@ use Rattle.ground.specs.Lists.{pad, pad-length, pad-at, member-at, member-index
 use Rattle.graph.specs.Members.{_∈_}
 use Rattle.layout.specs.declared.Cluster.{Cluster}
 use Rattle.layout.specs.Layout.{Pins, LaidOut, noCluster, entityOf}
-use Rattle.layout.specs.Layout as layout
+use Rattle.layout.specs.declared.Entity.{Entity}
+use Rattle.layout.specs.LayoutLaws.{Told, told}
+use Rattle.layout.specs.LayoutLaws as laid
 use Rattle.edition.specs.Edition.{ownId}
 use Rattle.edition.specs.Audio.{audio}
 use Rattle.entities.specs.declared.Run.{Run}
@@ -109,12 +111,16 @@ unit-fresh yes-no u k v h = record { channel = h; pins = refl; unused = record {
 unit-fresh (ranged s) u k v h = record { channel = h; pins = refl; unused = record { unloaded = refl; min = refl; max = refl; res = refl }; first = refl }
 
 selector-pins : (d : List ℕ) → LaidOut d → byte d 2 ≡ 5 → Pins (byte d 4)
-selector-pins d (layout.input k l) e = absurd (omega arith)
-selector-pins d (layout.output k l) e = absurd (omega arith)
-selector-pins d (layout.mixer k q l) e = absurd (omega arith)
-selector-pins d (layout.selector k q l) e = q
-selector-pins d (layout.printed k q l z) e = q
-selector-pins d (layout.feature k q l) e = absurd (omega arith)
+selector-pins d o e = of (told d)
+  where
+    of : {x : Entity} → Told d x → Pins (byte d 4)
+    of (laid.unknown n) = absurd (n o)
+    of (laid.input k l) = absurd (omega arith)
+    of (laid.output k l) = absurd (omega arith)
+    of (laid.mixer k q l) = absurd (omega arith)
+    of (laid.selector k q l) = q
+    of (laid.printed k q l z) = q
+    of (laid.feature k q l) = absurd (omega arith)
 
 carried-fresh : {d : List ℕ} {c : ℕ} {x : Control} → LaidOut d → c ≤ 16 → Carries d c x → FreshAs (senseOf (x .selector)) x
 unfolding senseOf
