@@ -3,6 +3,7 @@
 --   known-run        ==  by rule 11, each source ID of the run is borne at one of its indices
 use Prim.Native.Nat.{ℕ, _<_}
 use mathlib.Core.Path.{_≡_, sym, _∙_}
+use mathlib.Core.Bool.{Bool}
 use mathlib.Core.Logic.{⊎-elim}
 use mathlib.Core.List.{List, []}
 use lib.Dec.{eqb}
@@ -16,7 +17,7 @@ use Rattle.edition.specs.Edition.{Edition}
 use Rattle.entities.specs.declared.Run.{Run}
 use Rattle.entities.specs.Run.{held, idAt, sourcesAt}
 use Rattle.entities.specs.Represents.{Represents}
-use Rattle.sources.specs.Rules.{Rule10, unknown, Rule11}
+use Rattle.sources.specs.Rules.{Rule10, WrongSource, unknown, Rule11}
 use Rattle.sources.specs.OwnIds.{own-ids}
 use Rattle.sources.specs.RuleLaws.{borne-at}
 
@@ -31,8 +32,14 @@ module _ {ed : Edition} {s : List ℕ} {p : ℕ} {ds : List (List ℕ)} {run : R
   known-run r i l x m =
       ⊎-elim
       (λ b. b)
-      (λ f. absurd (r (getD ds i []) (member-at [] ds i n) (record { one = x; among = along (k .sources i n) m; has = unknown (λ d a q. f (borne-at k x .1 (d, a, q))) })))
-      (decided (somewhere (λ j. eqb (idAt run j) x) (held run)) (reads-somewhere (λ j. eqb (idAt run j) x) (λ j. idAt run j ≡ x) (held run) (λ j h. reads-eq (idAt run j) x)))
+      (λ f. absurd (wrong (unknown (λ d a q. f (borne-at k x .1 (d, a, q))))))
+      (decided (somewhere bears (held run)) (reads-somewhere bears (λ j. idAt run j ≡ x) (held run) (λ j h. reads-eq (idAt run j) x)))
     where
+      bears : ℕ → Bool
+      bears j = eqb (idAt run j) x
+
       n : i < length ds
       n = rw (k .counted) at l
+
+      wrong : WrongSource ed ds x → ⊥
+      wrong w = r (getD ds i []) (member-at [] ds i n) (record { one = x; among = along (k .sources i n) m; has = w })

@@ -9,7 +9,7 @@
 --                        descriptor that has a source ID that is 0, unknown, or borne by an entity with no output
 use Prim.Native.Nat.{ℕ, _<_}
 use mathlib.Core.Path.{_≡_, sym, ap, _∙_}
-use mathlib.Core.Bool.{false}
+use mathlib.Core.Bool.{Bool, false}
 use mathlib.Core.Logic.{_⊎_, inl, inr, ⊎-elim, _↔_}
 use mathlib.Core.List.{List, []}
 use native.Mathlib.Omega.{arith}
@@ -37,6 +37,10 @@ use Rattle.sources.specs.Breaches.{wrongId, breach10, refuses, wrongSour
 use Rattle.sources.specs.LookupLaws.{entity-refuses}
 use Rattle.sources.specs.OwnIds.{earlier, own-one}
 
+-- whether the entity at an index bears an ID
+abbrev bears : Run → ℕ → ℕ → Bool
+bears run x i = eqb (idAt run i) x
+
 module _ {ed : Edition} {s : List ℕ} {p : ℕ} {ds : List (List ℕ)} {run : Run} (k : Represents ed s p ds run) where
   -- an index of the run is one of the descriptors
   inside : {i : ℕ} → i < held run → i < length ds
@@ -44,7 +48,10 @@ module _ {ed : Edition} {s : List ℕ} {p : ℕ} {ds : List (List ℕ)} {run : R
 
   pub reads-id : (i : ℕ) → i < held run → Reads (wrongId run i) (WrongId (take i ds) (getD ds i []))
   unfolding wrongId
-  reads-id i l = reads-or _ _ (reads-same (reads-eq (idAt run i) 0) (λ e. sym own ∙ e) (λ e. own ∙ e)) (reads-same (reads-somewhere (λ j. eqb (idAt run j) (idAt run i)) (λ j. idAt run j ≡ idAt run i) i (λ j h. reads-eq (idAt run j) (idAt run i))) to of)
+  reads-id i l =
+      reads-or _ _
+      (reads-same (reads-eq (idAt run i) 0) (λ e. sym own ∙ e) (λ e. own ∙ e))
+      (reads-same (reads-somewhere (bears run (idAt run i)) (λ j. idAt run j ≡ idAt run i) i (λ j h. reads-eq (idAt run j) (idAt run i))) to of)
     where
       n : i < length ds
       n = inside l
@@ -89,7 +96,7 @@ module _ {ed : Edition} {s : List ℕ} {p : ℕ} {ds : List (List ℕ)} {run : R
     abbrev Useless : ℕ → Type 0
     Useless x = ((d : List ℕ) → d ∈ ds → ownId d ≡ x → ⊥) ⊎ ((d : List ℕ) × d ∈ ds × (ownId d ≡ x) × (ed .feeds d ≡ false))
 
-    useless : (x : ℕ) {r : Found} → Finding (λ i. eqb (idAt run i) x) (λ i. Entity (feedsAt run i)) Nothing (held run) r → Reads (refuses r) (Useless x)
+    useless : (x : ℕ) {r : Found} → Finding (bears run x) (λ i. Entity (feedsAt run i)) Nothing (held run) r → Reads (refuses r) (Useless x)
     unfolding sourceNumber
     useless x (nothing h) = record {
       says = λ e. inl (λ d m q. let j = borne-at x .1 (d, m, q) in eqb-false _ _ (h (j .0) (j .1)) (j .2));
@@ -101,15 +108,20 @@ module _ {ed : Edition} {s : List ℕ} {p : ℕ} {ds : List (List ℕ)} {run : R
         let m : d ∈ ds = member-at [] ds i l in
         let q : ownId d ≡ x = sym (k .id i l) ∙ eqb-true _ _ (f .passes) in
         let fed : feedsAt run i ≡ ed .feeds d = k .feeds i l in
+        let told = entity-refuses (feedsAt run i) in
         record {
-          says = λ e. inr (d, m, q, sym fed ∙ not-true (feedsAt run i) (entity-refuses (feedsAt run i) ∙ e));
-          denies = λ e. ⊎-elim (λ n. n d m q) (λ b. true≠false (sym (not-false (feedsAt run i) (entity-refuses (feedsAt run i) ∙ e)) ∙ fed ∙ ap (ed .feeds) (own-one ds kept d (b .0) m (b .1) (q ∙ sym (b .2))) ∙ b .3));
+          says = λ e. inr (d, m, q, sym fed ∙ not-true (feedsAt run i) (told ∙ e));
+          denies = λ e.
+              ⊎-elim
+              (λ n. n d m q)
+              (λ b. let same = own-one ds kept d (b .0) m (b .1) (q ∙ sym (b .2)) in true≠false (sym (not-false (feedsAt run i) (told ∙ e)) ∙ fed ∙ ap (ed .feeds) same ∙ b .3));
         }
 
     pub reads-source : (x : ℕ) → Reads (wrongSource run x) (WrongSource ed ds x)
     unfolding wrongSource lookupBelow
     reads-source x =
-        reads-same (reads-or (eqb x 0) _ (reads-eq x 0) (useless x (finding (λ i. eqb (idAt run i) x) (λ i. Entity (feedsAt run i)) Nothing (held run)))) to of
+        let found = finding (bears run x) (λ i. Entity (feedsAt run i)) Nothing (held run) in
+        reads-same (reads-or (eqb x 0) _ (reads-eq x 0) (useless x found)) to of
       where
         to : (x ≡ 0) ⊎ Useless x → WrongSource ed ds x
         to (inl z) = zero-source z
@@ -124,16 +136,20 @@ module _ {ed : Edition} {s : List ℕ} {p : ℕ} {ds : List (List ℕ)} {run : R
     pub reads-sources : (i : ℕ) → i < held run → Reads (any (wrongSource run) (sourcesAt s run i)) (WrongSources ed ds (getD ds i []))
     reads-sources i l = rw (k .sources i (inside l)) (reads-any (wrongSource run) (WrongSource ed ds) reads-source (edition.sources ed (getD ds i [])))
 
+    -- the test at an index
+    abbrev wrong : ℕ → Bool
+    wrong i = any (wrongSource run) (sourcesAt s run i)
+
     pub rule11-nowhere : (breach11 s run ≡ Nowhere) ↔ Rule11 ed ds
     unfolding breach11
     rule11-nowhere =
-        let b = breach-nowhere (held run) (placeAt run) (λ i. WrongSources ed ds (getD ds i [])) (λ i. any (wrongSource run) (sourcesAt s run i)) reads-sources in
+        let b = breach-nowhere (held run) (placeAt run) (λ i. WrongSources ed ds (getD ds i [])) wrong reads-sources in
         let c = sound-each-of k (WrongSources ed ds) in
         (λ e. c .0 (b .0 e), λ r. b .1 (c .1 r))
 
     pub rule11-at : (q : ℕ) → (breach11 s run ≡ At q) ↔ Breaks (λ b d. WrongSources ed ds d) p ds q
     unfolding breach11
     rule11-at q =
-        let b = breach-at (held run) (placeAt run) (λ i. WrongSources ed ds (getD ds i [])) (λ i. any (wrongSource run) (sourcesAt s run i)) reads-sources q in
+        let b = breach-at (held run) (placeAt run) (λ i. WrongSources ed ds (getD ds i [])) wrong reads-sources q in
         let c = breaks-each-of k (WrongSources ed ds) q in
         (λ e. c .0 (b .0 e), λ r. b .1 (c .1 r))
