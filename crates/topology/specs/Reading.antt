@@ -9,6 +9,8 @@
 --   refusedFinding r        ==  what is found where r is refused: nothing
 --   clustersAt s v          ==  the cluster of each entity of what v surveys, by index
 --   findingWith s v cs      ==  what is found where nothing is refused, with the clusters cs
+--   foundBy r ok            ==  what is found where r is judged: ok where r refuses nothing
+--   countJudged s v cs r    ==  the refusal 15; r where it does not apply
 --   tableJudged, surveyFinding  ==  what is found of a survey: behind the rules 1 to 14, behind the rules 1 to 9
 --   findingOf s             ==  what is found by the rules 1 to 15
 --   refusedReading r        ==  the answer where r is refused: interface number 0, zero counts and an empty table
@@ -73,17 +75,21 @@ refusedFinding r = record {
 unfoldable pub findingWith : List ℕ → Survey → List Cluster → Finding
 findingWith s v cs = record { refusal = none; control = v .control; header = v .header; run = v .run; clusters = cs; table = tableFor s v cs }
 
+-- what is found where r is judged, and ok stands there where r refuses nothing
+unfoldable pub foundBy : Refusal → Finding → Finding
+foundBy r ok = pick (eqb (r .number) 0) ok (refusedFinding r)
+
+abbrev pub countJudged : List ℕ → Survey → List Cluster → Refusal → Refusal
+countJudged s v cs r = refuse 15 (breach15 (tableFor s v cs .count) (v .header)) r
+
 unfoldable pub tableJudged : List ℕ → Survey → List Cluster → Finding
-tableJudged s v cs =
-    pick (eqb (refuse 15 (breach15 (tableFor s v cs .count) (v .header)) none .number) 0) (findingWith s v cs)
-    (refusedFinding (refuse 15 (breach15 (tableFor s v cs .count) (v .header)) none))
+tableJudged s v cs = foundBy (countJudged s v cs none) (findingWith s v cs)
 
 unfoldable pub surveyFinding : List ℕ → Survey → Finding
-surveyFinding s v = pick (eqb (surveyJudged s v none .number) 0) (findingWith s v (clustersAt s v)) (refusedFinding (surveyJudged s v none))
+surveyFinding s v = foundBy (surveyJudged s v none) (findingWith s v (clustersAt s v))
 
 unfoldable pub findingOf : List ℕ → Finding
-findingOf s =
-    pick (eqb (judgedThen s none .number) 0) (findingWith s (surveyOf s) (clustersAt s (surveyOf s))) (refusedFinding (judgedThen s none))
+findingOf s = foundBy (judgedThen s none) (findingWith s (surveyOf s) (clustersAt s (surveyOf s)))
 
 unfoldable pub refusedReading : Refusal → Reading
 refusedReading r = record { number = r .number; place = r .place; control = 0; entities = 0; controls = 0; table = emptyTable }

@@ -132,13 +132,14 @@ pub fn read(config: &[u8], sheet: &mut [u8]) -> Reading
     }
     let run = found.run;
     let table = found.table;
+    let clusters = found.clusters;
     if !records::has_room(run, sheet.len()) {
         return refused(Refusal {
             number: 16,
             place: found.header,
         });
     }
-    records::show(config, run, found.clusters, sheet);
+    records::show(config, run, clusters, sheet);
     Reading {
         number: 0,
         place: 0,
