@@ -7,5 +7,6 @@ pub mod FrameLaws
 pub mod TotalLaws
 pub mod Judged
 pub mod Before
+pub mod Pairs
 pub mod Tops
 pub mod Marks

@@ -1,22 +1,23 @@
 // Groups and the header (document 01). What it promises to the layer above: the lowest number of the rules 1 to 7 that a configuration
 // breaks, with its place; and where the AudioControl group's parts stand, if it keeps them.
 ghost use mathlib.Core.Path.{_≡_};
-ghost use mathlib.Core.Bool.{false, _&&_, _||_, not};
+ghost use mathlib.Core.Bool.{true, false, _&&_, _||_, not};
 ghost use Prim.Native.Nat.{_+_, _≤_, _<_};
 ghost use lib.Dec.{eqb};
-ghost use lib.ListN.{length, replicate};
+ghost use lib.ListN.{length, take, replicate};
 ghost use Rattle.ground.specs.Numbers.{word};
 ghost use Rattle.ground.specs.Pick.{pick};
-ghost use Rattle.ground.specs.Lists.{part};
-ghost use Rattle.ground.specs.First.{isBefore};
+ghost use Rattle.ground.specs.Lists.{part, any};
 ghost use Rattle.ground.specs.Refuse.{none, placeOr};
 ghost use Rattle.scan.specs.Cutting.{rest, breach3};
 ghost use Rattle.scan.specs.Search.{searched};
-ghost use Rattle.scan.specs.Want.{isAudio, foundFrom};
+ghost use Rattle.scan.specs.Want.{isInterface, isAudio, foundFrom};
 ghost use Rattle.groups.specs.Reading.{breach1, breach2, breach4, wrongInterface};
 ghost use Rattle.groups.specs.Reading.{frameFrom, frameOf, isHeader, opens, straysFrom, collects};
 ghost use Rattle.groups.specs.Reading.{groupJudged, judged, unframed, framedAs, framedOf};
 ghost use Rattle.groups.specs.Tops.{controlBefore, Tops, Repeats, Looked, Interfaced};
+ghost use Rattle.groups.specs.Pairs.{mostInterfaces, Pair, Noted, Pairs};
+ghost use Rattle.groups.specs.Rules.{mostBytes};
 ghost use Rattle.groups.specs.Marks.{allMarked, Listed, Met, Members};
 use ground::Place;
 use ground::Refusal;
@@ -30,6 +31,9 @@ use scan::word_at;
 
 // The most bytes that a configuration may have.
 pub const MOST_BYTES: usize = 4096;
+
+// The most interface descriptors, of 9 bytes each, that so many bytes hold.
+const MOST_INTERFACES: usize = 455;
 
 // Where the parts of the AudioControl group stand: its interface descriptor, the header, the run of entities, and the run's end.
 pub struct Frame {
@@ -107,17 +111,6 @@ fn check_cutting(config: &[u8]) -> Place
     Place::At(reached)
 }
 
-// Whether what is wanted stands before a place.
-fn stands_before(config: &[u8], at: usize, want: Want) -> bool
-    ensures { λ r. ⌜ r ≡ isBefore (foundFrom (now (config .entry)) 0 want) at ⌝ }
-{
-    let first = find(config, 0, want);
-    match first {
-        Place::At(place) => place < at,
-        Place::Nowhere => false,
-    }
-}
-
 // A byte as an index.
 fn wide(x: u8) -> usize
     ensures { λ r. ⌜ (r ≡ x) × (r < 256) ⌝ }
@@ -125,17 +118,58 @@ fn wide(x: u8) -> usize
     x as usize
 }
 
+// The number and the alternate setting of an interface descriptor, as one number.
+fn pair_of(i: &[u8]) -> u16
+    ensures { λ r. ⌜ Pair (now (i .entry)) r ⌝ }
+{
+    byte_at(i, 2) as u16 * 256 + byte_at(i, 3) as u16
+}
+
+// Whether a pair is one of the first pairs.
+fn is_among(pairs: &[u16; MOST_INTERFACES], count: usize, pair: u16) -> bool
+    requires { ⌜ (count ≤ mostInterfaces) × (count ≤ length (now pairs)) ⌝ }
+    ensures { λ r. ⌜ r ≡ any (eqb pair) (take count (now (pairs .entry))) ⌝ }
+{
+    let mut k: usize = 0;
+    while k < count {
+        if pair == pairs[k] {
+            return true;
+        }
+        k += 1;
+    }
+    false
+}
+
+// The pair of an interface descriptor, put behind the first pairs; how many there are then.
+fn note_pair(i: &[u8], pairs: &mut [u16; MOST_INTERFACES], count: usize) -> usize
+    requires { ⌜ (isInterface (now i) ≡ true → count < mostInterfaces) ⌝ }
+    ensures { λ r. ⌜ Noted (now (i .entry)) (now (pairs .entry)) count (now (pairs .exit)) r ⌝ }
+{
+    if !is_interface(i) {
+        return count;
+    }
+    pairs[count] = pair_of(i);
+    count + 1
+}
+
 // Whether the interface descriptor i at a place repeats the pair of an earlier one. A setting at the top of its number or above it
 // repeats none, and one more is the new top.
-fn repeats(config: &[u8], at: usize, i: &[u8], tops: &mut [u16; 256]) -> bool
+fn repeats(
+    config: &[u8],
+    at: usize,
+    i: &[u8],
+    tops: &mut [u16; 256],
+    pairs: &[u16; MOST_INTERFACES],
+    count: usize,
+) -> bool
     requires { ⌜ Tops (now config) at (now tops) ⌝ }
+    requires { ⌜ Pairs (now config) at (now pairs) count ⌝ }
     ensures { λ r. ⌜ Repeats (now (config .entry)) at (now (i .entry)) (now (tops .entry)) (now (tops .exit)) r ⌝ }
 {
-    let number = byte_at(i, 2);
     let setting = byte_at(i, 3);
-    let index = wide(number);
+    let index = wide(byte_at(i, 2));
     if (setting as u16) < tops[index] {
-        return stands_before(config, at, Want::Setting(number, setting));
+        return is_among(pairs, count, pair_of(i));
     }
     tops[index] = setting as u16 + 1;
     false
@@ -149,8 +183,11 @@ fn wrong_interface(
     i: &[u8],
     control: usize,
     tops: &mut [u16; 256],
+    pairs: &[u16; MOST_INTERFACES],
+    count: usize,
 ) -> bool
     requires { ⌜ Tops (now config) at (now tops) ⌝ }
+    requires { ⌜ Pairs (now config) at (now pairs) count ⌝ }
     requires { ⌜ control ≡ controlBefore (now config) at ⌝ }
     ensures { λ r. ⌜ Looked (now (config .entry)) at (now (i .entry)) (now (tops .entry)) (now (tops .exit)) r ⌝ }
 {
@@ -160,7 +197,7 @@ fn wrong_interface(
     if i.len() != 9 {
         return true;
     }
-    if repeats(config, at, i, tops) {
+    if repeats(config, at, i, tops, pairs, count) {
         return true;
     }
     if !is_audio(i, 1) {
@@ -184,9 +221,12 @@ fn control_from(i: &[u8], at: usize, control: usize) -> usize
 
 // The first interface descriptor that refusal 4 names; where there is none, the AudioControl one too.
 fn first_wrong_interface(config: &[u8]) -> Interfaces
+    requires { ⌜ length (now config) ≤ mostBytes ⌝ }
     ensures { λ r. ⌜ Interfaced (now (config .entry)) (searched wrongInterface (now (config .entry)) 0) r ⌝ }
 {
     let mut tops = [0u16; 256];
+    let mut pairs = [0u16; MOST_INTERFACES];
+    let mut count: usize = 0;
     let mut control = config.len();
     let mut at: usize = 0;
     loop {
@@ -197,19 +237,22 @@ fn first_wrong_interface(config: &[u8]) -> Interfaces
                 control,
             };
         }
-        if wrong_interface(config, at, &config[at..e], control, &mut tops) {
+        let i = &config[at..e];
+        if wrong_interface(config, at, i, control, &mut tops, &pairs, count) {
             return Interfaces {
                 wrong: Place::At(at),
                 control,
             };
         }
-        control = control_from(&config[at..e], at, control);
+        count = note_pair(i, &mut pairs, count);
+        control = control_from(i, at, control);
         at = e;
     }
 }
 
 // Rule 4.
 fn check_interfaces(config: &[u8]) -> Interfaces
+    requires { ⌜ length (now config) ≤ mostBytes ⌝ }
     ensures { λ r. ⌜ Interfaced (now (config .entry)) (breach4 (now (config .entry))) r ⌝ }
 {
     let found = first_wrong_interface(config);

@@ -7,11 +7,13 @@ use lib.ListN.{length}
 use Rattle.ground.specs.declared.Place.{Place}
 use Rattle.ground.specs.declared.Place.the-variants.{Nowhere, At}
 use Rattle.ground.specs.declared.Refusal.{Refusal}
-use Rattle.ground.specs.Refuse.{none, refuse, refuse-at, refuse-on}
+use Rattle.ground.specs.Pick.{reads-within}
+use Rattle.ground.specs.Refuse.{none, kept-nowhere, refuse, refuse-at, refuse-on}
 use Rattle.scan.specs.Cutting.{breach3}
 use Rattle.groups.specs.declared.Frame.{Frame}
 use Rattle.groups.specs.declared.Framing.{Framing}
 use Rattle.groups.specs.declared.Interfaces.{Interfaces}
+use Rattle.groups.specs.Rules.{mostBytes}
 use Rattle.groups.specs.Reading.{breach1, breach2, breach4, frameFrom, frameOf, groupJudged, judged, unframed, framedAs, framedOf}
 use Rattle.groups.specs.Tops.{controlAt, Interfaced, control-inside}
 use Rattle.groups.specs.Judged.{framed-refused}
@@ -22,6 +24,10 @@ module _ (s : List ℕ) (a : Place) (e : a ≡ breach1 s) where
   size : (p : ℕ) → a ≡ At p → (r : Framing) → r ≡ unframed 1 p → r ≡ framedOf s
   unfolding judged framedOf
   size p h = framed-refused 1 p (frameOf s) (judged s none) refl (sym (refuse-at 1 p _ (sym e ∙ h)))
+
+  few : a ≡ Nowhere → length s ≤ mostBytes
+  unfolding breach1
+  few h = kept-nowhere 0 (reads-within 9 (length s) mostBytes) .0 (sym e ∙ h) .1
 
   module _ (h : a ≡ Nowhere) (b : Place) (f : b ≡ breach2 s) where
     behind1 : judged s none ≡ refuse 2 (breach2 s) (refuse 3 (breach3 s) (refuse 4 (breach4 s) (groupJudged s (frameOf s) none)))
@@ -59,7 +65,7 @@ module _ (s : List ℕ) (a : Place) (e : a ≡ breach1 s) where
           unfolding framedOf frameOf
           group f o j z r q = q ∙ ap (λ (y : Refusal). framedAs y f) z ∙ ap (λ (y : Frame). framedAs (groupJudged s y none) y) (o ∙ ap (frameFrom s) control) ∙ ap (λ y. framedAs y (frameOf s)) (sym (behind3 ∙ refuse-on 4 _ (sym (m .wrong) ∙ n)))
 
-ruleset laws = (size, opening, cutting, interfaces, inside, group, needs)
+ruleset laws = (size, few, opening, cutting, interfaces, inside, group, needs)
 
 check-size-requires : tie.Need-check-size-requires
 check-size-requires c κs = search laws
