@@ -1,6 +1,7 @@
--- The rules 10 to 13 and what the reader computes of them, tied in their order, for a run that stands for descriptors: "the lowest number that
--- applies is given, at no other time" (document 01).
---   decides-10, decides-11, decides-12, decides-13  ==  each rule is decided by its breach, place included, where the rules before it are kept
+-- The rules 10 to 13 and what the reader computes of them, tied in their order, for a run that stands for descriptors: "the lowest
+-- number that applies is given, at no other time" (document 01).
+--   decides-10, decides-11, decides-12, decides-13  ==  each rule is decided by its breach, place included, where the rules before it
+--                         are kept
 --   connectedTable p ds behind  ==  the rows 10 to 13 of the table of refusals, for the run's descriptors ds from place p on, and the rows
 --                         behind them
 --   judged-answers    ==  THE LAW: what is judged is put together by these rows
@@ -32,9 +33,9 @@ use Rattle.ranks.specs.Order.{ordered}
 use Rattle.ranks.specs.Breach.{breach12}
 use Rattle.ranks.specs.RuleLaws.{rule12-nowhere, rule12-at}
 use Rattle.clusters.specs.Rules.{Broken, Rule13, Connected}
-use Rattle.clusters.specs.Sweep.{breach13}
+use Rattle.clusters.specs.Sweep.{givenFor, breach13}
 use Rattle.clusters.specs.Topology.{rule13-nowhere, rule13-at, connected-parts}
-use Rattle.connections.specs.Judgement.{givenFor, judged}
+use Rattle.connections.specs.Judgement.{judged}
 
 -- what it is to break each rule at a place
 module _ (p : ℕ) (ds : List (List ℕ)) where
@@ -52,7 +53,8 @@ module _ (p : ℕ) (ds : List (List ℕ)) where
 
   abbrev pub connectedTable : (Rule13 audio ds → Rows) → Rows
   connectedTable behind =
-      row 10 (Rule10 ds) At10 (λ a. row 11 (Rule11 audio ds) At11 (λ b. row 12 (Rule12 audio ds) At12 (λ c. row 13 (Rule13 audio ds) At13 behind)))
+      row 10 (Rule10 ds) At10 (λ a.
+      row 11 (Rule11 audio ds) At11 (λ b. row 12 (Rule12 audio ds) At12 (λ c. row 13 (Rule13 audio ds) At13 behind)))
 
   pub data Judgement (r : Refusal) : Refusal → Type 0 where
     wrong-id : {q : ℕ} → At10 q → Judgement r (record { number = 10; place = q })
@@ -71,13 +73,17 @@ module _ {s : List ℕ} {p : ℕ} {ds : List (List ℕ)} {run : Run} (k : Repres
 
     module _ (b : Rule11 audio ds) where
       pub decides-12 : Decides (breach12 run (ordered s run)) (Rule12 audio ds) (At12 p ds)
-      decides-12 = record { kept = rule12-nowhere k (distinct-run k a) (known-run k b); broken = rule12-at k (distinct-run k a) (known-run k b) }
+      decides-12 = record {
+        kept = rule12-nowhere k (distinct-run k a) (known-run k b);
+        broken = rule12-at k (distinct-run k a) (known-run k b);
+      }
 
       module _ (c : Rule12 audio ds) where
         pub decides-13 : Decides (breach13 s run (givenFor s run)) (Rule13 audio ds) (At13 p ds)
         decides-13 = record { kept = rule13-nowhere k a b c; broken = rule13-at k a b c }
 
-  pub judged-answers : (behind : Rule13 audio ds → Rows) (r : Refusal) → ((e : Rule13 audio ds) → Answers (behind e) r) → Answers (connectedTable p ds behind) (judged s run r)
+  pub judged-answers : (behind : Rule13 audio ds → Rows) (r : Refusal) → ((e : Rule13 audio ds) → Answers (behind e) r)
+      → Answers (connectedTable p ds behind) (judged s run r)
   unfolding judged
   judged-answers behind r h = (
     breach10 run,
@@ -105,7 +111,8 @@ module _ {s : List ℕ} {p : ℕ} {ds : List (List ℕ)} {run : Run} (k : Repres
     unfolding judged refuse
     judged-told = ids (breach10 run) refl
       where
-        clusters : Rule10 ds → Rule11 audio ds → Rule12 audio ds → (x : Place) → breach13 s run (givenFor s run) ≡ x → Judgement p ds r (refuse 13 x r)
+        clusters : Rule10 ds → Rule11 audio ds → Rule12 audio ds → (x : Place) → breach13 s run (givenFor s run) ≡ x
+            → Judgement p ds r (refuse 13 x r)
         clusters a b c Nowhere e = kept a b c (decides-13 a b c .kept .0 e)
         clusters a b c (At q) e = wrong-cluster a b c (decides-13 a b c .broken q .0 e)
 
@@ -120,7 +127,8 @@ module _ {s : List ℕ} {p : ℕ} {ds : List (List ℕ)} {run : Run} (k : Repres
         sources a (At q) e = wrong-source a (decides-11 a .broken q .0 e)
 
         ids : (x : Place) → breach10 run ≡ x
-            → Judgement p ds r (refuse 10 x (refuse 11 (breach11 s run) (refuse 12 (breach12 run (ordered s run)) (refuse 13 (breach13 s run (givenFor s run)) r))))
+            → Judgement p ds r
+            (refuse 10 x (refuse 11 (breach11 s run) (refuse 12 (breach12 run (ordered s run)) (refuse 13 (breach13 s run (givenFor s run)) r))))
         ids Nowhere e = sources (decides-10 .kept .0 e) (breach11 s run) refl
         ids (At q) e = wrong-id (decides-10 .broken q .0 e)
 
@@ -146,4 +154,5 @@ unfolding judged
 connected-chain s run =
     chain-more 10 (λ e. omega arith) (breach10 run) _
     (chain-more 11 (λ e. omega arith) (breach11 s run) _
-    (chain-more 12 (λ e. omega arith) (breach12 run (ordered s run)) _ (chain-more 13 (λ e. omega arith) (breach13 s run (givenFor s run)) _ chain-end)))
+    (chain-more 12 (λ e. omega arith) (breach12 run (ordered s run)) _
+    (chain-more 13 (λ e. omega arith) (breach13 s run (givenFor s run)) _ chain-end)))
