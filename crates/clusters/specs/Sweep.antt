@@ -6,8 +6,10 @@
 --   bytesOf s n          ==  the descriptor of the entity n
 --   firstBy cl ids       ==  the cluster that enters by pin 1 where the source IDs are ids
 --   givesBy s n cl       ==  what the entity n gives out where the clusters cl are given out on IDs
+--   givesAt s run i cs   ==  what the i-th entity gives out where the clusters cs enter
 --   givenIn s run x      ==  what the ID x gives out along the run
---   swept s run          ==  the same, as arrays by ID
+--   givenFor s run x     ==  what it gives out along the order of the run
+--   swept s run          ==  what is given out along the run, as arrays by ID
 --   Sweeps s run g       ==  g is that, so that on each ID it has what is given out there
 --   Entering cs r        ==  r is i, the channels entering in all, and small enough to reckon with
 --   keepsBy s n cl       ==  whether the entity n keeps its rule there
@@ -16,7 +18,7 @@
 use Prim.Native.Nat.{ℕ, _≤_}
 use mathlib.Core.Path.{_≡_}
 use mathlib.Core.Bool.{Bool, not}
-use mathlib.Core.List.{List, [], map}
+use mathlib.Core.List.{List, map}
 use lib.ListN.{length, getD}
 use Rattle.ground.specs.declared.Place.{Place}
 use Rattle.ground.specs.declared.Place.the-variants.{Nowhere, At}
@@ -30,6 +32,7 @@ use Rattle.graph.specs.Along.{given}
 use Rattle.entities.specs.declared.Node.{Node}
 use Rattle.entities.specs.declared.Run.{Run}
 use Rattle.entities.specs.Run.{mostEntities, held, nodeAt, idAt, placeAt, sourcesOf, sourcesAt, descriptorAt}
+use Rattle.ranks.specs.Order.{ordered}
 use Rattle.edition.specs.Audio.{firstOf, channelsIn, giveOut, keeps}
 use Rattle.clusters.specs.declared.Given.{Given}
 
@@ -52,8 +55,14 @@ bytesOf s n = part s (n .place) (endAt s (n .place))
 unfoldable pub givesBy : List ℕ → Node → (ℕ → Cluster) → Cluster
 givesBy s n cl = giveOut (entityOf (bytesOf s n)) (map cl (sourcesOf s n))
 
+abbrev pub givesAt : List ℕ → Run → ℕ → List Cluster → Cluster
+givesAt s run i cs = giveOut (entityOf (descriptorAt s run i)) cs
+
 unfoldable pub givenIn : List ℕ → Run → ℕ → Cluster
-givenIn s run = given (idAt run) (sourcesAt s run) (λ i cs. giveOut (entityOf (descriptorAt s run i)) cs) (λ x. noCluster) (below (held run))
+givenIn s run = given (idAt run) (sourcesAt s run) (givesAt s run) (λ x. noCluster) (below (held run))
+
+abbrev pub givenFor : List ℕ → Run → ℕ → Cluster
+givenFor s run = givenIn s (ordered s run)
 
 unfoldable pub swept : List ℕ → Run → Given
 swept s run = record {

@@ -6,7 +6,7 @@
 --   keeps-channels   ==  whether an entity keeps its rule hangs on the channels alone
 use Prim.Native.Nat.{ℕ, zero, suc, _+_, _≤_, _<_}
 use mathlib.Core.Path.{_≡_, refl, sym, ap, _∙_}
-use mathlib.Core.Bool.{Bool, false, not}
+use mathlib.Core.Bool.{false, not}
 use mathlib.Core.List.{List, [], _∷_, map}
 use mathlib.Core.Logic.{⊎-elim}
 use native.Mathlib.Omega.{arith}
@@ -23,13 +23,13 @@ use Rattle.layout.specs.declared.Entity.the-variants.{Unknown, Input, Output, M
 use Rattle.layout.specs.Layout.{entityOf, noCluster}
 use Rattle.graph.specs.Members.{all, map-same}
 use Rattle.graph.specs.Tables.{tabulate, tabulate-same, tabulate-getD, getD-tabulate, below, length-below}
-use Rattle.graph.specs.Along.{put, put-at, put-other, gives, given, given-take}
+use Rattle.graph.specs.Along.{put, put-at, put-other, given, given-take}
 use Rattle.entities.specs.declared.Node.{Node}
 use Rattle.entities.specs.declared.Run.{Run}
 use Rattle.entities.specs.Run.{mostEntities, blankNode, held, nodeAt, idAt, placeAt, sourcesOf, sourcesAt, descriptorAt}
-use Rattle.edition.specs.Audio.{firstOf, channelsIn, giveOut, alike, alikeIn, mixerKept, mixerLength, featureKept, featureLength, keeps}
+use Rattle.edition.specs.Audio.{firstOf, channelsIn, giveOut, alike, alikeIn, mixerKept, featureKept, keeps}
 use Rattle.clusters.specs.declared.Given.{Given}
-use Rattle.clusters.specs.Sweep.{clusterBy, channelsOn, bytesOf, givesBy, givenIn, swept, Sweeps, keepsBy, breach13, clustersOf}
+use Rattle.clusters.specs.Sweep.{clusterBy, channelsOn, bytesOf, givesBy, givesAt, givenIn, swept, Sweeps, keepsBy, breach13, clustersOf}
 
 -- what the rules look at
 module _ (f g : ℕ → Cluster) (same : (x : ℕ) → f x .channels ≡ g x .channels) where
@@ -58,10 +58,12 @@ module _ (f g : ℕ → Cluster) (same : (x : ℕ) → f x .channels ≡ g x .ch
   keeps-same (Printed i p) l ids = rw (first-channels ids) (alike-channels _ ids)
   keeps-same (Feature i s n b) l ids = rw (first-channels ids)
 
-pub keeps-channels : (s : List ℕ) (n : Node) (channels locations names : List ℕ) → keepsBy s n (channelsOn channels) ≡ keepsBy s n (clusterBy channels locations names)
+pub keeps-channels : (s : List ℕ) (n : Node) (channels locations names : List ℕ)
+    → keepsBy s n (channelsOn channels) ≡ keepsBy s n (clusterBy channels locations names)
 unfolding keepsBy
 keeps-channels s n channels locations names =
-    keeps-same (channelsOn channels) (clusterBy channels locations names) (λ x. refl) (entityOf (bytesOf s n)) (length (bytesOf s n)) (sourcesOf s n)
+    keeps-same (channelsOn channels) (clusterBy channels locations names) (λ x. refl)
+    (entityOf (bytesOf s n)) (length (bytesOf s n)) (sourcesOf s n)
 
 -- clusters that agree on every ID are checked and shown alike
 module _ (run : Run) (f g : ℕ → Cluster) (same : (x : ℕ) → f x ≡ g x) where
@@ -69,24 +71,39 @@ module _ (run : Run) (f g : ℕ → Cluster) (same : (x : ℕ) → f x ≡ g x) 
   unfolding breach13 keepsBy
   breach13-same s =
       first-same _ _ (λ i. At (placeAt run i)) Nowhere (held run)
-      (λ i l. ap not (keeps-same f g (λ x. ap (λ (c : Cluster). c .channels) (same x)) (entityOf (descriptorAt s run i)) (length (descriptorAt s run i)) (sourcesAt s run i)))
+      (λ i l. ap not (keeps-same f g alike-on (entityOf (descriptorAt s run i)) (length (descriptorAt s run i)) (sourcesAt s run i)))
+    where
+      alike-on : (x : ℕ) → f x .channels ≡ g x .channels
+      alike-on x = ap (λ (c : Cluster). c .channels) (same x)
 
   pub clusters-same : clustersOf run f ≡ clustersOf run g
   unfolding clustersOf
   clusters-same = tabulate-same mostEntities (λ i. f (idAt run i)) (λ i. g (idAt run i)) (λ i l. same (idAt run i))
 
 -- three arrays by ID, one ID's cluster written
-module _ (channels locations names : List ℕ) (x : ℕ) (c : Cluster) (a : x < length channels) (b : x < length locations) (d : x < length names) where
-  written : (y : ℕ) → clusterBy (set channels x (c .channels)) (set locations x (c .locations)) (set names x (c .names)) y ≡ put (clusterBy channels locations names) x c y
-  written y = ⊎-elim here other (decided (eqb y x) (reads-eq y x))
-    where
-      here : y ≡ x → clusterBy (set channels x (c .channels)) (set locations x (c .locations)) (set names x (c .names)) y ≡ put (clusterBy channels locations names) x c y
-      here e =
-          rw (e, put-at (clusterBy channels locations names) x c, getD-set-same channels x (c .channels) 0 a, getD-set-same locations x (c .locations) 0 b, getD-set-same names x (c .names) 0 d) refl
+module _ (channels locations names : List ℕ) (x : ℕ) (c : Cluster) where
+  abbrev now : ℕ → Cluster
+  now = clusterBy channels locations names
 
-      other : (y ≡ x → ⊥) → clusterBy (set channels x (c .channels)) (set locations x (c .locations)) (set names x (c .names)) y ≡ put (clusterBy channels locations names) x c y
+  abbrev next : ℕ → Cluster
+  next = clusterBy (set channels x (c .channels)) (set locations x (c .locations)) (set names x (c .names))
+
+  written : x < length channels → x < length locations → x < length names → (y : ℕ) → next y ≡ put now x c y
+  written a b d y = ⊎-elim here other (decided (eqb y x) (reads-eq y x))
+    where
+      here : y ≡ x → next y ≡ put now x c y
+      here e =
+          let p = getD-set-same channels x (c .channels) 0 a in
+          let q = getD-set-same locations x (c .locations) 0 b in
+          let r = getD-set-same names x (c .names) 0 d in
+          rw (e, put-at now x c, p, q, r) refl
+
+      other : (y ≡ x → ⊥) → next y ≡ put now x c y
       other f =
-          rw (put-other (clusterBy channels locations names) x c y f, getD-set-other channels x y (c .channels) 0 f, getD-set-other locations x y (c .locations) 0 f, getD-set-other names x y (c .names) 0 f) refl
+          let p = getD-set-other channels x y (c .channels) 0 f in
+          let q = getD-set-other locations x y (c .locations) 0 f in
+          let r = getD-set-other names x y (c .names) 0 f in
+          rw (put-other now x c y f, p, q, r) refl
 
 abbrev none : ℕ
 none = 0
@@ -97,7 +114,10 @@ zeros-at (suc k) zero = refl
 zeros-at (suc k) (suc x) = zeros-at k x
 
 table-of : (xs : List ℕ) (f : ℕ → ℕ) → length xs ≡ 256 → ((x : ℕ) → getD xs x 0 ≡ f x) → xs ≡ tabulate 256 f
-table-of xs f l h = sym (tabulate-getD xs 0) ∙ ap (λ (k : ℕ). tabulate k (λ x. getD xs x 0)) l ∙ tabulate-same 256 (λ x. getD xs x 0) f (λ x b. h x)
+table-of xs f l h =
+    sym (tabulate-getD xs 0)
+    ∙ ap (λ (k : ℕ). tabulate k (λ x. getD xs x 0)) l
+    ∙ tabulate-same 256 (λ x. getD xs x 0) f (λ x b. h x)
 
 abbrev givenBy : List ℕ → List ℕ → List ℕ → Given
 givenBy channels locations names = record { channels = channels; locations = locations; names = names }
@@ -107,13 +127,14 @@ blank = record { place = 0; first = 0; pins = 0; id = 0; feeds = false }
 
 module _ (s : List ℕ) (run : Run) where
   abbrev pub givenAfter : ℕ → ℕ → Cluster
-  givenAfter i = given (idAt run) (sourcesAt s run) (λ j cs. giveOut (entityOf (descriptorAt s run j)) cs) (λ x. noCluster) (take i (below (held run)))
+  givenAfter i = given (idAt run) (sourcesAt s run) (givesAt s run) (λ x. noCluster) (take i (below (held run)))
 
   after-more : (i : ℕ) → i < held run → givenAfter (suc i) ≡ put (givenAfter i) (idAt run i) (givesBy s (nodeAt run i) (givenAfter i))
   unfolding givesBy
   after-more i l =
       let k : i < length (below (held run)) = rw (length-below (held run)) l in
-      rw (getD-tabulate (held run) (λ j. j) i 0 l) at (given-take (idAt run) (sourcesAt s run) (λ j cs. giveOut (entityOf (descriptorAt s run j)) cs) (λ x. noCluster) (below (held run)) i k)
+      let step = given-take (idAt run) (sourcesAt s run) (givesAt s run) (λ x. noCluster) (below (held run)) i k in
+      rw (getD-tabulate (held run) (λ j. j) i 0 l) at step
 
   pub record Sweeping (channels locations names : List ℕ) (i : ℕ) : Type 0 where
     pub low : i ≤ held run
@@ -141,11 +162,13 @@ module _ (s : List ℕ) (run : Run) where
       unfolding swept givenIn
       sweeping-over h =
           let l = g .low in
-          let all-below : take i (below (held run)) ≡ below (held run) = take-all i (below (held run)) (rw (length-below (held run)) (omega arith)) in
+          let long : length (below (held run)) ≤ i = rw (length-below (held run)) (omega arith) in
+          let all-below : take i (below (held run)) ≡ below (held run) = take-all i (below (held run)) long in
           let whole : (x : ℕ) → clusterBy channels locations names x ≡ givenIn s run x = λ x. rw all-below at (g .same x) in
-          let a = table-of channels (λ x. givenIn s run x .channels) (g .long-channels) (λ x. ap (λ (c : Cluster). c .channels) (whole x)) in
-          let b = table-of locations (λ x. givenIn s run x .locations) (g .long-locations) (λ x. ap (λ (c : Cluster). c .locations) (whole x)) in
-          let d = table-of names (λ x. givenIn s run x .names) (g .long-names) (λ x. ap (λ (c : Cluster). c .names) (whole x)) in
+          let out : ℕ → Cluster = givenIn s run in
+          let a = table-of channels (λ x. out x .channels) (g .long-channels) (λ x. ap (λ (c : Cluster). c .channels) (whole x)) in
+          let b = table-of locations (λ x. out x .locations) (g .long-locations) (λ x. ap (λ (c : Cluster). c .locations) (whole x)) in
+          let d = table-of names (λ x. out x .names) (g .long-names) (λ x. ap (λ (c : Cluster). c .names) (whole x)) in
           record {
             whole =
                 ap (λ (t : List ℕ). givenBy t locations names) a
@@ -164,8 +187,8 @@ module _ (s : List ℕ) (run : Run) where
           let a = g .long-channels in
           let b = g .long-locations in
           let d = g .long-names in
-          let f : c ≡ givesBy s (nodeAt run i) (givenAfter i) =
-          e ∙ ap (giveOut (entityOf (bytesOf s (nodeAt run i)))) (map-same (clusterBy channels locations names) (givenAfter i) (sourcesAt s run i) (λ y k. g .same y)) in
+          let entering = map-same (clusterBy channels locations names) (givenAfter i) (sourcesAt s run i) (λ y k. g .same y) in
+          let f : c ≡ givesBy s (nodeAt run i) (givenAfter i) = e ∙ ap (giveOut (entityOf (bytesOf s (nodeAt run i)))) entering in
           record {
             low = omega arith;
             long-channels = length-set channels x (c .channels) ∙ a;

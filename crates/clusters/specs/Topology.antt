@@ -1,6 +1,6 @@
--- The theorem of this layer: what the reader computes of the clusters, in one sweep along the order of a run, is rule 13 as it is said of the
--- run's descriptors. Where there are ranks, clusters that are given out by the rules are one, whatever edition's rules they are; the
--- sweep finds them.
+-- The theorem of this layer: what the reader computes of the clusters, in one sweep along the order of a run, is rule 13 as it is said
+-- of the run's descriptors. Where there are ranks, clusters that are given out by the rules are one, whatever edition's rules they
+-- are; the sweep finds them.
 --   given-one        ==  where there are ranks, clusters that are given out by the rules are the same on each entity
 --   entering-one     ==  .. and the same enter each
 --   fits-alike       ==  .. so that one of them keeps an entity's rule where another does
@@ -20,14 +20,13 @@
 --   clusters-shown   ==  the cluster that is shown of an entity is the one on its output
 use Prim.Native.Nat.{ℕ, zero, suc, _≤_, _<_}
 use mathlib.Core.Path.{_≡_, refl, sym, ap, _∙_, subst}
-use mathlib.Core.Bool.{Bool, not}
+use mathlib.Core.Bool.{not}
 use mathlib.Core.Logic.{_↔_, ⊎-elim}
 use mathlib.Core.List.{List, [], _∷_, map, List·Memᴰ·head, List·Memᴰ·tail}
 use native.Mathlib.Omega.{arith}
 use native.Mathlib.Nat.{min-le-right}
 use lib.Dec.{eqb}
 use lib.ListN.{length, getD}
-use borrow.Author.Tests.{not-false}
 use Rattle.ground.specs.declared.Place.the-variants.{Nowhere, At}
 use Rattle.ground.specs.Pick.{Reads, reads-eq, reads-not, reads-same, decided}
 use Rattle.ground.specs.Lists.{any, Some, reads-any, member-at, member-index}
@@ -35,16 +34,16 @@ use Rattle.ground.specs.First.{Breaks}
 use Rattle.ground.specs.Places.{breach-nowhere, breach-at}
 use Rattle.layout.specs.declared.Cluster.{Cluster}
 use Rattle.layout.specs.Layout.{entityOf, noCluster}
-use Rattle.graph.specs.Members.{_∈_, along, map-same}
+use Rattle.graph.specs.Members.{_∈_, map-same}
 use Rattle.graph.specs.Tables.{below, below-lt, map-tabulate, tabulate-getD, getD-tabulate}
 use Rattle.graph.specs.Grown.{order-grown, grown-at}
-use Rattle.graph.specs.Ranked.{AllIn, ranks-all}
-use Rattle.graph.specs.Along.{put, gives, given, givenOut, MadeAt, made-along}
+use Rattle.graph.specs.Ranked.{ranks-all}
+use Rattle.graph.specs.Along.{put, gives, given, givenOut, made-along}
 use Rattle.edition.specs.Edition.{Edition, ownId, sources}
-use Rattle.edition.specs.Audio.{audio, giveOut, reads-keeps}
+use Rattle.edition.specs.Audio.{audio, giveOut}
 use Rattle.entities.specs.declared.Node.{Node}
 use Rattle.entities.specs.declared.Run.{Run}
-use Rattle.entities.specs.Run.{mostEntities, held, nodeAt, idAt, placeAt, sourcesOf, sourcesAt, descriptorAt}
+use Rattle.entities.specs.Run.{mostEntities, held, nodeAt, idAt, placeAt, sourcesOf, sourcesAt}
 use Rattle.entities.specs.Represents.{Represents}
 use Rattle.entities.specs.RepresentsLaws.{sound-each-of, breaks-each-of}
 use Rattle.sources.specs.Rules.{Rule10, Rule11, unknown}
@@ -54,20 +53,23 @@ use Rattle.ranks.specs.Order.{orderIn, ordered}
 use Rattle.ranks.specs.OrderLaws.{ordered-held, ordered-node}
 use Rattle.ranks.specs.RuleLaws.{ranking-run, rule12-ranks}
 use Rattle.clusters.specs.Rules.{entering, GivenOut, Fits, Rule13, Broken, Connected}
-use Rattle.clusters.specs.Sweep.{bytesOf, givenIn, keepsBy, breach13, clustersOf}
+use Rattle.clusters.specs.Sweep.{bytesOf, givesAt, givenIn, givenFor, keepsBy, breach13, clustersOf}
 
 -- any edition, of the descriptors alone
 module _ {ed : Edition} {ds : List (List ℕ)} where
   -- a source is an entity of the run
   source-of : Rule11 ed ds → (d : List ℕ) → d ∈ ds → (x : ℕ) → x ∈ sources ed d → Some (λ e. ownId e ≡ x) ds
   source-of r d m x a =
-      ⊎-elim (λ b. b) (λ f. absurd (r d m (record { one = x; among = a; has = unknown (λ e b q. f (record { one = e; among = b; has = q })) })))
+      ⊎-elim (λ b. b)
+      (λ f. absurd (r d m (record { one = x; among = a; has = unknown (λ e b q. f (record { one = e; among = b; has = q })) })))
       (decided (any (λ e. eqb (ownId e) x) ds) (reads-any (λ e. eqb (ownId e) x) (λ e. ownId e ≡ x) (λ e. reads-eq (ownId e) x) ds))
 
-  module _ (r : Rule11 ed ds) {rank : ℕ → ℕ} (ranked : Ranking ed ds rank) (f g : ℕ → ed .Cluster) (made : GivenOut ed ds f) (made′ : GivenOut ed ds g) where
+  module _ (r : Rule11 ed ds) {rank : ℕ → ℕ} (ranked : Ranking ed ds rank)
+      (f g : ℕ → ed .Cluster) (made : GivenOut ed ds f) (made′ : GivenOut ed ds g) where
     one-below : (n : ℕ) (d : List ℕ) → d ∈ ds → rank (ownId d) < n → f (ownId d) ≡ g (ownId d)
     one-below zero d m l = absurd (omega arith)
-    one-below (suc n) d m l = made d m ∙ ap (ed .givesOut d) (map-same f g (sources ed d) (source (λ e a h. one-below n e a h))) ∙ sym (made′ d m)
+    one-below (suc n) d m l =
+        made d m ∙ ap (ed .givesOut d) (map-same f g (sources ed d) (source (λ e a h. one-below n e a h))) ∙ sym (made′ d m)
       where
         source : ((e : List ℕ) → e ∈ ds → rank (ownId e) < n → f (ownId e) ≡ g (ownId e)) → (x : ℕ) → x ∈ sources ed d → f x ≡ g x
         source before x a =
@@ -104,7 +106,8 @@ module _ {ed : Edition} {ds : List (List ℕ)} where
 abbrev pub ruleAt : (ed : Edition) → List (List ℕ) → ℕ → List (ed .Cluster) → ed .Cluster
 ruleAt ed ds i cs = ed .givesOut (getD ds i []) cs
 
-module _ {ed : Edition} {s : List ℕ} {p : ℕ} {ds : List (List ℕ)} {run : Run} (k : Represents ed s p ds run) (r10 : Rule10 ds) (r11 : Rule11 ed ds) where
+module _ {ed : Edition} {s : List ℕ} {p : ℕ} {ds : List (List ℕ)} {run : Run} (k : Represents ed s p ds run)
+    (r10 : Rule10 ds) (r11 : Rule11 ed ds) where
   ranks-kept : ((rank : ℕ → ℕ) × Ranking ed ds rank) ↔ Rule12 ed ds
   ranks-kept = rule12-ranks k (distinct-run k r10) (known-run k r11)
 
@@ -129,7 +132,8 @@ module _ {ed : Edition} {s : List ℕ} {p : ℕ} {ds : List (List ℕ)} {run : R
         let l : i < held run = rw (k .counted) (j .1) in
         let own : idAt run i ≡ ownId d = k .id i (j .1) ∙ ap ownId (j .2) in
         let named : sourcesAt s run i ≡ sources ed d = k .sources i (j .1) ∙ ap (sources ed) (j .2) in
-        let all-in = ranks-all (idAt run) (sourcesAt s run) (held run) (distinct-run k r10) (known-run k r11) (rank, ranking-run k rank .0 ranked) in
+        let by-index = ranking-run k rank .0 ranked in
+        let all-in = ranks-all (idAt run) (sourcesAt s run) (held run) (distinct-run k r10) (known-run k r11) (rank, by-index) in
         ap c (sym own)
         ∙ made-along (idAt run) (sourcesAt s run) (ruleAt ed ds) start (held run) i (all-in i l)
         ∙ ap (λ (b : List ℕ). ed .givesOut b (map c (sourcesAt s run i))) (j .2)
@@ -143,7 +147,8 @@ module _ {C : Type 0} where
     pub gives : (cs : List C) → rule i cs ≡ rule′ i cs
 
   module _ (ids ids′ : ℕ → ℕ) (named named′ : ℕ → List ℕ) (rule rule′ : ℕ → List C → C) where
-    pub given-same : (o : List ℕ) → ((i : ℕ) → i ∈ o → SeenAlike ids ids′ named named′ rule rule′ i) → (c : ℕ → C) → given ids named rule c o ≡ given ids′ named′ rule′ c o
+    pub given-same : (o : List ℕ) → ((i : ℕ) → i ∈ o → SeenAlike ids ids′ named named′ rule rule′ i) → (c : ℕ → C)
+        → given ids named rule c o ≡ given ids′ named′ rule′ c o
     unfolding given
     given-same [] h c = refl
     given-same (i ∷ o) h c =
@@ -170,30 +175,29 @@ module _ {s : List ℕ} {p : ℕ} {ds : List (List ℕ)} {run : Run} (k : Repres
 
   seen-alike : (j : ℕ) → j < length (orderIn s run)
       → SeenAlike (idAt (ordered s run)) (λ i. idAt run (at i)) (sourcesAt s (ordered s run)) (λ i. sourcesAt s run (at i))
-      (λ i cs. giveOut (entityOf (descriptorAt s (ordered s run) i)) cs) (λ i. ruleAt audio ds (at i)) j
+      (givesAt s (ordered s run)) (λ i. ruleAt audio ds (at i)) j
   seen-alike j l =
       let e = ordered-node s run j l in
       let n : at j < length ds = within (grown-at (order-grown (idAt run) (sourcesAt s run) (held run)) j l .0) in
       record {
         id = ap (λ (x : Node). x .id) e;
         sources = ap (sourcesOf s) e;
-        gives = λ cs. ap (λ (x : Node). giveOut (entityOf (bytesOf s x)) cs) e ∙ ap (λ (b : List ℕ). giveOut (entityOf b) cs) (k .bytes (at j) n);
+        gives = λ cs.
+            ap (λ (x : Node). giveOut (entityOf (bytesOf s x)) cs) e
+            ∙ ap (λ (b : List ℕ). giveOut (entityOf b) cs) (k .bytes (at j) n);
       }
 
-  pub given-ordered : givenIn s (ordered s run) ≡ givenOut (idAt run) (sourcesAt s run) (ruleAt audio ds) (λ x. noCluster) (held run)
+  pub given-ordered : givenFor s run ≡ givenOut (idAt run) (sourcesAt s run) (ruleAt audio ds) (λ x. noCluster) (held run)
   unfolding givenIn
   given-ordered =
-      ap (λ (m : ℕ). given (idAt (ordered s run)) (sourcesAt s (ordered s run)) (λ i cs. giveOut (entityOf (descriptorAt s (ordered s run) i)) cs) (λ x. noCluster) (below m)) (ordered-held s run)
+      ap (λ (m : ℕ). given (idAt (ordered s run)) (sourcesAt s (ordered s run)) (givesAt s (ordered s run)) (λ x. noCluster) (below m))
+      (ordered-held s run)
       ∙ given-same (idAt (ordered s run)) (λ i. idAt run (at i)) (sourcesAt s (ordered s run)) (λ i. sourcesAt s run (at i))
-      (λ i cs. giveOut (entityOf (descriptorAt s (ordered s run) i)) cs) (λ i. ruleAt audio ds (at i))
+      (givesAt s (ordered s run)) (λ i. ruleAt audio ds (at i))
       (below (length (orderIn s run))) (λ j m. seen-alike j (below-lt m)) (λ x. noCluster)
       ∙ given-mapped (idAt run) (sourcesAt s run) (ruleAt audio ds) at (below (length (orderIn s run))) (λ x. noCluster)
       ∙ ap (given (idAt run) (sourcesAt s run) (ruleAt audio ds) (λ x. noCluster))
       (map-tabulate at (length (orderIn s run)) (λ i. i) ∙ tabulate-getD (orderIn s run) 0)
-
-  -- the clusters that the sweep gives out
-  abbrev here : ℕ → Cluster
-  here = givenIn s (ordered s run)
 
   pub reads-fits : (cl : ℕ → Cluster) (i : ℕ) → i < length ds → Reads (keepsBy s (nodeAt run i) cl) (Fits audio cl (getD ds i []))
   unfolding keepsBy
@@ -201,43 +205,45 @@ module _ {s : List ℕ} {p : ℕ} {ds : List (List ℕ)} {run : Run} (k : Repres
 
   module _ (r10 : Rule10 ds) (r11 : Rule11 audio ds) where
     module _ (rank : ℕ → ℕ) (ranked : Ranking audio ds rank) where
-      pub swept-given : GivenOut audio ds (givenIn s (ordered s run))
+      pub swept-given : GivenOut audio ds (givenFor s run)
       swept-given = rw given-ordered (given-along k r10 r11 rank ranked (λ x. noCluster))
 
-      pub reads-broken : (i : ℕ) → i < held run → Reads (not (keepsBy s (nodeAt run i) (givenIn s (ordered s run)))) (Broken audio ds (getD ds i []))
+      pub reads-broken : (i : ℕ) → i < held run → Reads (not (keepsBy s (nodeAt run i) (givenFor s run))) (Broken audio ds (getD ds i []))
       reads-broken i l =
-          let h = broken-by r11 ranked here swept-given (getD ds i []) (member-at [] ds i (within l)) in
-          reads-same (reads-not _ (reads-fits here i (within l))) (h .0) (h .1)
+          let h = broken-by r11 ranked (givenFor s run) swept-given (getD ds i []) (member-at [] ds i (within l)) in
+          reads-same (reads-not _ (reads-fits (givenFor s run) i (within l))) (h .0) (h .1)
 
     module _ (r12 : Rule12 audio ds) where
       ranks : (rank : ℕ → ℕ) × Ranking audio ds rank
       ranks = ranks-kept k r10 r11 .1 r12
 
-      broken-at : (i : ℕ) → i < held run → Reads (not (keepsBy s (nodeAt run i) (givenIn s (ordered s run)))) (Broken audio ds (getD ds i []))
+      broken-at : (i : ℕ) → i < held run → Reads (not (keepsBy s (nodeAt run i) (givenFor s run))) (Broken audio ds (getD ds i []))
       broken-at = reads-broken (ranks .0) (ranks .1)
 
       none-broken : ((d : List ℕ) → d ∈ ds → Broken audio ds d → ⊥) ↔ Rule13 audio ds
-      none-broken = rule13-by r11 (ranks .1) here (swept-given (ranks .0) (ranks .1))
+      none-broken = rule13-by r11 (ranks .1) (givenFor s run) (swept-given (ranks .0) (ranks .1))
 
-      pub rule13-nowhere : (breach13 s run (givenIn s (ordered s run)) ≡ Nowhere) ↔ Rule13 audio ds
+      pub rule13-nowhere : (breach13 s run (givenFor s run) ≡ Nowhere) ↔ Rule13 audio ds
       unfolding breach13
       rule13-nowhere =
           let b = breach-nowhere (held run) (placeAt run) (λ i. Broken audio ds (getD ds i [])) _ broken-at in
           let d = sound-each-of k (Broken audio ds) in
           (λ e. none-broken .0 (d .0 (b .0 e)), λ h. b .1 (d .1 (none-broken .1 h)))
 
-      pub rule13-at : (q : ℕ) → (breach13 s run (givenIn s (ordered s run)) ≡ At q) ↔ Breaks (λ b d. Broken audio ds d) p ds q
+      pub rule13-at : (q : ℕ) → (breach13 s run (givenFor s run) ≡ At q) ↔ Breaks (λ b d. Broken audio ds d) p ds q
       unfolding breach13
       rule13-at q =
           let b = breach-at (held run) (placeAt run) (λ i. Broken audio ds (getD ds i [])) _ broken-at q in
           let d = breaks-each-of k (Broken audio ds) q in
           (λ e. d .0 (b .0 e), λ h. b .1 (d .1 h))
 
-  pub clusters-shown : (c : Connected audio ds) (i : ℕ) → i < length ds → getD (clustersOf run (givenIn s (ordered s run))) i noCluster ≡ c .cluster (ownId (getD ds i []))
+  pub clusters-shown : (c : Connected audio ds) (i : ℕ) → i < length ds
+      → getD (clustersOf run (givenFor s run)) i noCluster ≡ c .cluster (ownId (getD ds i []))
   unfolding clustersOf
   clusters-shown c i l =
       let few : held run ≤ mostEntities = min-le-right (run .count) mostEntities in
       let e = k .counted in
-      getD-tabulate mostEntities (λ j. here (idAt run j)) i noCluster (omega arith)
-      ∙ ap here (k .id i l)
-      ∙ given-one (c .rule11) (c .ranked) here (c .cluster) (swept-given (c .rule10) (c .rule11) (c .rank) (c .ranked)) (c .given-out) (getD ds i []) (member-at [] ds i l)
+      getD-tabulate mostEntities (λ j. givenFor s run (idAt run j)) i noCluster (omega arith)
+      ∙ ap (givenFor s run) (k .id i l)
+      ∙ given-one (c .rule11) (c .ranked) (givenFor s run) (c .cluster) (swept-given (c .rule10) (c .rule11) (c .rank) (c .ranked)) (c .given-out)
+      (getD ds i []) (member-at [] ds i l)

@@ -1,5 +1,4 @@
 -- The rules 10 to 13 in their order: "the lowest number that applies is given, at no other time".
---   givenFor s run       ==  what each ID of the run gives out, along its order
 --   judged s run r       ==  the first of the four that the run breaks, with its place; what r says where it breaks none
 --   clustersFor s run    ==  the cluster of each entity, by index
 --   refusedBy r          ==  the answer where r is refused: no clusters
@@ -18,14 +17,14 @@ use Rattle.entities.specs.Run.{mostEntities}
 use Rattle.sources.specs.Breaches.{breach10, breach11}
 use Rattle.ranks.specs.Order.{ordered}
 use Rattle.ranks.specs.Breach.{breach12}
-use Rattle.clusters.specs.Sweep.{givenIn, breach13, clustersOf}
+use Rattle.clusters.specs.Sweep.{givenFor, breach13, clustersOf}
 use Rattle.connections.specs.declared.Connected.{Connected}
 
-abbrev pub givenFor : List ℕ → Run → ℕ → Cluster
-givenFor s run = givenIn s (ordered s run)
-
 unfoldable pub judged : List ℕ → Run → Refusal → Refusal
-judged s run r = refuse 10 (breach10 run) (refuse 11 (breach11 s run) (refuse 12 (breach12 run (ordered s run)) (refuse 13 (breach13 s run (givenFor s run)) r)))
+judged s run r =
+    refuse 10 (breach10 run)
+    (refuse 11 (breach11 s run)
+    (refuse 12 (breach12 run (ordered s run)) (refuse 13 (breach13 s run (givenFor s run)) r)))
 
 abbrev pub clustersFor : List ℕ → Run → List Cluster
 clustersFor s run = clustersOf run (givenFor s run)
@@ -34,4 +33,5 @@ unfoldable pub refusedBy : Refusal → Connected
 refusedBy r = record { refusal = r; clusters = replicate mostEntities noCluster }
 
 unfoldable pub connectedIn : List ℕ → Run → Connected
-connectedIn s run = pick (eqb (judged s run none .number) 0) (record { refusal = none; clusters = clustersFor s run }) (refusedBy (judged s run none))
+connectedIn s run =
+    pick (eqb (judged s run none .number) 0) (record { refusal = none; clusters = clustersFor s run }) (refusedBy (judged s run none))

@@ -1,7 +1,7 @@
 -- An array filled index by index.
 use borrow.Author.Needs.{needs}
 use Prim.Native.Nat.{ℕ, _+_, _-_, _≤_, _<_}
-use mathlib.Core.Path.{_≡_, sym, ap, _∙_}
+use mathlib.Core.Path.{_≡_, ap}
 use mathlib.Core.List.{List}
 use mathlib.Core.Bool.{false}
 use lib.ListN.{length, getD, set, replicate, length-replicate}
@@ -15,6 +15,9 @@ use Rattle.clusters.specs.Sweep.{clusterOn, clustersOf}
 use Rattle.clusters.proofs.by_index.Statement.{statement}
 use Rattle.clusters.proofs.by_index.Tie as tie
 
+abbrev zeros : Node
+zeros = record { place = 0; first = 0; pins = 0; id = 0; feeds = false }
+
 module _ (run : Run) (g : Given) where
   record Gone (clusters : List Cluster) (i : ℕ) : Type 0 where
     filled : Filled 32 (λ j. clusterOn g (idAt run j)) clusters i
@@ -26,7 +29,7 @@ module _ (run : Run) (g : Given) where
     long : length clusters ≡ 32
     long = a .filled .long
 
-    more : i < 32 → (x : ℕ) → (x ≡ getD (run .nodes) i (record { place = 0; first = 0; pins = 0; id = 0; feeds = false }) .id) × (x < 256) → Gone (set clusters i (clusterOn g x)) (i + 1)
+    more : i < 32 → (x : ℕ) → (x ≡ getD (run .nodes) i zeros .id) × (x < 256) → Gone (set clusters i (clusterOn g x)) (i + 1)
     unfolding blankNode
     more h x e = record { filled = filled-more (a .filled) h (ap (clusterOn g) (e .0)) }
 

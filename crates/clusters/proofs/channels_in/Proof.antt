@@ -44,7 +44,12 @@ module _ (ids counts : List ℕ) where
       fits f = let m = g .small in let l = g .low in let b = e .1 in record { fits = omega arith }
 
       on : Gone (sum + c) (k + 1)
-      on = let t = turn in let s = g .same in let m = g .small in let b = e .1 in record { low = omega arith; small = omega arith; same = omega arith }
+      on =
+          let t = turn in
+          let s = g .same in
+          let m = g .small in
+          let b = e .1 in
+          record { low = omega arith; small = omega arith; same = omega arith }
 
 ruleset laws = (start, last, fits, on, needs)
 

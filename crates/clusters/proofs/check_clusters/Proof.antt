@@ -1,7 +1,7 @@
 -- A search for the first entity that breaks its rule: none before the one come to does. The rules look at channels alone.
 use borrow.Author.Needs.{needs}
 use Prim.Native.Nat.{ℕ, _+_, _-_, _≤_, _<_}
-use mathlib.Core.Path.{_≡_, sym, ap, _∙_}
+use mathlib.Core.Path.{_≡_, ap, _∙_}
 use mathlib.Core.Bool.{Bool, true, false, not}
 use mathlib.Core.List.{List}
 use native.Mathlib.Omega.{arith}
@@ -30,21 +30,25 @@ module _ (s : List ℕ) (run : Run) where
   start : (counts : List ℕ) → Passed counts 0
   start counts = come-none _ (λ j. At (placeAt run j)) Nowhere (held run)
 
-  by-channels : (given : Given) → firstIn (wrong (given .channels)) (λ j. At (placeAt run j)) Nowhere 0 (held run) ≡ breach13 s run (clusterOn given)
+  by-channels : (given : Given)
+      → firstIn (wrong (given .channels)) (λ j. At (placeAt run j)) Nowhere 0 (held run) ≡ breach13 s run (clusterOn given)
   unfolding breach13
   by-channels given =
-      first-same _ _ (λ j. At (placeAt run j)) Nowhere (held run) (λ j l. ap not (keeps-channels s (nodeAt run j) (given .channels) (given .locations) (given .names)))
+      first-same _ _ (λ j. At (placeAt run j)) Nowhere (held run)
+      (λ j l. ap not (keeps-channels s (nodeAt run j) (given .channels) (given .locations) (given .names)))
 
   module _ (n : ℕ) (m : n ≡ held run) (i : ℕ) where
     over : (given : Given) → Passed (given .channels) i → n ≤ i → Nowhere ≡ breach13 s run (clusterOn given)
     over given g h = come-over _ (λ j. At (placeAt run j)) Nowhere (held run) i g (omega arith) ∙ by-channels given
 
     module _ (h : i < n) (b : Bool) where
-      here : (given : Given) → Passed (given .channels) i → b ≡ keepsBy s (getD (run .nodes) i zeros) (channelsOn (given .channels)) → not b ≡ true → At (getD (run .nodes) i zeros .place) ≡ breach13 s run (clusterOn given)
+      here : (given : Given) → Passed (given .channels) i → b ≡ keepsBy s (getD (run .nodes) i zeros) (channelsOn (given .channels))
+          → not b ≡ true → At (getD (run .nodes) i zeros .place) ≡ breach13 s run (clusterOn given)
       unfolding blankNode
       here given g f y = come-here _ (λ j. At (placeAt run j)) Nowhere (held run) i g (omega arith) (not b) (ap not f) y ∙ by-channels given
 
-      on : (counts : List ℕ) → Passed counts i → b ≡ keepsBy s (getD (run .nodes) i zeros) (channelsOn counts) → not b ≡ false → Passed counts (i + 1)
+      on : (counts : List ℕ) → Passed counts i → b ≡ keepsBy s (getD (run .nodes) i zeros) (channelsOn counts) → not b ≡ false
+          → Passed counts (i + 1)
       unfolding blankNode
       on counts g f y = come-more _ (λ j. At (placeAt run j)) Nowhere (held run) i g (omega arith) (not b) (ap not f) y
 

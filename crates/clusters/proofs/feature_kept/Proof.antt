@@ -9,7 +9,8 @@ use Rattle.clusters.specs.Sweep.{channelsOn, firstBy}
 use Rattle.clusters.proofs.feature_kept.Statement.{statement}
 use Rattle.clusters.proofs.feature_kept.Tie as tie
 
-by-length : (ids counts : List ℕ) (n l c m : ℕ) → c ≡ firstBy (channelsOn counts) ids .channels → m ≡ featureLength c n → eqb l m ≡ featureKept n l (map (channelsOn counts) ids)
+by-length : (ids counts : List ℕ) (n l c m : ℕ) → c ≡ firstBy (channelsOn counts) ids .channels
+    → m ≡ featureLength c n → eqb l m ≡ featureKept n l (map (channelsOn counts) ids)
 unfolding featureKept firstBy
 by-length ids counts n l c m e f = ap (eqb l) (f ∙ ap (λ (k : ℕ). featureLength k n) e)
 

@@ -1,11 +1,10 @@
 -- No pin, or pin 1.
 use borrow.Author.Needs.{needs}
 use Prim.Native.Nat.{ℕ, _<_}
-use mathlib.Core.Path.{_≡_, refl, sym, ap, _∙_}
+use mathlib.Core.Path.{_≡_, refl, ap}
 use mathlib.Core.List.{List, [], _∷_}
 use native.Mathlib.Omega.{arith}
 use lib.ListN.{length, getD}
-use Rattle.layout.specs.declared.Cluster.{Cluster}
 use Rattle.layout.specs.Layout.{noCluster}
 use Rattle.edition.specs.Audio.{firstOf}
 use Rattle.clusters.specs.Sweep.{clusterBy, firstBy}
@@ -18,7 +17,8 @@ module _ (channels locations names : List ℕ) where
   no-pin [] e = refl
   no-pin (x ∷ ids) e = absurd (omega arith)
 
-  pin-1 : (ids : List ℕ) → (length ids ≡ 0 → ⊥) → (x : ℕ) → (x ≡ getD ids 0 0) × (x < 256) → clusterBy channels locations names x ≡ firstBy (clusterBy channels locations names) ids
+  pin-1 : (ids : List ℕ) → (length ids ≡ 0 → ⊥) → (x : ℕ) → (x ≡ getD ids 0 0) × (x < 256)
+      → clusterBy channels locations names x ≡ firstBy (clusterBy channels locations names) ids
   unfolding firstBy firstOf
   pin-1 [] f x e = absurd (f refl)
   pin-1 (y ∷ ids) f x e = ap (clusterBy channels locations names) (e .0)

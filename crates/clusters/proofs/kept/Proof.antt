@@ -5,7 +5,7 @@ use mathlib.Core.Path.{_≡_, sym, ap, _∙_}
 use mathlib.Core.Bool.{Bool, true}
 use mathlib.Core.List.{List, map}
 use native.Mathlib.Omega.{arith}
-use lib.ListN.{length, drop, length-take}
+use lib.ListN.{length, length-take}
 use Rattle.layout.specs.declared.Cluster.{Cluster}
 use Rattle.layout.specs.declared.Entity.{Entity}
 use Rattle.layout.specs.declared.Entity.the-variants.{Unknown, Input, Output, Mixer, Selector, Printed, Feature}
@@ -22,7 +22,8 @@ use Rattle.clusters.proofs.kept.Tie as tie
 few : (s : List ℕ) (n : Node) → n .pins < 256 → (ids : List ℕ) → ids ≡ sourcesOf s n → length ids ≤ 255
 few s n h ids e = rw e (simp length-take (omega arith))
 
-module _ (s : List ℕ) (n : Node) (counts d : List ℕ) (p : d ≡ bytesOf s n) (ids : List ℕ) (t : ids ≡ sourcesOf s n) (e : Entity) (q : e ≡ entityOf d) where
+module _ (s : List ℕ) (n : Node) (counts d : List ℕ) (p : d ≡ bytesOf s n)
+    (ids : List ℕ) (t : ids ≡ sourcesOf s n) (e : Entity) (q : e ≡ entityOf d) where
   of : {x : Entity} → e ≡ x → keeps x (length d) (map (channelsOn counts) ids) ≡ keepsBy s n (channelsOn counts)
   unfolding keepsBy
   of h =
@@ -42,7 +43,8 @@ module _ (s : List ℕ) (n : Node) (counts d : List ℕ) (p : d ≡ bytesOf s n)
   unfolding keeps
   output h = of h
 
-  mixer : {i p l : ℕ} {c : Cluster} → e ≡ Mixer i p c l → (b : Bool) → b ≡ mixerKept p c (length d) (map (channelsOn counts) ids) → b ≡ keepsBy s n (channelsOn counts)
+  mixer : {i p l : ℕ} {c : Cluster} → e ≡ Mixer i p c l → (b : Bool)
+      → b ≡ mixerKept p c (length d) (map (channelsOn counts) ids) → b ≡ keepsBy s n (channelsOn counts)
   unfolding keeps
   mixer h b a = a ∙ of h
 
@@ -54,7 +56,8 @@ module _ (s : List ℕ) (n : Node) (counts d : List ℕ) (p : d ≡ bytesOf s n)
   unfolding keeps
   printed h b a = a ∙ of h
 
-  feature : {i s′ k l : ℕ} → e ≡ Feature i s′ k l → (b : Bool) → b ≡ featureKept k (length d) (map (channelsOn counts) ids) → b ≡ keepsBy s n (channelsOn counts)
+  feature : {i s′ k l : ℕ} → e ≡ Feature i s′ k l → (b : Bool)
+      → b ≡ featureKept k (length d) (map (channelsOn counts) ids) → b ≡ keepsBy s n (channelsOn counts)
   unfolding keeps
   feature h b a = a ∙ of h
 

@@ -9,7 +9,8 @@ use Rattle.clusters.specs.Sweep.{channelsOn, firstBy}
 use Rattle.clusters.proofs.selector_kept.Statement.{statement}
 use Rattle.clusters.proofs.selector_kept.Tie as tie
 
-as-first : (ids counts : List ℕ) (c : ℕ) (b : Bool) → c ≡ firstBy (channelsOn counts) ids .channels → b ≡ alike c (map (channelsOn counts) ids) → b ≡ alikeIn (map (channelsOn counts) ids)
+as-first : (ids counts : List ℕ) (c : ℕ) (b : Bool) → c ≡ firstBy (channelsOn counts) ids .channels
+    → b ≡ alike c (map (channelsOn counts) ids) → b ≡ alikeIn (map (channelsOn counts) ids)
 unfolding alikeIn firstBy
 as-first ids counts c b e f = f ∙ ap (λ (k : ℕ). alike k (map (channelsOn counts) ids)) e
 

@@ -1,9 +1,8 @@
 -- One law for each way out, in the order of the rules. What each ID gives out is said by the sweep for every ID.
 use borrow.Author.Needs.{needs}
 use Prim.Native.Nat.{ℕ}
-use mathlib.Core.Path.{_≡_, refl, sym, ap, _∙_}
+use mathlib.Core.Path.{_≡_, sym, ap, _∙_}
 use mathlib.Core.List.{List}
-use lib.Dec.{eqb}
 use native.Mathlib.Omega.{arith}
 use borrow.Author.Tests.{eq-eqb, ne-eqb}
 use Rattle.ground.specs.declared.Place.{Place}
@@ -17,20 +16,22 @@ use Rattle.sources.specs.Breaches.{breach10, breach11}
 use Rattle.ranks.specs.Order.{ordered}
 use Rattle.ranks.specs.Breach.{breach12}
 use Rattle.clusters.specs.declared.Given.{Given}
-use Rattle.clusters.specs.Sweep.{clusterOn, Sweeps, breach13, clustersOf}
+use Rattle.clusters.specs.Sweep.{givenFor, clusterOn, Sweeps, breach13, clustersOf}
 use Rattle.clusters.specs.SweepLaws.{breach13-same, clusters-same}
 use Rattle.connections.specs.declared.Connected.{Connected}
-use Rattle.connections.specs.Judgement.{givenFor, judged, clustersFor, refusedBy, connectedIn}
+use Rattle.connections.specs.Judgement.{judged, clustersFor, refusedBy, connectedIn}
 use Rattle.connections.proofs.judge.Statement.{statement}
 use Rattle.connections.proofs.judge.Tie as tie
 
 -- the answer, from what is judged
 module _ (s : List ℕ) (run : Run) where
-  turned-away : (n p : ℕ) → (n ≡ 0 → ⊥) → judged s run none ≡ record { number = n; place = p } → (r : Connected) → r ≡ refusedBy (record { number = n; place = p }) → r ≡ connectedIn s run
+  turned-away : (n p : ℕ) → (n ≡ 0 → ⊥) → judged s run none ≡ record { number = n; place = p }
+      → (r : Connected) → r ≡ refusedBy (record { number = n; place = p }) → r ≡ connectedIn s run
   unfolding connectedIn
   turned-away n p z e r f = f ∙ ap refusedBy (sym e) ∙ sym (no _ _ (ne-eqb _ 0 (λ q. z (sym (ap (λ (x : Refusal). x .number) e) ∙ q))))
 
-  taken : judged s run none ≡ none → (cs : List Cluster) → cs ≡ clustersFor s run → _≡_ {A = Connected} (record { refusal = none; clusters = cs }) (connectedIn s run)
+  taken : judged s run none ≡ none → (cs : List Cluster) → cs ≡ clustersFor s run
+      → _≡_ {A = Connected} (record { refusal = none; clusters = cs }) (connectedIn s run)
   unfolding connectedIn
   taken e cs f =
       ap (λ (l : List Cluster). record { refusal = none; clusters = l }) f
@@ -53,7 +54,8 @@ module _ (s : List ℕ) (run : Run) (a : Place) (e : a ≡ breach10 run) where
       ranks : (p : ℕ) → c ≡ At p → (r : Connected) → r ≡ refusedBy (record { number = 12; place = p }) → r ≡ connectedIn s run
       unfolding judged
       ranks p l =
-          turned-away s run 12 p (λ z. omega arith) (refuse-on 10 _ (sym e ∙ h) ∙ refuse-on 11 _ (sym f ∙ k) ∙ refuse-at 12 p _ (sym in-order ∙ l))
+          turned-away s run 12 p (λ z. omega arith)
+          (refuse-on 10 _ (sym e ∙ h) ∙ refuse-on 11 _ (sym f ∙ k) ∙ refuse-at 12 p _ (sym in-order ∙ l))
 
       module _ (l : c ≡ Nowhere) (given : Given) (t : Sweeps s o given) (d : Place) (m : d ≡ breach13 s run (clusterOn given)) where
         holds : (x : ℕ) → clusterOn given x ≡ givenFor s run x
@@ -68,7 +70,8 @@ module _ (s : List ℕ) (run : Run) (a : Place) (e : a ≡ breach10 run) where
             turned-away s run 13 p (λ z. omega arith)
             (refuse-on 10 _ (sym e ∙ h) ∙ refuse-on 11 _ (sym f ∙ k) ∙ refuse-on 12 _ (sym in-order ∙ l) ∙ refuse-at 13 p _ (sym by-order ∙ n))
 
-        all-kept : d ≡ Nowhere → (cs : List Cluster) → cs ≡ clustersOf run (clusterOn given) → _≡_ {A = Connected} (record { refusal = none; clusters = cs }) (connectedIn s run)
+        all-kept : d ≡ Nowhere → (cs : List Cluster) → cs ≡ clustersOf run (clusterOn given)
+            → _≡_ {A = Connected} (record { refusal = none; clusters = cs }) (connectedIn s run)
         unfolding judged
         all-kept n cs q =
             taken s run (refuse-on 10 _ (sym e ∙ h) ∙ refuse-on 11 _ (sym f ∙ k) ∙ refuse-on 12 _ (sym in-order ∙ l) ∙ refuse-on 13 _ (sym by-order ∙ n)) cs

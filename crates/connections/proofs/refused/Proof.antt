@@ -9,7 +9,8 @@ use Rattle.connections.specs.Judgement.{refusedBy}
 use Rattle.connections.proofs.refused.Statement.{statement}
 use Rattle.connections.proofs.refused.Tie as tie
 
-empty : (n p : ℕ) → _≡_ {A = Connected} (record { refusal = record { number = n; place = p }; clusters = replicate 32 noCluster }) (refusedBy (record { number = n; place = p }))
+empty : (n p : ℕ)
+    → _≡_ {A = Connected} (record { refusal = record { number = n; place = p }; clusters = replicate 32 noCluster }) (refusedBy (record { number = n; place = p }))
 unfolding refusedBy
 empty n p = refl
 
