@@ -14,6 +14,7 @@ use groups::stretch;
 use layout::Cluster;
 use layout::Entity;
 use scan::byte_at;
+use scan::word_at;
 use table::Control;
 use table::Table;
 
@@ -84,11 +85,14 @@ fn add_bit(
     add(notes, count, note_of(unit, channel, bit + 1, 0, 0))
 }
 
-// The controls that a channel's mask carries.
+// The controls that a channel's mask carries; where its first two bytes are 0, which have all ten bits, none.
 fn add_mask(notes: &mut [u64; 128], count: usize, mask: &[u8], unit: u8, channel: u8) -> usize
     requires { ⌜ Room (tableBy (now notes) count) 990000 ⌝ }
     ensures { λ r. ⌜ tableBy (now (notes .exit)) r ≡ grown (tableBy (now (notes .entry)) count) (maskControls (now (mask .entry)) unit channel) ⌝ }
 {
+    if word_at(mask, 0) == 0 {
+        return count;
+    }
     let mut made = count;
     let mut bit: u8 = 0;
     while bit < 10 {
