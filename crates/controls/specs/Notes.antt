@@ -14,12 +14,11 @@
 --   notes-front        ==  where the notes tell the table of some controls, the notes that are counted are enough
 use Prim.Native.Nat.{ℕ, zero, suc, _+_, _*_, _/_, _%_, _≤_, _<_}
 use mathlib.Core.Path.{_≡_, refl, sym, ap, _∙_}
-use mathlib.Core.Bool.{false}
 use mathlib.Core.List.{List, [], _∷_, map}
 use native.Mathlib.Nat.{add-mul-div-left, div-eq-of-lt, add-mul-mod-self-left, mod-eq-of-lt}
 use native.Mathlib.Omega.{arith}
 use lib.Dec.{lit<}
-use lib.ListN.{length, take, set, replicate, length-set, length-map}
+use lib.ListN.{length, take, set, replicate, length-set}
 use Rattle.ground.specs.Lists.{pad}
 use Rattle.table.specs.declared.Control.{Control}
 use Rattle.table.specs.declared.Table.{Table}

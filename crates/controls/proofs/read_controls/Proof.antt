@@ -1,7 +1,7 @@
 -- The controls of the first i entities are noted, at most 2,560 for each.
 use borrow.Author.Needs.{needs}
 use Prim.Native.Nat.{ℕ, _+_, _*_, _-_, _≤_, _<_}
-use mathlib.Core.Path.{_≡_, refl, sym, ap, _∙_}
+use mathlib.Core.Path.{_≡_, refl, ap, _∙_}
 use mathlib.Core.Bool.{false}
 use mathlib.Core.List.{List, _++_}
 use native.Mathlib.Omega.{arith}
@@ -13,10 +13,10 @@ use Rattle.layout.specs.declared.Cluster.{Cluster}
 use Rattle.layout.specs.Layout.{noCluster, entityOf}
 use Rattle.entities.specs.declared.Node.{Node}
 use Rattle.entities.specs.declared.Run.{Run}
-use Rattle.entities.specs.Run.{mostEntities, blankNode, held, nodeAt}
+use Rattle.entities.specs.Run.{mostEntities, blankNode, held}
 use Rattle.table.specs.declared.Table.{Table}
 use Rattle.table.specs.Controls.{mostControls, blankControl}
-use Rattle.controls.specs.Controls.{entityControls, nodeControls, controlsTo, controlsOfRun}
+use Rattle.controls.specs.Controls.{entityControls, controlsTo, controlsOfRun}
 use Rattle.controls.specs.Growth.{grown, tableOf, table-empty, table-grown}
 use Rattle.controls.specs.Notes.{tableBy, tableFrom, Come, Room, room-more, room-grown, notes-empty, notes-front}
 use Rattle.controls.proofs.read_controls.Statement.{statement}
