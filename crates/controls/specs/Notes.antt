@@ -1,10 +1,12 @@
 -- What the reader keeps of the controls until it makes the table of them: a number for each, its note.
---   noteOf u k v p f   ==  the note of the control of unit u, channel k and selector v with p pins and first value f: a byte each, the unit's lowest
+--   noteOf u k v p f   ==  the note of the control of unit u, channel k and selector v with p pins and first value f: a byte each,
+--                          the unit's lowest
 --   controlFrom n      ==  the control that is noted by n; 0 notes a spare place
 --   noted              ==  the control of a note is the one that it was made of, where all five are bytes
 --   tableBy l n        ==  the table that the notes l tell, n of them counted
 --   tableFrom l n      ==  the same, spare places behind the first n
---   Come t l most r    ==  the table r is t, grown by the controls l, which are no more than that many
+--   Grows l n xs m k   ==  the notes m, k of them counted, tell the table that l and n tell, grown by the controls xs
+--   Come l n xs most m k  ==  the same, and xs are no more than that many
 --   Room t most        ==  the table t has its 128 places, and counts fewer than that many
 --   room-more, room-grown  ==  .. so fewer than more; a table that has grown has its places still
 --   notes-empty        ==  no notes tell the table with no control
@@ -12,12 +14,11 @@
 --   notes-front        ==  where the notes tell the table of some controls, the notes that are counted are enough
 use Prim.Native.Nat.{ℕ, zero, suc, _+_, _*_, _/_, _%_, _≤_, _<_}
 use mathlib.Core.Path.{_≡_, refl, sym, ap, _∙_}
-use mathlib.Core.Bool.{false}
 use mathlib.Core.List.{List, [], _∷_, map}
 use native.Mathlib.Nat.{add-mul-div-left, div-eq-of-lt, add-mul-mod-self-left, mod-eq-of-lt}
 use native.Mathlib.Omega.{arith}
 use lib.Dec.{lit<}
-use lib.ListN.{length, take, set, replicate, length-set, length-map}
+use lib.ListN.{length, take, set, replicate, length-set}
 use Rattle.ground.specs.Lists.{pad}
 use Rattle.table.specs.declared.Control.{Control}
 use Rattle.table.specs.declared.Table.{Table}
@@ -45,7 +46,9 @@ noted u k v p f hu hk hv hp hf =
     let b = above k (v + 256 * (p + 256 * f)) hk in
     let c = above v (p + 256 * f) hv in
     let d = above p f hp in
-    rw (a, b, c, d, low u (k + 256 * (v + 256 * (p + 256 * f))) hu, low k (v + 256 * (p + 256 * f)) hk, low v (p + 256 * f) hv, low p f hp, mod-eq-of-lt hf) refl
+    let e = low u (k + 256 * (v + 256 * (p + 256 * f))) hu in
+    let g = low k (v + 256 * (p + 256 * f)) hk in
+    rw (a, b, c, d, e, g, low v (p + 256 * f) hv, low p f hp, mod-eq-of-lt hf) refl
 
 abbrev pub tableBy : List ℕ → ℕ → Table
 tableBy l n = record { count = n; controls = map controlFrom l }
@@ -53,9 +56,12 @@ tableBy l n = record { count = n; controls = map controlFrom l }
 abbrev pub tableFrom : List ℕ → ℕ → Table
 tableFrom l n = record { count = n; controls = pad blankControl mostControls (take n (map controlFrom l)) }
 
-pub record Come (t : Table) (l : List Control) (most : ℕ) (r : Table) : Type 0 where
-  pub same : r ≡ grown t l
-  pub few : length l ≤ most
+abbrev pub Grows : List ℕ → ℕ → List Control → List ℕ → ℕ → Type 0
+Grows l n xs m k = tableBy m k ≡ grown (tableBy l n) xs
+
+pub record Come (l : List ℕ) (n : ℕ) (xs : List Control) (most : ℕ) (m : List ℕ) (k : ℕ) : Type 0 where
+  pub same : Grows l n xs m k
+  pub few : length xs ≤ most
 
 pub record Room (t : Table) (most : ℕ) : Type 0 where
   pub places : length (t .controls) ≡ mostControls

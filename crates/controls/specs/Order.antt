@@ -30,7 +30,8 @@ pub data Pairs {A : Type 0} (R : A → A → Type 0) : List A → Type 0 where
   none : Pairs R []
   more : {a : A} {l : List A} → ((b : A) → List·Memᴰ b l → R a b) → Pairs R l → Pairs R (a ∷ l)
 
-pairs-append : {A : Type 0} (R : A → A → Type 0) {l m : List A} → Pairs R l → Pairs R m → ((a b : A) → List·Memᴰ a l → List·Memᴰ b m → R a b) → Pairs R (l ++ m)
+pairs-append : {A : Type 0} (R : A → A → Type 0) {l m : List A} → Pairs R l → Pairs R m
+    → ((a b : A) → List·Memᴰ a l → List·Memᴰ b m → R a b) → Pairs R (l ++ m)
 pairs-append R none q h = q
 pairs-append R {m = m} (more {a} {l} f p) q h =
     more
@@ -38,13 +39,15 @@ pairs-append R {m = m} (more {a} {l} f p) q h =
     (pairs-append R p q (λ x y i. h x y (List·Memᴰ·tail i)))
 
 -- elements that have P, related by R, are related by S
-pub pairs-as : {A : Type 0} (P : A → Type 0) (R S : A → A → Type 0) {l : List A} → ((a b : A) → P a → P b → R a b → S a b) → ((a : A) → List·Memᴰ a l → P a) → Pairs R l → Pairs S l
+pub pairs-as : {A : Type 0} (P : A → Type 0) (R S : A → A → Type 0) {l : List A} → ((a b : A) → P a → P b → R a b → S a b)
+    → ((a : A) → List·Memᴰ a l → P a) → Pairs R l → Pairs S l
 pairs-as P R S h g none = none
 pairs-as P R S h g (more f p) =
     more (λ b i. h _ b (g _ (List·Memᴰ·head refl)) (g b (List·Memᴰ·tail i)) (f b i)) (pairs-as P R S h (λ x i. g x (List·Memᴰ·tail i)) p)
 
 -- two elements at two places
-pub pairs-at : {A : Type 0} (R : A → A → Type 0) (z : A) {l : List A} → Pairs R l → (p q : ℕ) → p < q → q < length l → R (getD l p z) (getD l q z)
+pub pairs-at : {A : Type 0} (R : A → A → Type 0) (z : A) {l : List A} → Pairs R l
+    → (p q : ℕ) → p < q → q < length l → R (getD l p z) (getD l q z)
 pairs-at R z none p q h k = absurd (omega arith)
 pairs-at R z (more f r) p zero h k = absurd (omega arith)
 pairs-at R z (more {l = l} f r) zero (suc q) h k = f (getD l q z) (member-at z l q (omega arith))

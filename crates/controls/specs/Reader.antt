@@ -40,7 +40,8 @@ use Rattle.controls.specs.Standing.{Carries, feature, selector, Stands, 
 use Rattle.controls.specs.Order.{pairs-at, Before, controls-ordered}
 use Rattle.controls.specs.Rule.{DistinctIds, Rule15, before-other, listed-few}
 
-controls-append : (cluster : ℕ → Cluster) (xs ys : List (List ℕ)) → controlsOf (xs ++ ys) cluster ≡ controlsOf xs cluster ++ controlsOf ys cluster
+controls-append : (cluster : ℕ → Cluster) (xs ys : List (List ℕ))
+    → controlsOf (xs ++ ys) cluster ≡ controlsOf xs cluster ++ controlsOf ys cluster
 unfolding controlsOf
 controls-append cluster [] ys = refl
 controls-append cluster (d ∷ xs) ys =

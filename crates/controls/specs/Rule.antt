@@ -37,7 +37,8 @@ pub record Rule15 (ds : List (List ℕ)) (cluster : ℕ → Cluster) : Type 0 wh
 abbrev pub DistinctIds : (List ℕ → ℕ) → List (List ℕ) → Type 0
 DistinctIds own ds = (x : List (List ℕ)) (a : List ℕ) (y : List (List ℕ)) (b : List ℕ) → ds ≡ x ++ a ∷ y → b ∈ y → own a ≡ own b → ⊥
 
-pub pairs-fit : {A : Type 0} {l : List A} (m : List A) → Pairs (λ a b. a ≡ b → ⊥) l → ((a : A) → List·Memᴰ a l → List·Memᴰ a m) → length l ≤ length m
+pub pairs-fit : {A : Type 0} {l : List A} (m : List A) → Pairs (λ a b. a ≡ b → ⊥) l
+    → ((a : A) → List·Memᴰ a l → List·Memᴰ a m) → length l ≤ length m
 pairs-fit m none h = zero-le
 pairs-fit {A} m (more {a} {l} apart p) h =
     let n : length m ≡ length (k .0) + suc (length (k .1)) = ap length (k .2) ∙ length-append (k .0) (a ∷ k .1) in

@@ -3,7 +3,8 @@
 --   Carries d c x    ==  the entity d, whose cluster has c channels, carries the control x: "Channel k's mask (0 is master), bit b:
 --                        control with selector b+1, for b from 0 to 9 except 5", k at most c; "Each Selector has one control"
 --   Stands ds cluster x  ==  some entity of the run ds, with the cluster on its ID, carries x
---   FromBit m u k b x, FromUnit u n d from to x  ==  x is what bit b of the mask m carries; what some channel from .. to of a Feature Unit does
+--   FromBit m u k b x, FromUnit u n d from to x  ==  x is what bit b of the mask m carries; what some channel from .. to of a Feature
+--                        Unit does
 --   bit-of, bits-of, of-mask, channels-of  ==  what is listed of a bit, of bits, of a mask, of channels, is such
 --   carried          ==  what is listed of an entity, it carries
 --   stands-of        ==  what is listed of the run stands
@@ -32,7 +33,8 @@ abbrev pub SetBit : List ℕ → ℕ → Type 0
 SetBit m b = byte m (b / 8) / 2 ^ (b % 8) % 2 ≡ 1
 
 pub data Carries (d : List ℕ) (c : ℕ) : Control → Type 0 where
-  feature : (k b : ℕ) → byte d 2 ≡ 6 → k ≤ c → b ≤ 9 → (b ≡ 5 → ⊥) → SetBit (maskOf d (byte d 5) k) b → Carries d c (unitControl (byte d 3) k (b + 1))
+  feature : (k b : ℕ) → byte d 2 ≡ 6 → k ≤ c → b ≤ 9 → (b ≡ 5 → ⊥) → SetBit (maskOf d (byte d 5) k) b
+      → Carries d c (unitControl (byte d 3) k (b + 1))
   selector : byte d 2 ≡ 5 → Carries d c (selectorControl (byte d 3) (byte d 4))
 
 abbrev pub Stands : List (List ℕ) → (ℕ → Cluster) → Control → Type 0
@@ -104,7 +106,8 @@ module _ (u n : ℕ) (d : List ℕ) where
       (λ i. let r = channels-of j (k + 1) x i in record { channel = r .channel; bit = r .bit; not-before = let l = r .not-before in omega arith; not-behind = let l = r .not-behind in omega arith; known = r .known; carried = r .carried })
       (List·Memᴰ·append-cases (maskControls (maskOf d n k) u k) h)
 
-  of-channels : (j k a b : ℕ) → k ≤ a → a < k + j → b ≤ 9 → (b ≡ 5 → ⊥) → SetBit (maskOf d n a) b → List·Memᴰ (unitControl u a (b + 1)) (channelsFrom j k u n d)
+  of-channels : (j k a b : ℕ) → k ≤ a → a < k + j → b ≤ 9 → (b ≡ 5 → ⊥) → SetBit (maskOf d n a) b
+      → List·Memᴰ (unitControl u a (b + 1)) (channelsFrom j k u n d)
   unfolding channelsFrom maskControls
   of-channels zero k a b l h o f i = absurd (omega arith)
   of-channels (suc j) k a b l h o f i =
@@ -155,12 +158,15 @@ module _ (cluster : ℕ → Cluster) where
       (λ h. let r = stands-of ds x h in record { one = r .one; among = List·Memᴰ·tail (r .among); has = r .has })
       (List·Memᴰ·append-cases (entityControls (entityOf d) d (cluster (ownId d) .channels)) m)
 
-  of-stands : {ds : List (List ℕ)} {d : List ℕ} (x : Control) → d ∈ ds → LaidOut d → Carries d (cluster (ownId d) .channels) x → x ∈ controlsOf ds cluster
+  of-stands : {ds : List (List ℕ)} {d : List ℕ} (x : Control) → d ∈ ds → LaidOut d → Carries d (cluster (ownId d) .channels) x
+      → x ∈ controlsOf ds cluster
   unfolding controlsOf
   of-stands {ds = a ∷ ds} {d} x (List·Memᴰ·head e) o h =
       Memᴰ·append-left {s = entityControls (entityOf a) a (cluster (ownId a) .channels)} (controlsOf ds cluster)
       (rw e at (carries d (cluster (ownId d) .channels) (told d) o x h))
-  of-stands {ds = a ∷ ds} x (List·Memᴰ·tail m) o h = Memᴰ·append-right (entityControls (entityOf a) a (cluster (ownId a) .channels)) (of-stands x m o h)
+  of-stands {ds = a ∷ ds} x (List·Memᴰ·tail m) o h =
+      Memᴰ·append-right (entityControls (entityOf a) a (cluster (ownId a) .channels)) (of-stands x m o h)
 
-  pub control-stands : (ds : List (List ℕ)) → ((d : List ℕ) → d ∈ ds → LaidOut d) → (x : Control) → x ∈ controlsOf ds cluster ↔ Stands ds cluster x
+  pub control-stands : (ds : List (List ℕ)) → ((d : List ℕ) → d ∈ ds → LaidOut d)
+      → (x : Control) → x ∈ controlsOf ds cluster ↔ Stands ds cluster x
   control-stands ds o x = (stands-of ds x, λ h. of-stands x (h .among) (o (h .one) (h .among)) (h .has))

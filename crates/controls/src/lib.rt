@@ -4,16 +4,17 @@
 ghost use mathlib.Core.Path.{_≡_};
 ghost use Prim.Native.Nat.{_<_};
 ghost use Rattle.layout.specs.Layout.{entityOf};
-ghost use Rattle.table.specs.Controls.{mostControls};
-ghost use Rattle.controls.specs.Controls.{freshControl, maskOf, bitSet, bitControls, maskControls, featureControls, entityControls, controlsOfRun, breach15};
-ghost use Rattle.controls.specs.Growth.{added, grown, tableOf};
-ghost use Rattle.controls.specs.Notes.{noteOf, controlFrom, tableBy, tableFrom, Come, Room};
+ghost use Rattle.controls.specs.Controls.{freshControl, maskOf, bitSet, bitControls, maskControls, featureControls};
+ghost use Rattle.controls.specs.Controls.{entityControls, controlsOfRun, breach15};
+ghost use Rattle.controls.specs.Growth.{added, tableOf};
+ghost use Rattle.controls.specs.Notes.{controlFrom, tableBy, tableFrom, Grows, Come, Room};
 use entities::Run;
 use ground::Place;
 use groups::stretch;
 use layout::Cluster;
 use layout::Entity;
 use scan::byte_at;
+use scan::word_at;
 use table::Control;
 use table::Table;
 
@@ -73,7 +74,7 @@ fn add_bit(
 ) -> usize
     requires { ⌜ Room (tableBy (now notes) count) 1000000 ⌝ }
     requires { ⌜ bit < 10 ⌝ }
-    ensures { λ r. ⌜ tableBy (now (notes .exit)) r ≡ grown (tableBy (now (notes .entry)) count) (bitControls (now (mask .entry)) unit channel bit) ⌝ }
+    ensures { λ r. ⌜ Grows (now (notes .entry)) count (bitControls (now (mask .entry)) unit channel bit) (now (notes .exit)) r ⌝ }
 {
     if bit == 5 {
         return count;
@@ -84,11 +85,14 @@ fn add_bit(
     add(notes, count, note_of(unit, channel, bit + 1, 0, 0))
 }
 
-// The controls that a channel's mask carries.
+// The controls that a channel's mask carries; where its first two bytes are 0, which have all ten bits, none.
 fn add_mask(notes: &mut [u64; 128], count: usize, mask: &[u8], unit: u8, channel: u8) -> usize
     requires { ⌜ Room (tableBy (now notes) count) 990000 ⌝ }
-    ensures { λ r. ⌜ tableBy (now (notes .exit)) r ≡ grown (tableBy (now (notes .entry)) count) (maskControls (now (mask .entry)) unit channel) ⌝ }
+    ensures { λ r. ⌜ Grows (now (notes .entry)) count (maskControls (now (mask .entry)) unit channel) (now (notes .exit)) r ⌝ }
 {
+    if word_at(mask, 0) == 0 {
+        return count;
+    }
     let mut made = count;
     let mut bit: u8 = 0;
     while bit < 10 {
@@ -117,7 +121,7 @@ fn add_unit(
     channels: u8,
 ) -> usize
     requires { ⌜ Room (tableBy (now notes) count) 900000 ⌝ }
-    ensures { λ r. ⌜ tableBy (now (notes .exit)) r ≡ grown (tableBy (now (notes .entry)) count) (featureControls unit size channels (now (d .entry))) ⌝ }
+    ensures { λ r. ⌜ Grows (now (notes .entry)) count (featureControls unit size channels (now (d .entry))) (now (notes .exit)) r ⌝ }
 {
     let mut made = count;
     let mut channel: usize = 0;
@@ -133,7 +137,7 @@ fn add_unit(
 // The controls of the entity with this descriptor and these channels.
 fn add_entity(notes: &mut [u64; 128], count: usize, d: &[u8], channels: u8) -> usize
     requires { ⌜ Room (tableBy (now notes) count) 900000 ⌝ }
-    ensures { λ r. ⌜ Come (tableBy (now (notes .entry)) count) (entityControls (entityOf (now (d .entry))) (now (d .entry)) channels) 2560 (tableBy (now (notes .exit)) r) ⌝ }
+    ensures { λ r. ⌜ Come (now (notes .entry)) count (entityControls (entityOf (now (d .entry))) (now (d .entry)) channels) 2560 (now (notes .exit)) r ⌝ }
 {
     let entity = layout::read(d);
     match entity {

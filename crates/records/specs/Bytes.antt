@@ -5,8 +5,8 @@
 --   bytes-told         ==  the record of a descriptor that has its layout is such
 use Prim.Native.Nat.{ℕ, _+_, _/_, _%_, _≤_, _<_}
 use mathlib.Core.Path.{_≡_, refl, _∙_}
-use mathlib.Core.List.{List, [], _∷_}
-use lib.ListN.{length, take, drop, length-take, length-drop, List·getD-eq-default}
+use mathlib.Core.List.{List}
+use lib.ListN.{length, drop, length-take, List·getD-eq-default}
 use lib.Seq.{getD-append-add, getD-take, getD-drop}
 use native.Mathlib.Omega.{arith}
 use Rattle.ground.specs.Numbers.{byte}
@@ -17,7 +17,7 @@ use Rattle.layout.specs.Layout.{mostPins, LaidOut, entityOf, kindOf, printedKin
 use Rattle.layout.specs.LayoutLaws.{Told, told}
 use Rattle.layout.specs.LayoutLaws as laid
 use Rattle.layout.specs.Sources.{pinsOf, sourcesFrom}
-use Rattle.layout.specs.SourcesLaws.{sources-within, pins-few}
+use Rattle.layout.specs.SourcesLaws.{pins-few}
 use Rattle.edition.specs.Edition.{ownId, sources}
 use Rattle.edition.specs.Audio.{audio}
 use Rattle.records.specs.Records.{headSize, recordSize, frontOf, recordIn}

@@ -4,8 +4,8 @@
 --                         a place for, 16 in all
 --   frontOf i k p c     ==  those in front, of an entity with ID i, kind k and p pins, and of its cluster c
 --   idsShown l          ==  the places of the source IDs: the IDs l, then 00
---   headOf s n c        ==  the front of the record of the entity n of the configuration s with the cluster c; its pins are as many as source IDs
---                         stand there
+--   headOf s n c        ==  the front of the record of the entity n of the configuration s with the cluster c; its pins are as many as
+--                         source IDs stand there
 --   recordOf s n c      ==  the whole record
 --   recordsTo k s r cs  ==  the records of the first k entities of the run r with the clusters cs, one after another
 --   roomFor r room      ==  the test that a sheet of that many bytes holds the records of the run r
@@ -14,7 +14,7 @@
 --   record-of           ==  what is shown of the i-th entity of a run is the record of the i-th descriptor that the run stands for
 --   record-length, records-length  ==  how long a record is, and so many of them
 use Prim.Native.Nat.{ℕ, zero, suc, _+_, _*_, _/_, _%_, _<_}
-use mathlib.Core.Path.{_≡_, ap, _∙_}
+use mathlib.Core.Path.{_≡_, refl}
 use mathlib.Core.Bool.{Bool}
 use mathlib.Core.List.{List, [], _∷_, _++_}
 use native.Mathlib.Omega.{arith}
@@ -71,11 +71,7 @@ sources-long d = let h = sources-within d in simp (length-take, length-drop) (om
 pub record-of : {s : List ℕ} {p : ℕ} {ds : List (List ℕ)} {r : Run} → Represents audio s p ds r
     → (i : ℕ) → i < length ds → (c : Cluster) → recordOf s (nodeAt r i) c ≡ recordIn (getD ds i []) c
 unfolding recordOf headOf recordIn
-record-of {s} {p} {ds} {r} h i l c =
-    ap (λ (x : ℕ). frontOf x (kindOf (entityOf (part s (nodeAt r i .place) (endAt s (nodeAt r i .place))))) (length (sourcesOf s (nodeAt r i))) c ++ idsShown (sourcesOf s (nodeAt r i))) (h .id i l)
-    ∙ ap (λ (x : List ℕ). frontOf (ownId (getD ds i [])) (kindOf (entityOf x)) (length (sourcesOf s (nodeAt r i))) c ++ idsShown (sourcesOf s (nodeAt r i))) (h .bytes i l)
-    ∙ ap (λ (x : List ℕ). frontOf (ownId (getD ds i [])) (kindOf (entityOf (getD ds i []))) (length x) c ++ idsShown x) (h .sources i l)
-    ∙ ap (λ (x : ℕ). frontOf (ownId (getD ds i [])) (kindOf (entityOf (getD ds i []))) x c ++ idsShown (sources audio (getD ds i []))) (sources-long (getD ds i []))
+record-of {ds = ds} h i l c = rw (h .id i l, h .bytes i l, h .sources i l, sources-long (getD ds i [])) refl
 
 pub record-length : (s : List ℕ) (n : Node) (c : Cluster) → length (recordOf s n c) ≡ recordSize
 unfolding recordOf headOf

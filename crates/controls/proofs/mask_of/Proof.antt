@@ -15,11 +15,11 @@ module _ (k n : ℕ) (l : k < 256) (m : n < 256) where
   offset-fits : Fits w64 (k * n)
   offset-fits = let p = product-few in record { fits = omega arith }
 
-  start-fits : Fits w64 (6 + k * n)
-  start-fits = let p = product-few in record { fits = omega arith }
+  start-fits : (a : ℕ) → a < 256 → Fits w64 (a + k * n)
+  start-fits a h = let p = product-few in record { fits = omega arith }
 
-  end-fits : Fits w64 (6 + k * n + n)
-  end-fits = let p = product-few in record { fits = omega arith }
+  end-fits : (a : ℕ) → a < 256 → Fits w64 (a + k * n + n)
+  end-fits a h = let p = product-few in record { fits = omega arith }
 
 ruleset laws = (offset-fits, start-fits, end-fits, needs)
 

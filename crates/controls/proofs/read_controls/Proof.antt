@@ -1,7 +1,7 @@
 -- The controls of the first i entities are noted, at most 2,560 for each.
 use borrow.Author.Needs.{needs}
 use Prim.Native.Nat.{ℕ, _+_, _*_, _-_, _≤_, _<_}
-use mathlib.Core.Path.{_≡_, refl, sym, ap, _∙_}
+use mathlib.Core.Path.{_≡_, refl, ap, _∙_}
 use mathlib.Core.Bool.{false}
 use mathlib.Core.List.{List, _++_}
 use native.Mathlib.Omega.{arith}
@@ -13,10 +13,10 @@ use Rattle.layout.specs.declared.Cluster.{Cluster}
 use Rattle.layout.specs.Layout.{noCluster, entityOf}
 use Rattle.entities.specs.declared.Node.{Node}
 use Rattle.entities.specs.declared.Run.{Run}
-use Rattle.entities.specs.Run.{mostEntities, blankNode, held, nodeAt}
+use Rattle.entities.specs.Run.{mostEntities, blankNode, held}
 use Rattle.table.specs.declared.Table.{Table}
 use Rattle.table.specs.Controls.{mostControls, blankControl}
-use Rattle.controls.specs.Controls.{entityControls, nodeControls, controlsTo, controlsOfRun}
+use Rattle.controls.specs.Controls.{entityControls, controlsTo, controlsOfRun}
 use Rattle.controls.specs.Growth.{grown, tableOf, table-empty, table-grown}
 use Rattle.controls.specs.Notes.{tableBy, tableFrom, Come, Room, room-more, room-grown, notes-empty, notes-front}
 use Rattle.controls.proofs.read_controls.Statement.{statement}
@@ -44,17 +44,17 @@ module _ (s : List ℕ) (run : Run) (cs : List Cluster) where
     room = rw notes-empty (record { places = length-replicate mostControls blankControl; few = omega arith });
   }
 
-  module _ (t : Table) (n i : ℕ) (g : Listed t n i) where
+  module _ (l : List ℕ) (m n i : ℕ) (g : Listed (tableBy l m) n i) where
     below : i < n → i < mostEntities
     below h = let f = g .few in omega arith
 
-    room-next : Room t 900000
-    room-next = let f = g .few in let l = g .low in room-more t (1 + 2560 * i) 900000 (g .room) (omega arith)
+    room-next : Room (tableBy l m) 900000
+    room-next = let f = g .few in let b = g .low in room-more (tableBy l m) (1 + 2560 * i) 900000 (g .room) (omega arith)
 
-    on : (d : List ℕ) (next : Table) → i < n → d ≡ part s (getD (run .nodes) i zeros .place) (endAt s (getD (run .nodes) i zeros .place))
-        → Come t (entityControls (entityOf d) d (getD cs i noCluster .channels)) 2560 next → Listed next n (i + 1)
+    on : (d x : List ℕ) (y : ℕ) → i < n → d ≡ part s (getD (run .nodes) i zeros .place) (endAt s (getD (run .nodes) i zeros .place))
+        → Come l m (entityControls (entityOf d) d (getD cs i noCluster .channels)) 2560 x y → Listed (tableBy x y) n (i + 1)
     unfolding controlsTo blankNode
-    on d next h e f =
+    on d x y h e f =
         let z : 1 + 2560 * i + 2560 ≡ 1 + 2560 * (i + 1) = omega arith in
         record {
           low = omega arith;
@@ -66,7 +66,7 @@ module _ (s : List ℕ) (run : Run) (cs : List Cluster) where
               ∙ table-grown (controlsTo i s run cs) (entityControls (entityOf d) d (getD cs i noCluster .channels))
               ∙ ap (λ (x : List ℕ). tableOf (controlsTo i s run cs ++ entityControls (entityOf x) x (getD cs i noCluster .channels))) e
               ∙ rw add-one refl;
-          room = rw (f .same, ← z) (room-grown t (entityControls (entityOf d) d (getD cs i noCluster .channels)) (1 + 2560 * i) 2560 (g .room) (f .few));
+          room = rw (f .same, ← z) (room-grown (tableBy l m) (entityControls (entityOf d) d (getD cs i noCluster .channels)) (1 + 2560 * i) 2560 (g .room) (f .few));
         }
 
   over : (l : List ℕ) (m n i : ℕ) → Listed (tableBy l m) n i → n ≤ i → (r : Table) → r ≡ tableFrom l m → r ≡ tableOf (controlsOfRun s run cs)

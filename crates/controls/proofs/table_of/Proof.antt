@@ -1,7 +1,7 @@
 -- The first i places hold the controls of the first i notes, and spare ones stand behind them.
 use borrow.Author.Needs.{needs}
 use Prim.Native.Nat.{ℕ, _+_, _-_, _≤_, _<_}
-use mathlib.Core.Path.{_≡_, refl, sym, ap, _∙_}
+use mathlib.Core.Path.{_≡_, sym, ap, _∙_}
 use mathlib.Core.List.{List, [], _∷_, _++_, map}
 use native.Mathlib.Omega.{arith}
 use native.Mathlib.Numerals.{add-one}
@@ -9,7 +9,6 @@ use lib.ListN.{length, getD, take, set, replicate, length-take, List·getD-map}
 use lib.Seq.{take-suc, take-all}
 use Rattle.ground.specs.Lists.{pad, pad-blank, pad-set}
 use Rattle.table.specs.declared.Control.{Control}
-use Rattle.table.specs.declared.Table.{Table}
 use Rattle.table.specs.Controls.{mostControls, blankControl}
 use Rattle.controls.specs.Notes.{controlFrom, tableBy, tableFrom, Room}
 use Rattle.controls.proofs.table_of.Statement.{statement}

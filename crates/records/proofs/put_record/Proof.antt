@@ -5,7 +5,7 @@ use mathlib.Core.Path.{_≡_, refl, sym, ap, _∙_}
 use mathlib.Core.List.{List, _++_, append-assoc}
 use native.Mathlib.Omega.{arith}
 use lib.ListN.{length, take, drop, length-append, length-take}
-use lib.Seq.{length-paste-head, take-paste, drop-paste, paste, take-all, drop-drop}
+use lib.Seq.{take-paste, drop-paste, paste, take-all, drop-drop}
 use mir.Val.{Fits}
 use mir.Syntax.{w8}
 use Rattle.ground.specs.Lists.{part, pad, pad-length}

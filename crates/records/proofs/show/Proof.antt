@@ -14,7 +14,6 @@ use borrow.Author.Tests.{not-true, not-false, leb-true, le-leb}
 use Rattle.ground.specs.Pick.{yes, no}
 use Rattle.layout.specs.declared.Cluster.{Cluster}
 use Rattle.layout.specs.Layout.{noCluster}
-use Rattle.entities.specs.declared.Node.{Node}
 use Rattle.entities.specs.declared.Run.{Run}
 use Rattle.entities.specs.Run.{mostEntities, blankNode, held, nodeAt}
 use Rattle.records.specs.Records.{recordSize, recordOf, recordsTo, roomFor, shownIn, record-length, records-length}
