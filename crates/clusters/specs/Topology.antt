@@ -1,6 +1,7 @@
 -- The theorem of this layer: what the reader computes of the clusters, in one sweep along the order of a run, is rule 13 as it is said
 -- of the run's descriptors. Where there are ranks, clusters that are given out by the rules are one, whatever edition's rules they
 -- are; the sweep finds them.
+--   source-of        ==  a source ID is borne by an entity of the run
 --   given-one        ==  where there are ranks, clusters that are given out by the rules are the same on each entity
 --   entering-one     ==  .. and the same enter each
 --   fits-alike       ==  .. so that one of them keeps an entity's rule where another does
@@ -58,7 +59,7 @@ use Rattle.clusters.specs.Sweep.{bytesOf, givesAt, givenIn, givenFor, ke
 -- any edition, of the descriptors alone
 module _ {ed : Edition} {ds : List (List ℕ)} where
   -- a source is an entity of the run
-  source-of : Rule11 ed ds → (d : List ℕ) → d ∈ ds → (x : ℕ) → x ∈ sources ed d → Some (λ e. ownId e ≡ x) ds
+  pub source-of : Rule11 ed ds → (d : List ℕ) → d ∈ ds → (x : ℕ) → x ∈ sources ed d → Some (λ e. ownId e ≡ x) ds
   source-of r d m x a =
       ⊎-elim (λ b. b)
       (λ f. absurd (r d m (record { one = x; among = a; has = unknown (λ e b q. f (record { one = e; among = b; has = q })) })))

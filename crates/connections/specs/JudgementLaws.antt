@@ -27,9 +27,9 @@ use Rattle.ranks.specs.Order.{ordered}
 use Rattle.ranks.specs.Breach.{breach12}
 use Rattle.ranks.specs.RuleLaws.{rule12-nowhere, rule12-at, rule12-ranks}
 use Rattle.clusters.specs.Rules.{Broken, Rule13, Connected}
-use Rattle.clusters.specs.Sweep.{breach13}
+use Rattle.clusters.specs.Sweep.{givenFor, breach13}
 use Rattle.clusters.specs.Topology.{rule13-nowhere, rule13-at}
-use Rattle.connections.specs.Judgement.{givenFor, judged}
+use Rattle.connections.specs.Judgement.{judged}
 
 module _ (p : ℕ) (ds : List (List ℕ)) where
   -- the first descriptor of which it is so stands at the place

@@ -76,7 +76,7 @@ module _ (s : List ℕ) (k : Kept s) where
   reads-room room = rw (← (represented s k .counted)) (reads-le (held (entitiesOf k) * recordSize) room)
 
   pub controls-on : (c : Connected audio (runOf k)) → controlsOfRun s (entitiesOf k) (clustersAt s (keptSurvey k)) ≡ controlsOf (runOf k) (c .cluster)
-  controls-on c = controls-same (represented s k) (c .cluster) (clustersAt s (keptSurvey k)) (clusters-on c)
+  controls-on c = controls-same (represented s k) (clustersAt s (keptSurvey k)) (c .cluster) (clusters-on c)
 
   module _ (room : ℕ) (c : Connected audio (runOf k)) where
     decides-14 : Decides (breach14 (terminalsOf s (entitiesOf k) (clustersAt s (keptSurvey k))) s) (Streams k (c .cluster)) (Breaks14 (runOf k) (c .cluster) (k .opened .descriptors))
