@@ -44,7 +44,7 @@ fn control_from(note: u64) -> Control
 }
 
 // One note more; past the last place it is counted only.
-fn add(notes: &mut [u64; 128], count: usize, note: u64) -> usize
+fn add(notes: &mut [u64; table::CONTROLS], count: usize, note: u64) -> usize
     requires { ⌜ Room (tableBy (now notes) count) 1000000 ⌝ }
     ensures { λ r. ⌜ tableBy (now (notes .exit)) r ≡ added (tableBy (now (notes .entry)) count) (controlFrom note) ⌝ }
 {
@@ -65,7 +65,7 @@ fn has_bit(mask: &[u8], bit: u8) -> bool
 
 // The control that a bit of a channel's mask carries; bit 5 carries none.
 fn add_bit(
-    notes: &mut [u64; 128],
+    notes: &mut [u64; table::CONTROLS],
     count: usize,
     mask: &[u8],
     unit: u8,
@@ -86,7 +86,13 @@ fn add_bit(
 }
 
 // The controls that a channel's mask carries; where its first two bytes are 0, which have all ten bits, none.
-fn add_mask(notes: &mut [u64; 128], count: usize, mask: &[u8], unit: u8, channel: u8) -> usize
+fn add_mask(
+    notes: &mut [u64; table::CONTROLS],
+    count: usize,
+    mask: &[u8],
+    unit: u8,
+    channel: u8,
+) -> usize
     requires { ⌜ Room (tableBy (now notes) count) 990000 ⌝ }
     ensures { λ r. ⌜ Grows (now (notes .entry)) count (maskControls (now (mask .entry)) unit channel) (now (notes .exit)) r ⌝ }
 {
@@ -113,7 +119,7 @@ fn mask_of(d: &[u8], size: u8, channel: u8) -> &[u8]
 
 // The controls of a Feature Unit: channel 0 is master, and one for each channel of its cluster.
 fn add_unit(
-    notes: &mut [u64; 128],
+    notes: &mut [u64; table::CONTROLS],
     count: usize,
     d: &[u8],
     unit: u8,
@@ -135,7 +141,7 @@ fn add_unit(
 }
 
 // The controls of the entity with this descriptor and these channels.
-fn add_entity(notes: &mut [u64; 128], count: usize, d: &[u8], channels: u8) -> usize
+fn add_entity(notes: &mut [u64; table::CONTROLS], count: usize, d: &[u8], channels: u8) -> usize
     requires { ⌜ Room (tableBy (now notes) count) 900000 ⌝ }
     ensures { λ r. ⌜ Come (now (notes .entry)) count (entityControls (entityOf (now (d .entry))) (now (d .entry)) channels) 2560 (now (notes .exit)) r ⌝ }
 {
@@ -152,7 +158,7 @@ fn add_entity(notes: &mut [u64; 128], count: usize, d: &[u8], channels: u8) -> u
 }
 
 // The table of the counted notes, as many as it has places for.
-fn table_of(notes: &[u64; 128], count: usize) -> Table
+fn table_of(notes: &[u64; table::CONTROLS], count: usize) -> Table
     requires { ⌜ Room (tableBy (now notes) count) 900000 ⌝ }
     ensures { λ r. ⌜ r ≡ tableFrom (now (notes .entry)) count ⌝ }
 {
