@@ -3,11 +3,10 @@
 // descriptor, how many they are, whether it may be a source itself, and its kind on the sheet. The layouts are said in specs/Layouts.
 ghost use mathlib.Core.Path.{_≡_};
 ghost use Prim.Native.Nat.{_≤_, _<_};
-ghost use mathlib.Core.List.{[], _∷_};
 ghost use lib.ListN.{length};
 ghost use Rattle.layout.specs.Layout.{entityOf, inputOf, outputOf, mixerOf, selectorOf, featureOf, kindOf, clusterAt, mostPins};
 ghost use Rattle.ground.specs.Pick.{within};
-ghost use Rattle.layout.specs.Sources.{sourcesOf, sourcesIn, sourcesFrom, pinsOf, feedsOf};
+ghost use Rattle.layout.specs.Sources.{sourcesFrom, pinsOf, feedsOf};
 use scan::byte_at;
 use scan::word_at;
 
@@ -56,12 +55,6 @@ pub enum Entity {
         size: u8,
         length: u8,
     },
-}
-
-// How many sources an entity has, and their IDs in the order of its pins, the unused places 0.
-pub struct Sources {
-    pub pins: u8,
-    pub ids: [u8; 8],
 }
 
 fn cluster_at(d: &[u8], at: usize) -> Cluster
@@ -249,67 +242,5 @@ pub fn feeds(entity: Entity) -> bool
         Entity::Selector { .. } => true,
         Entity::Printed { .. } => true,
         Entity::Feature { .. } => true,
-    }
-}
-
-// The places of a stretch of IDs, 00 past its end.
-fn sources_in(ids: &[u8]) -> Sources
-    requires { ⌜ length (now ids) ≤ mostPins ⌝ }
-    ensures { λ r. ⌜ r ≡ sourcesIn (now (ids .entry)) ⌝ }
-{
-    let mut places = [0u8; 8];
-    let mut i: usize = 0;
-    while i < ids.len() {
-        places[i] = ids[i];
-        i += 1;
-    }
-    Sources {
-        pins: i as u8,
-        ids: places,
-    }
-}
-
-fn one_source(id: u8) -> Sources
-    ensures { λ r. ⌜ r ≡ sourcesIn (id ∷ []) ⌝ }
-{
-    let mut places = [0u8; 8];
-    places[0] = id;
-    Sources {
-        pins: 1,
-        ids: places,
-    }
-}
-
-fn no_sources() -> Sources
-    ensures { λ r. ⌜ r ≡ sourcesIn [] ⌝ }
-{
-    Sources {
-        pins: 0,
-        ids: [0u8; 8],
-    }
-}
-
-// The sources of an entity; none where its layout is wrong.
-pub fn read_sources(d: &[u8]) -> Sources
-    ensures { λ r. ⌜ r ≡ sourcesOf (now (d .entry)) ⌝ }
-{
-    let entity = read(d);
-    match entity {
-        Entity::Unknown => no_sources(),
-        Entity::Input { .. } => no_sources(),
-        Entity::Output { source, .. } => one_source(source),
-        Entity::Mixer { pins, .. } => {
-            let end = 5 + pins as usize;
-            sources_in(&d[5..end])
-        }
-        Entity::Selector { pins, .. } => {
-            let end = 5 + pins as usize;
-            sources_in(&d[5..end])
-        }
-        Entity::Printed { pins, .. } => {
-            let end = 6 + pins as usize;
-            sources_in(&d[6..end])
-        }
-        Entity::Feature { source, .. } => one_source(source),
     }
 }
