@@ -21,7 +21,7 @@ use Rattle.layout.specs.Layout.{Pins, LaidOut, noCluster, entityOf}
 use Rattle.layout.specs.declared.Entity.{Entity}
 use Rattle.layout.specs.LayoutLaws.{Told, told}
 use Rattle.layout.specs.LayoutLaws as laid
-use Rattle.edition.specs.Edition.{ownId}
+use Rattle.edition.specs.Edition.{ownId, DistinctIds}
 use Rattle.edition.specs.Audio.{audio}
 use Rattle.entities.specs.declared.Run.{Run}
 use Rattle.entities.specs.Run.{nodeAt}
@@ -38,7 +38,7 @@ use Rattle.controls.specs.Controls.{unitControl, entityControls, control
 use Rattle.controls.specs.Growth.{tableOf}
 use Rattle.controls.specs.Standing.{Carries, feature, selector, Stands, stands-of, control-stands}
 use Rattle.controls.specs.Order.{pairs-at, Before, controls-ordered}
-use Rattle.controls.specs.Rule.{DistinctIds, Rule15, before-other, listed-few}
+use Rattle.controls.specs.Rule.{Rule15, before-other, listed-few}
 
 controls-append : (cluster : ℕ → Cluster) (xs ys : List (List ℕ))
     → controlsOf (xs ++ ys) cluster ≡ controlsOf xs cluster ++ controlsOf ys cluster
@@ -130,7 +130,7 @@ carried-fresh {d} o h (selector i) =
     record { channel = refl; pins = selector-pins d o i; unused = record { unloaded = refl; min = refl; max = refl; res = refl }; first = refl }
 
 module _ (ds : List (List ℕ)) (cluster : ℕ → Cluster) (laid : (d : List ℕ) → d ∈ ds → LaidOut d)
-    (distinct : DistinctIds ownId ds) (rule : Rule15 ds cluster) where
+    (distinct : DistinctIds ds) (rule : Rule15 ds cluster) where
   abbrev listed : List Control
   listed = controlsOf ds cluster
 

@@ -1,6 +1,5 @@
 -- Rule 15. Document 01, refusal 15: "more than 128 controls". Counted are the controls that stand, whoever lists them.
 --   Rule15 ds cluster  ==  some list of at most 128 has every control that stands
---   DistinctIds own ds ==  no two descriptors of ds have the same ID
 --   pairs-fit        ==  a list whose elements are apart, each an element of another list, is no longer than that one
 --   before-other     ==  of two controls the one that is Before the other is another
 --   controls-apart   ==  no control stands twice in the reader's list, where the entities have distinct IDs
@@ -20,7 +19,7 @@ use Rattle.ground.specs.Lists.{split-of}
 use Rattle.ground.specs.Refuse.{kept-nowhere, kept-at}
 use Rattle.layout.specs.declared.Cluster.{Cluster}
 use Rattle.layout.specs.Layout.{LaidOut}
-use Rattle.edition.specs.Edition.{ownId}
+use Rattle.edition.specs.Edition.{ownId, DistinctIds}
 use Rattle.table.specs.declared.Control.{Control}
 use Rattle.table.specs.Controls.{mostControls}
 use Rattle.table.specs.Meaning.{Same}
@@ -33,9 +32,6 @@ pub record Rule15 (ds : List (List ℕ)) (cluster : ℕ → Cluster) : Type 0 wh
   pub listed : List Control
   pub few : length listed ≤ mostControls
   pub every : (x : Control) → Stands ds cluster x → x ∈ listed
-
-abbrev pub DistinctIds : (List ℕ → ℕ) → List (List ℕ) → Type 0
-DistinctIds own ds = (x : List (List ℕ)) (a : List ℕ) (y : List (List ℕ)) (b : List ℕ) → ds ≡ x ++ a ∷ y → b ∈ y → own a ≡ own b → ⊥
 
 pub pairs-fit : {A : Type 0} {l : List A} (m : List A) → Pairs (λ a b. a ≡ b → ⊥) l
     → ((a : A) → List·Memᴰ a l → List·Memᴰ a m) → length l ≤ length m
@@ -57,12 +53,12 @@ pairs-fit {A} m (more {a} {l} apart p) h =
         (λ i. ⊎-elim (λ e. absurd (n (sym e))) (λ r. Memᴰ·append-right (k .0) r) (List·Memᴰ·cases-cons i))
         (List·Memᴰ·append-cases (k .0) j)
 
-pub before-other : (ds : List (List ℕ)) → DistinctIds ownId ds → (a b : Control) → Before ds a b → Same a b → ⊥
+pub before-other : (ds : List (List ℕ)) → DistinctIds ds → (a b : Control) → Before ds a b → Same a b → ⊥
 before-other ds h a b (inl e) s = h (e .before) (e .one) (e .behind) (e .other) (e .split) (e .among) (e .first ∙ s .unit ∙ sym (e .second))
 before-other ds h a b (inr (u, inl l)) s = let c = s .channel in omega arith
 before-other ds h a b (inr (u, inr (k, l))) s = let c = s .selector in omega arith
 
-module _ (ds : List (List ℕ)) (cluster : ℕ → Cluster) (laid : (d : List ℕ) → d ∈ ds → LaidOut d) (distinct : DistinctIds ownId ds) where
+module _ (ds : List (List ℕ)) (cluster : ℕ → Cluster) (laid : (d : List ℕ) → d ∈ ds → LaidOut d) (distinct : DistinctIds ds) where
   pub controls-apart : Pairs (λ a b. a ≡ b → ⊥) (controlsOf ds cluster)
   controls-apart =
       pairs-as (λ a. Control) (Before ds) (λ a b. a ≡ b → ⊥)

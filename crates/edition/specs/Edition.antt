@@ -6,11 +6,12 @@
 --                       a cluster is; givesOut d cs: what d gives out where the clusters cs enter, pin by pin; Keeps d cs: the rule
 --                       that d must keep then (rule 13), and keeps d cs, the test that decides it (reads)
 --   ownId d         ==  byte 3, the ID that the entity bears
---   clustersOn c ds ==  the clusters c on the IDs of the descriptors ds, in their order
+--   DistinctIds ds  ==  no two of the descriptors ds bear the same ID
 --   sources ed d    ==  its source IDs, in the order of its pins
 use Prim.Native.Nat.{ℕ, _+_, _≤_}
+use mathlib.Core.Path.{_≡_}
 use mathlib.Core.Bool.{Bool}
-use mathlib.Core.List.{List, map}
+use mathlib.Core.List.{List, _∷_, _++_, List·Memᴰ}
 use lib.ListN.{length, take, drop}
 use Rattle.ground.specs.Numbers.{byte}
 use Rattle.ground.specs.Pick.{Reads}
@@ -30,8 +31,8 @@ pub record Edition : Type 1 where
 abbrev pub ownId : List ℕ → ℕ
 ownId d = byte d 3
 
-abbrev pub clustersOn : {C : Type 0} → (ℕ → C) → List (List ℕ) → List C
-clustersOn cluster ds = map (λ d. cluster (ownId d)) ds
+abbrev pub DistinctIds : List (List ℕ) → Type 0
+DistinctIds ds = (x : List (List ℕ)) (d : List ℕ) (y : List (List ℕ)) (e : List ℕ) → ds ≡ x ++ d ∷ y → List·Memᴰ e y → ownId d ≡ ownId e → ⊥
 
 abbrev pub sources : Edition → List ℕ → List ℕ
 sources ed d = take (ed .pins d) (drop (ed .first d) d)

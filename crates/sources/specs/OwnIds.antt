@@ -1,5 +1,4 @@
 -- Where rule 10 is kept, an ID is its entity's own: "ID zero or borne by an earlier entity" is so of none (document 01).
---   DistinctIds f l  ==  no two elements of the list l have the same number by f
 --   earlier          ==  a descriptor of a lower index is among those before
 --   own-ids          ==  two indices at which the same ID is borne are one
 --   distinct-ids     ==  so no two descriptors of the run bear the same ID
@@ -17,11 +16,8 @@ use Rattle.ground.specs.Lists.{split-of, of-split, member-at, member-index}
 use Rattle.ground.specs.First.{Sound}
 use Rattle.ground.specs.Indexed.{sound-index}
 use Rattle.graph.specs.Members.{_∈_}
-use Rattle.edition.specs.Edition.{ownId}
+use Rattle.edition.specs.Edition.{ownId, DistinctIds}
 use Rattle.sources.specs.Rules.{WrongId, Rule10}
-
-abbrev pub DistinctIds : {A : Type 0} → (A → ℕ) → List A → Type 0
-DistinctIds {A} f l = (x : List A) (a : A) (y : List A) (b : A) → l ≡ x ++ a ∷ y → b ∈ y → f a ≡ f b → ⊥
 
 pub earlier : (ds : List (List ℕ)) (i j : ℕ) → j < i → i ≤ length ds → getD ds j [] ∈ take i ds
 earlier ds i j h l =
@@ -41,7 +37,7 @@ module _ (ds : List (List ℕ)) (rule : Rule10 ds) where
       (λ (n : i < j → ⊥). ⊎-elim (λ (h : j < i). absurd (not-before j i h l (sym e))) (λ (o : j < i → ⊥). let q : i ≡ j = omega arith in q) (decided (ltb j i) (reads-lt j i)))
       (decided (ltb i j) (reads-lt i j))
 
-  pub distinct-ids : DistinctIds ownId ds
+  pub distinct-ids : DistinctIds ds
   unfolding Sound
   distinct-ids x a y b e m q =
       let k = split-of m in
