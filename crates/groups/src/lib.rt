@@ -303,13 +303,6 @@ fn frame_from(config: &[u8], control: usize) -> Frame
     }
 }
 
-// Where the AudioControl group's parts stand; where there is none, at the end of the configuration.
-pub fn frame_of(config: &[u8]) -> Frame
-    ensures { λ r. ⌜ r ≡ frameOf (now (config .entry)) ⌝ }
-{
-    frame_from(config, place_of(config, 0, Want::Audio(1)))
-}
-
 // Whether a descriptor opens as the header does.
 fn opens_header(h: &[u8]) -> bool
     ensures { λ r. ⌜ r ≡ opens (now (h .entry)) ⌝ }
@@ -518,12 +511,4 @@ pub fn framed(config: &[u8]) -> Framing
     }
     let frame = frame_from(config, interfaces.control);
     with_frame(judge_group(config, frame), frame)
-}
-
-// The lowest number of the rules 1 to 7 that a configuration breaks, with its place; 0 and 0 where it keeps them.
-pub fn judge(config: &[u8]) -> Refusal
-    ensures { λ r. ⌜ r ≡ judged (now (config .entry)) none ⌝ }
-{
-    let framing = framed(config);
-    framing.refusal
 }
