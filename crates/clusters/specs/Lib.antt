@@ -2,3 +2,4 @@ pub mod Rules
 pub mod Sweep
 pub mod SweepLaws
 pub mod Topology
+pub mod Collection

@@ -8,22 +8,29 @@
 --   shown-rows              ==  .. which is: all sixteen rules are kept
 --   clusters-on, controls-on  ==  what the reader has at an entity's index is the cluster on its ID; its controls are those of the descriptors
 --   reads-room              ==  the test of room decides rule 16
+--   first-by-place          ==  the first offender's place is the lowest of all offenders' places
 --   accepted-exactly, refused-exactly  ==  THE THEOREMS, for every configuration and every room
-use Prim.Native.Nat.{ℕ, _*_, _<_}
+use Prim.Native.Nat.{ℕ, _+_, _*_, _≤_, _<_}
 use mathlib.Core.Path.{_≡_, refl, sym, ap, _∙_}
 use mathlib.Core.List.{List, []}
-use mathlib.Core.Logic.{_↔_}
-use lib.ListN.{length, getD}
+use mathlib.Core.Logic.{⊎-elim, _↔_}
+use lib.ListN.{length, getD, take}
+use lib.Dec.{eqb, ltb}
 use native.Mathlib.Omega.{arith}
 use Rattle.ground.specs.declared.Refusal.{Refusal}
 use Rattle.ground.specs.Refuse.{none, keptAt}
 use Rattle.ground.specs.Rows.{Rows, end, row, AllKept, FirstBroken, Numbered, Answers, Decides, kept-decides, answers-kept, answers-broken}
-use Rattle.ground.specs.Pick.{Reads, reads-le}
+use Rattle.ground.specs.Pick.{Reads, decided, reads-eq, reads-lt, reads-le}
+use Rattle.ground.specs.Lists.{total}
+use Rattle.ground.specs.First.{Breaks}
+use Rattle.ground.specs.Places.{FirstPlace}
 use Rattle.layout.specs.declared.Cluster.{Cluster}
 use Rattle.layout.specs.Layout.{noCluster}
 use Rattle.edition.specs.Edition.{ownId}
 use Rattle.edition.specs.Audio.{audio}
-use Rattle.entities.specs.Run.{held}
+use Rattle.entities.specs.Run.{held, placeAt}
+use Rattle.entities.specs.Represents.{Represents}
+use Rattle.entities.specs.RepresentsLaws.{breaks-of, places-rise}
 use Rattle.cutting.specs.declared.Survey.{Survey}
 use Rattle.cutting.specs.Rules.{headerPlace, Kept, BrokenAt, cuttingRows}
 use Rattle.cutting.specs.Survey.{surveyOf}
@@ -45,7 +52,7 @@ use Rattle.controls.specs.Rule.{rule15-kept, rule15-broken}
 use Rattle.controls.specs.Reader.{controls-same}
 use Rattle.records.specs.Records.{recordSize, roomFor}
 use Rattle.topology.specs.Reading.{clustersAt, tableFor, restJudged, surveyJudged, judgedThen, roomJudged, verdictOf}
-use Rattle.demands.specs.Surveyed.{placeOfRun, entitiesOf, keptSurvey, survey-kept, represented}
+use Rattle.demands.specs.Surveyed.{placeOfRun, entitiesOf, keptSurvey, survey-kept, run-cut, represented}
 use Rattle.demands.specs.Configuration.{runOf, Streams, FewControls, Configuration, Rule16}
 
 module _ {s : List ℕ} (k : Kept s) where
@@ -128,6 +135,30 @@ module _ (s : List ℕ) (k : Kept s) where
       ),
     ),
   )
+
+-- document 01 has the first offender's place: the first in the run has the lowest
+module _ (s : List ℕ) (k : Kept s) where
+  pub first-by-place : (Wrong : List (List ℕ) → List ℕ → Type 0) (p : ℕ) → Breaks Wrong (placeOfRun k) (runOf k) p
+      → (i : ℕ) → i < length (runOf k) → Wrong (take i (runOf k)) (getD (runOf k) i []) → p ≤ placeOfRun k + total (take i (runOf k))
+  first-by-place Wrong p b i l w =
+      rw (← (r .place i l))
+      (⊎-elim
+      (λ (h : i < f .offender). absurd (f .none-before i h w))
+      (λ (h : i < f .offender → ⊥). ⊎-elim (λ (e : f .offender ≡ i). let a = f .at in rw (← e) (omega arith)) (λ (n : f .offender ≡ i → ⊥). later (omega arith)) (decided (eqb (f .offender) i) (reads-eq (f .offender) i)))
+      (decided (ltb i (f .offender)) (reads-lt i (f .offender))))
+    where
+      r : Represents audio s (placeOfRun k) (runOf k) (entitiesOf k)
+      r = represented s k
+
+      f : FirstPlace (held (entitiesOf k)) (placeAt (entitiesOf k)) (λ j. Wrong (take j (runOf k)) (getD (runOf k) j [])) p
+      f = breaks-of (represented s k) Wrong p .1 b
+
+      later : f .offender < i → p ≤ placeAt (entitiesOf k) i
+      later h =
+          let n = represented s k .counted in
+          let q = places-rise (represented s k) (λ d m. let z = run-cut s k d m .two in omega arith) (f .offender) i h (omega arith) in
+          let a = f .at in
+          omega arith
 
 module _ (s : List ℕ) (room : ℕ) where
   answers : Answers (tableOfRows s room) (verdictOf s room)
