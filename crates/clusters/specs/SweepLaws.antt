@@ -53,10 +53,10 @@ module _ (f g : ℕ → Cluster) (same : (x : ℕ) → f x .channels ≡ g x .ch
   keeps-same Unknown l ids = refl
   keeps-same (Input i t c) l ids = refl
   keeps-same (Output i t s) l ids = refl
-  keeps-same (Mixer i p c b) l ids = rw (in-channels ids)
+  keeps-same (Mixer i p c) l ids = rw (in-channels ids)
   keeps-same (Selector i p) l ids = rw (first-channels ids) (alike-channels _ ids)
   keeps-same (Printed i p) l ids = rw (first-channels ids) (alike-channels _ ids)
-  keeps-same (Feature i s n b) l ids = rw (first-channels ids)
+  keeps-same (Feature i s n) l ids = rw (first-channels ids)
 
 pub keeps-channels : (s : List ℕ) (n : Node) (channels locations names : List ℕ)
     → keepsBy s n (channelsOn channels) ≡ keepsBy s n (clusterBy channels locations names)

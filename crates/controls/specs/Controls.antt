@@ -82,10 +82,10 @@ unfoldable pub entityControls : Entity → List ℕ → ℕ → List Control
 entityControls Unknown d c = []
 entityControls (Input i t own) d c = []
 entityControls (Output i t s) d c = []
-entityControls (Mixer i p own l) d c = []
+entityControls (Mixer i p own) d c = []
 entityControls (Selector i p) d c = selectorControl i p ∷ []
 entityControls (Printed i p) d c = selectorControl i p ∷ []
-entityControls (Feature i s n l) d c = featureControls i n c d
+entityControls (Feature i s n) d c = featureControls i n c d
 
 unfoldable pub controlsOf : List (List ℕ) → (ℕ → Cluster) → List Control
 controlsOf [] cluster = []

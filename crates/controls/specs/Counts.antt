@@ -48,7 +48,7 @@ unfolding entityControls featureControls
 entity-few Unknown d c = omega arith
 entity-few (Input i t own) d c = omega arith
 entity-few (Output i t s) d c = omega arith
-entity-few (Mixer i p own l) d c = omega arith
+entity-few (Mixer i p own) d c = omega arith
 entity-few (Selector i p) d c = omega arith
 entity-few (Printed i p) d c = omega arith
-entity-few (Feature i s n l) d c = let h = channels-few (suc c) 0 i n d in omega arith
+entity-few (Feature i s n) d c = let h = channels-few (suc c) 0 i n d in omega arith

@@ -111,10 +111,10 @@ unfolding entityControls featureControls
 entity-pairs Unknown d c = none
 entity-pairs (Input i t own) d c = none
 entity-pairs (Output i t s) d c = none
-entity-pairs (Mixer i p own l) d c = none
+entity-pairs (Mixer i p own) d c = none
 entity-pairs (Selector i p) d c = more (λ x m. absurd (List·Memᴰ·not-nil m)) none
 entity-pairs (Printed i p) d c = more (λ x m. absurd (List·Memᴰ·not-nil m)) none
-entity-pairs (Feature i s n l) d c = channels-pairs i n d (suc c) 0
+entity-pairs (Feature i s n) d c = channels-pairs i n d (suc c) 0
 
 -- the unit is the entity's ID
 carried-unit : {d : List ℕ} {c : ℕ} {x : Control} → Carries d c x → x .unit ≡ byte d 3

@@ -52,10 +52,10 @@ unfolding giveOut Keeps
 few-out Unknown l cs k h = h
 few-out (Input i t own) l cs k h = k .channels .1
 few-out (Output i t s) l cs k h = h
-few-out (Mixer i p own b) l cs k h = k .0 .channels .1
+few-out (Mixer i p own) l cs k h = k .0 .channels .1
 few-out (Selector i p) l cs k h = h
 few-out (Printed i p) l cs k h = h
-few-out (Feature i s n b) l cs k h = h
+few-out (Feature i s n) l cs k h = h
 
 few-first : (l : List ℕ) (cluster : ℕ → Cluster) → ((b : ℕ) → b ∈ l → cluster b .channels ≤ mostChannels) → firstOf (map cluster l) .channels ≤ mostChannels
 unfolding firstOf

@@ -42,10 +42,10 @@ unfoldable pub giveOut : Entity → List Cluster → Cluster
 giveOut Unknown cs = firstOf cs
 giveOut (Input i t c) cs = c
 giveOut (Output i t s) cs = firstOf cs
-giveOut (Mixer i p c l) cs = c
+giveOut (Mixer i p c) cs = c
 giveOut (Selector i p) cs = firstOf cs
 giveOut (Printed i p) cs = firstOf cs
-giveOut (Feature i s n l) cs = firstOf cs
+giveOut (Feature i s n) cs = firstOf cs
 
 abbrev pub controlBytes : ℕ → ℕ
 controlBytes m = (m + 7) / 8
@@ -70,10 +70,10 @@ unfoldable pub Keeps : Entity → ℕ → List Cluster → Type 0
 Keeps Unknown l cs = Unit {0}
 Keeps (Input i t c) l cs = ClusterKept c
 Keeps (Output i t s) l cs = Unit {0}
-Keeps (Mixer i p c b) l cs = ClusterKept c × (l ≡ mixerLength p (c .channels) (channelsIn cs))
+Keeps (Mixer i p c) l cs = ClusterKept c × (l ≡ mixerLength p (c .channels) (channelsIn cs))
 Keeps (Selector i p) l cs = Alike cs
 Keeps (Printed i p) l cs = Alike cs
-Keeps (Feature i s n b) l cs = l ≡ featureLength (firstOf cs .channels) n
+Keeps (Feature i s n) l cs = l ≡ featureLength (firstOf cs .channels) n
 
 -- what the reader computes
 unfoldable pub alike : ℕ → List Cluster → Bool
@@ -92,10 +92,10 @@ unfoldable pub keeps : Entity → ℕ → List Cluster → Bool
 keeps Unknown l cs = true
 keeps (Input i t c) l cs = clusterKept c
 keeps (Output i t s) l cs = true
-keeps (Mixer i p c b) l cs = mixerKept p c l cs
+keeps (Mixer i p c) l cs = mixerKept p c l cs
 keeps (Selector i p) l cs = alikeIn cs
 keeps (Printed i p) l cs = alikeIn cs
-keeps (Feature i s n b) l cs = featureKept n l cs
+keeps (Feature i s n) l cs = featureKept n l cs
 
 reads-alike : (cs : List Cluster) → Reads (alikeIn cs) (Alike cs)
 unfolding alikeIn alike
@@ -106,10 +106,10 @@ unfolding keeps Keeps mixerKept featureKept
 reads-keeps Unknown l cs = record { says = λ e. tt; denies = λ e. absurd (true≠false e) }
 reads-keeps (Input i t c) l cs = reads-cluster c
 reads-keeps (Output i t s) l cs = record { says = λ e. tt; denies = λ e. absurd (true≠false e) }
-reads-keeps (Mixer i p c b) l cs = reads-and _ _ (reads-cluster c) (reads-eq l (mixerLength p (c .channels) (channelsIn cs)))
+reads-keeps (Mixer i p c) l cs = reads-and _ _ (reads-cluster c) (reads-eq l (mixerLength p (c .channels) (channelsIn cs)))
 reads-keeps (Selector i p) l cs = reads-alike cs
 reads-keeps (Printed i p) l cs = reads-alike cs
-reads-keeps (Feature i s n b) l cs = reads-eq l (featureLength (firstOf cs .channels) n)
+reads-keeps (Feature i s n) l cs = reads-eq l (featureLength (firstOf cs .channels) n)
 
 abbrev pub audio : Edition
 audio = record {

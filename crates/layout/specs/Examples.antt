@@ -78,7 +78,7 @@ pub input-case : entityOf inputA ≡ Input 1 513 (record { channels = 1; locatio
 unfolding entityOf
 input-case = refl
 
-pub feature-case : entityOf featureA ≡ Feature 2 1 1 9
+pub feature-case : entityOf featureA ≡ Feature 2 1 1
 unfolding entityOf
 feature-case = refl
 

@@ -4,7 +4,7 @@
 --   noCluster                ==  a cluster of no channels, all zeros: what stands where none was given out
 --   declared c l m           ==  the cluster that fields declare
 --   clusterAt d k            ==  the cluster declared at offsets k..k+3: channels, locations (2), name index
---   entityIn L o             ==  the enum case of the fields o, in a descriptor whose byte 0 is L; Unknown where there are no fields
+--   entityIn o               ==  the enum case of the fields o; Unknown where there are no fields
 --   entityBy ks d            ==  that of the fields of d by one of the layouts ks, whatever byte 2 is
 --   inputOf d, outputOf d, mixerOf d, selectorOf d, featureOf d ==  the same by the layouts of the kind in the name
 --   entityOf d               ==  what the reader makes of d: by the layouts whose number is byte 2
@@ -40,17 +40,17 @@ declared c l m = record { channels = c; locations = wordOf l; names = m }
 abbrev pub clusterAt : List ℕ → ℕ → Cluster
 clusterAt d k = record { channels = byte d k; locations = word d (k + 1); names = byte d (k + 3) }
 
-abbrev pub entityIn : ℕ → Option Fields → Entity
-entityIn L none = Unknown
-entityIn L (some (fields.input i t a c l m n)) = Input i (wordOf t) (declared c l m)
-entityIn L (some (fields.output i t a s n)) = Output i (wordOf t) s
-entityIn L (some (fields.mixer i s c l m k n)) = Mixer i (length s) (declared c l m) L
-entityIn L (some (fields.selector i s n)) = Selector i (length s)
-entityIn L (some (fields.printed i s n)) = Printed i (length s)
-entityIn L (some (fields.feature i s z k n)) = Feature i s z L
+abbrev pub entityIn : Option Fields → Entity
+entityIn none = Unknown
+entityIn (some (fields.input i t a c l m n)) = Input i (wordOf t) (declared c l m)
+entityIn (some (fields.output i t a s n)) = Output i (wordOf t) s
+entityIn (some (fields.mixer i s c l m k n)) = Mixer i (length s) (declared c l m)
+entityIn (some (fields.selector i s n)) = Selector i (length s)
+entityIn (some (fields.printed i s n)) = Printed i (length s)
+entityIn (some (fields.feature i s z k n)) = Feature i s z
 
 abbrev pub entityBy : List Kind → List ℕ → Entity
-entityBy ks d = entityIn (byte d 0) (fieldsBy ks d)
+entityBy ks d = entityIn (fieldsBy ks d)
 
 unfoldable pub inputOf : List ℕ → Entity
 inputOf d = entityBy (kindsOf (numberOf kind.input)) d
@@ -68,16 +68,16 @@ unfoldable pub featureOf : List ℕ → Entity
 featureOf d = entityBy (kindsOf (numberOf kind.feature)) d
 
 unfoldable pub entityOf : List ℕ → Entity
-entityOf d = entityIn (byte d 0) (fieldsOf d)
+entityOf d = entityIn (fieldsOf d)
 
 abbrev pub layoutOf : Entity → Option Kind
 layoutOf Unknown = none
 layoutOf (Input i t c) = some kind.input
 layoutOf (Output i t s) = some kind.output
-layoutOf (Mixer i p c l) = some kind.mixer
+layoutOf (Mixer i p c) = some kind.mixer
 layoutOf (Selector i p) = some kind.selector
 layoutOf (Printed i p) = some kind.printed
-layoutOf (Feature i s n l) = some kind.feature
+layoutOf (Feature i s n) = some kind.feature
 
 abbrev pub printedKind : ℕ
 printedKind = 0x15
@@ -98,25 +98,25 @@ unfoldable pub idOf : Entity → ℕ
 idOf Unknown = 0
 idOf (Input i t c) = i
 idOf (Output i t s) = i
-idOf (Mixer i p c l) = i
+idOf (Mixer i p c) = i
 idOf (Selector i p) = i
 idOf (Printed i p) = i
-idOf (Feature i s n l) = i
+idOf (Feature i s n) = i
 
 unfoldable pub isUnknown : Entity → Bool
 isUnknown Unknown = true
 isUnknown (Input i t c) = false
 isUnknown (Output i t s) = false
-isUnknown (Mixer i p c l) = false
+isUnknown (Mixer i p c) = false
 isUnknown (Selector i p) = false
 isUnknown (Printed i p) = false
-isUnknown (Feature i s n l) = false
+isUnknown (Feature i s n) = false
 
 unfoldable pub layoutNumber : Entity → ℕ
 layoutNumber Unknown = 9
 layoutNumber (Input i t c) = 0
 layoutNumber (Output i t s) = 0
-layoutNumber (Mixer i p c l) = 0
+layoutNumber (Mixer i p c) = 0
 layoutNumber (Selector i p) = 0
 layoutNumber (Printed i p) = 0
-layoutNumber (Feature i s n l) = 0
+layoutNumber (Feature i s n) = 0

@@ -69,11 +69,11 @@ module _ (d : List ℕ) where
 
   -- ---- a kind's own reader
 
-  right : {P : Type 0} (k : Kind) (ks : List Kind) → Reads (fits (formatOf k) d 3) P → P → entityBy (k ∷ ks) d ≡ entityIn (byte d 0) (some (fieldsAt k (valueAt (formatOf k) d 3)))
-  right k ks r h = ap (entityIn (byte d 0)) (yes _ _ (shows r h))
+  right : {P : Type 0} (k : Kind) (ks : List Kind) → Reads (fits (formatOf k) d 3) P → P → entityBy (k ∷ ks) d ≡ entityIn (some (fieldsAt k (valueAt (formatOf k) d 3)))
+  right k ks r h = ap (entityIn) (yes _ _ (shows r h))
 
   wrong : {P : Type 0} (k : Kind) (ks : List Kind) → Reads (fits (formatOf k) d 3) P → (P → ⊥) → entityBy (k ∷ ks) d ≡ entityBy ks d
-  wrong k ks r n = ap (entityIn (byte d 0)) (no _ _ (refutes r n))
+  wrong k ks r n = ap (entityIn) (no _ _ (refutes r n))
 
   pub input-right : length d ≡ 12 → inputOf d ≡ Input (byte d 3) (word d 4) (clusterAt d 7)
   unfolding inputOf
@@ -91,7 +91,7 @@ module _ (d : List ℕ) where
   unfolding outputOf
   output-wrong n = wrong kind.output [] output-fits n
 
-  pub mixer-right : Pins p → 10 + p ≤ length d → mixerOf d ≡ Mixer (byte d 3) p (clusterAt d (5 + p)) (byte d 0)
+  pub mixer-right : Pins p → 10 + p ≤ length d → mixerOf d ≡ Mixer (byte d 3) p (clusterAt d (5 + p))
   unfolding mixerOf
   mixer-right q l =
       let s : length (take p (drop 5 d)) ≡ p = stretch-length d 5 p (omega arith) in
@@ -119,7 +119,7 @@ module _ (d : List ℕ) where
   selector-wrong n m =
       wrong kind.selector (kind.printed ∷ []) selector-fits (λ h. n (h .0) (h .1)) ∙ wrong kind.printed [] printed-fits (λ h. m (h .0) (h .1 .1) (h .1 .0))
 
-  pub feature-right : (1 ≤ byte d 5) × (byte d 5 ≤ 4) → 7 ≤ length d → featureOf d ≡ Feature (byte d 3) (byte d 4) (byte d 5) (byte d 0)
+  pub feature-right : (1 ≤ byte d 5) × (byte d 5 ≤ 4) → 7 ≤ length d → featureOf d ≡ Feature (byte d 3) (byte d 4) (byte d 5)
   unfolding featureOf
   feature-right q l = right kind.feature [] feature-fits (q, l)
 
@@ -166,7 +166,7 @@ module _ (d : List ℕ) where
   pub entity-output : byte d 2 ≡ 3 → length d ≡ 9 → entityOf d ≡ Output (byte d 3) (word d 4) (byte d 7)
   entity-output k l = kind-output k ∙ output-right l
 
-  pub entity-mixer : byte d 2 ≡ 4 → Pins p → 10 + p ≤ length d → entityOf d ≡ Mixer (byte d 3) p (clusterAt d (5 + p)) (byte d 0)
+  pub entity-mixer : byte d 2 ≡ 4 → Pins p → 10 + p ≤ length d → entityOf d ≡ Mixer (byte d 3) p (clusterAt d (5 + p))
   entity-mixer k q l = kind-mixer k ∙ mixer-right q l
 
   pub entity-selector : byte d 2 ≡ 5 → Pins p → length d ≡ 6 + p → entityOf d ≡ Selector (byte d 3) p
@@ -175,14 +175,14 @@ module _ (d : List ℕ) where
   pub entity-printed : byte d 2 ≡ 5 → Pins p → length d ≡ 7 + p → byte d 5 ≡ 0 → entityOf d ≡ Printed (byte d 3) p
   entity-printed k q l z = kind-selector k ∙ printed-right q l z
 
-  pub entity-feature : byte d 2 ≡ 6 → (1 ≤ byte d 5) × (byte d 5 ≤ 4) → 7 ≤ length d → entityOf d ≡ Feature (byte d 3) (byte d 4) (byte d 5) (byte d 0)
+  pub entity-feature : byte d 2 ≡ 6 → (1 ≤ byte d 5) × (byte d 5 ≤ 4) → 7 ≤ length d → entityOf d ≡ Feature (byte d 3) (byte d 4) (byte d 5)
   entity-feature k q l = kind-feature k ∙ feature-right q l
 
   pub entity-unknown : (LaidOut d → ⊥) → entityOf d ≡ Unknown
   unfolding entityOf
   entity-unknown n = go (fieldsOf d) refl
     where
-      go : (o : Option Fields) → fieldsOf d ≡ o → entityIn (byte d 0) o ≡ Unknown
+      go : (o : Option Fields) → fieldsOf d ≡ o → entityIn o ≡ Unknown
       go none e = refl
       go (some f) e = absurd (n (laid-fields d f e))
 
@@ -199,10 +199,10 @@ pub data Told (d : List ℕ) : Entity → Type 0 where
   unknown : (LaidOut d → ⊥) → Told d Unknown
   input : byte d 2 ≡ 2 → length d ≡ 12 → Told d (Input (byte d 3) (word d 4) (clusterAt d 7))
   output : byte d 2 ≡ 3 → length d ≡ 9 → Told d (Output (byte d 3) (word d 4) (byte d 7))
-  mixer : byte d 2 ≡ 4 → Pins (byte d 4) → 10 + byte d 4 ≤ length d → Told d (Mixer (byte d 3) (byte d 4) (clusterAt d (5 + byte d 4)) (byte d 0))
+  mixer : byte d 2 ≡ 4 → Pins (byte d 4) → 10 + byte d 4 ≤ length d → Told d (Mixer (byte d 3) (byte d 4) (clusterAt d (5 + byte d 4)))
   selector : byte d 2 ≡ 5 → Pins (byte d 4) → length d ≡ 6 + byte d 4 → Told d (Selector (byte d 3) (byte d 4))
   printed : byte d 2 ≡ 5 → Pins (byte d 4) → length d ≡ 7 + byte d 4 → byte d 5 ≡ 0 → Told d (Printed (byte d 3) (byte d 4))
-  feature : byte d 2 ≡ 6 → (1 ≤ byte d 5) × (byte d 5 ≤ 4) → 7 ≤ length d → Told d (Feature (byte d 3) (byte d 4) (byte d 5) (byte d 0))
+  feature : byte d 2 ≡ 6 → (1 ≤ byte d 5) × (byte d 5 ≤ 4) → 7 ≤ length d → Told d (Feature (byte d 3) (byte d 4) (byte d 5))
 
 -- THE LAWS: what the reader computes is told by the layouts, and nothing else is
 pub told : (d : List ℕ) → Told d (entityOf d)
@@ -233,7 +233,7 @@ pub reads-unknown : (d : List ℕ) → Reads (isUnknown (entityOf d)) (LaidOut d
 unfolding isUnknown entityOf
 reads-unknown d = go (fieldsOf d) refl
   where
-    known : (f : Fields) → isUnknown (entityIn (byte d 0) (some f)) ≡ false
+    known : (f : Fields) → isUnknown (entityIn (some f)) ≡ false
     known (fields.input i t a c l m n) = refl
     known (fields.output i t a s n) = refl
     known (fields.mixer i s c l m k n) = refl
@@ -241,7 +241,7 @@ reads-unknown d = go (fieldsOf d) refl
     known (fields.printed i s n) = refl
     known (fields.feature i s z k n) = refl
 
-    go : (o : Option Fields) → fieldsOf d ≡ o → Reads (isUnknown (entityIn (byte d 0) o)) (LaidOut d → ⊥)
+    go : (o : Option Fields) → fieldsOf d ≡ o → Reads (isUnknown (entityIn o)) (LaidOut d → ⊥)
     go none e = record { says = λ t l. none-some (sym e ∙ laid-only d l); denies = λ t. absurd (true≠false t) }
     go (some f) e = record { says = λ t. absurd (true≠false (sym t ∙ known f)); denies = λ t n. n (laid-fields d f e) }
 
@@ -251,10 +251,10 @@ unfolding layoutNumber isUnknown
 number-unknown Unknown = refl
 number-unknown (Input i t c) = refl
 number-unknown (Output i t s) = refl
-number-unknown (Mixer i p c l) = refl
+number-unknown (Mixer i p c) = refl
 number-unknown (Selector i p) = refl
 number-unknown (Printed i p) = refl
-number-unknown (Feature i s n l) = refl
+number-unknown (Feature i s n) = refl
 
 pub layout-number : (d : List ℕ) → (layoutNumber (entityOf d) ≡ 9) ↔ (LaidOut d → ⊥)
 layout-number d = (of (isUnknown (entityOf d)) refl, λ n. number-unknown (entityOf d) ∙ yes _ _ (shows (reads-unknown d) n))

@@ -18,10 +18,10 @@ unfoldable pub pinsOf : Entity → ℕ
 pinsOf Unknown = 0
 pinsOf (Input i t c) = 0
 pinsOf (Output i t s) = 1
-pinsOf (Mixer i p c l) = p
+pinsOf (Mixer i p c) = p
 pinsOf (Selector i p) = p
 pinsOf (Printed i p) = p
-pinsOf (Feature i s n l) = 1
+pinsOf (Feature i s n) = 1
 
 abbrev pub begins : Option Kind → ℕ
 begins none = 0
@@ -37,7 +37,7 @@ unfoldable pub feedsOf : Entity → Bool
 feedsOf Unknown = false
 feedsOf (Input i t c) = true
 feedsOf (Output i t s) = false
-feedsOf (Mixer i p c l) = true
+feedsOf (Mixer i p c) = true
 feedsOf (Selector i p) = true
 feedsOf (Printed i p) = true
-feedsOf (Feature i s n l) = true
+feedsOf (Feature i s n) = true

@@ -29,38 +29,38 @@ unfolding sourcesFrom
 sources-from-low Unknown = omega arith
 sources-from-low (Input i t c) = omega arith
 sources-from-low (Output i t s) = omega arith
-sources-from-low (Mixer i p c l) = omega arith
+sources-from-low (Mixer i p c) = omega arith
 sources-from-low (Selector i p) = omega arith
 sources-from-low (Printed i p) = omega arith
-sources-from-low (Feature i s n l) = omega arith
+sources-from-low (Feature i s n) = omega arith
 
 -- the sources of what the fields are, for each layout
-pins-in : (L : ℕ) (f : Fields) → pinsOf (entityIn L (some f)) ≡ length (fedBy f)
+pins-in : (f : Fields) → pinsOf (entityIn (some f)) ≡ length (fedBy f)
 unfolding pinsOf
-pins-in L (fields.input i t a c l m n) = refl
-pins-in L (fields.output i t a s n) = refl
-pins-in L (fields.mixer i s c l m k n) = refl
-pins-in L (fields.selector i s n) = refl
-pins-in L (fields.printed i s n) = refl
-pins-in L (fields.feature i s z k n) = refl
+pins-in (fields.input i t a c l m n) = refl
+pins-in (fields.output i t a s n) = refl
+pins-in (fields.mixer i s c l m k n) = refl
+pins-in (fields.selector i s n) = refl
+pins-in (fields.printed i s n) = refl
+pins-in (fields.feature i s z k n) = refl
 
-from-in : (L : ℕ) (f : Fields) → sourcesFrom (entityIn L (some f)) ≡ fedFrom f
+from-in : (f : Fields) → sourcesFrom (entityIn (some f)) ≡ fedFrom f
 unfolding sourcesFrom
-from-in L (fields.input i t a c l m n) = refl
-from-in L (fields.output i t a s n) = refl
-from-in L (fields.mixer i s c l m k n) = refl
-from-in L (fields.selector i s n) = refl
-from-in L (fields.printed i s n) = refl
-from-in L (fields.feature i s z k n) = refl
+from-in (fields.input i t a c l m n) = refl
+from-in (fields.output i t a s n) = refl
+from-in (fields.mixer i s c l m k n) = refl
+from-in (fields.selector i s n) = refl
+from-in (fields.printed i s n) = refl
+from-in (fields.feature i s z k n) = refl
 
 module _ (d : List ℕ) (f : Fields) (e : fieldsOf d ≡ some f) where
   pub pins-fields : pinsOf (entityOf d) ≡ length (fedBy f)
   unfolding entityOf
-  pins-fields = ap (λ (o : Option Fields). pinsOf (entityIn (byte d 0) o)) e ∙ pins-in (byte d 0) f
+  pins-fields = ap (λ (o : Option Fields). pinsOf (entityIn o)) e ∙ pins-in f
 
   pub from-fields : sourcesFrom (entityOf d) ≡ fedFrom f
   unfolding entityOf
-  from-fields = ap (λ (o : Option Fields). sourcesFrom (entityIn (byte d 0) o)) e ∙ from-in (byte d 0) f
+  from-fields = ap (λ (o : Option Fields). sourcesFrom (entityIn o)) e ∙ from-in f
 
   pub sources-fields : sourceIds d ≡ fedBy f
   sources-fields = rw (pins-fields, from-fields) (sym (fed-standing d f e .part))
@@ -74,8 +74,8 @@ sources-within d = go (fieldsOf d) refl
   where
     go : (o : Option Fields) → fieldsOf d ≡ o → sourcesFrom (entityOf d) + pinsOf (entityOf d) ≤ length d
     go none e =
-        let p : pinsOf (entityOf d) ≡ 0 = ap (λ (o : Option Fields). pinsOf (entityIn (byte d 0) o)) e in
-        let a : sourcesFrom (entityOf d) ≡ 0 = ap (λ (o : Option Fields). sourcesFrom (entityIn (byte d 0) o)) e in
+        let p : pinsOf (entityOf d) ≡ 0 = ap (λ (o : Option Fields). pinsOf (entityIn o)) e in
+        let a : sourcesFrom (entityOf d) ≡ 0 = ap (λ (o : Option Fields). sourcesFrom (entityIn o)) e in
         omega arith
     go (some f) e = fields-within d f e
 

@@ -38,7 +38,6 @@ pub enum Entity {
         id: u8,
         pins: u8,
         cluster: Cluster,
-        length: u8,
     },
     Selector {
         id: u8,
@@ -53,7 +52,6 @@ pub enum Entity {
         id: u8,
         source: u8,
         size: u8,
-        length: u8,
     },
 }
 
@@ -120,7 +118,6 @@ fn read_mixer(d: &[u8]) -> Entity
         id: byte_at(d, 3),
         pins,
         cluster,
-        length: byte_at(d, 0),
     }
 }
 
@@ -166,7 +163,6 @@ fn read_feature(d: &[u8]) -> Entity
         id: byte_at(d, 3),
         source: byte_at(d, 4),
         size,
-        length: byte_at(d, 0),
     }
 }
 

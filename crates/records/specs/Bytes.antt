@@ -37,19 +37,19 @@ pub record RecordBytes (d : List ℕ) (c : Cluster) (b : List ℕ) : Type 0 wher
   pub source : (j : ℕ) → j < length (fedBy (laid .fields)) → byte b (headSize + j) ≡ byte (fedBy (laid .fields)) j
   pub unused : (j : ℕ) → length (fedBy (laid .fields)) ≤ j → j < mostPins → byte b (headSize + j) ≡ 0
 
-kind-in : (L : ℕ) (f : Fields) → kindOf (entityIn L (some f)) ≡ shownAs (some (layoutBy f))
+kind-in : (f : Fields) → kindOf (entityIn (some f)) ≡ shownAs (some (layoutBy f))
 unfolding kindOf
-kind-in L (fields.input i t a c l m n) = refl
-kind-in L (fields.output i t a s n) = refl
-kind-in L (fields.mixer i s c l m k n) = refl
-kind-in L (fields.selector i s n) = refl
-kind-in L (fields.printed i s n) = refl
-kind-in L (fields.feature i s z k n) = refl
+kind-in (fields.input i t a c l m n) = refl
+kind-in (fields.output i t a s n) = refl
+kind-in (fields.mixer i s c l m k n) = refl
+kind-in (fields.selector i s n) = refl
+kind-in (fields.printed i s n) = refl
+kind-in (fields.feature i s z k n) = refl
 
 module _ (d : List ℕ) (c : Cluster) (laid : LaidOut d) where
   shown : kindOf (entityOf d) ≡ shownAs (some (layoutBy (laid .fields)))
   unfolding entityOf
-  shown = ap (λ (o : Option Fields). kindOf (entityIn (byte d 0) o)) (laid-only d laid) ∙ kind-in (byte d 0) (laid .fields)
+  shown = ap (λ (o : Option Fields). kindOf (entityIn o)) (laid-only d laid) ∙ kind-in (laid .fields)
 
   counted : audio .pins d ≡ length (fedBy (laid .fields))
   counted = pins-fields d (laid .fields) (laid-only d laid)

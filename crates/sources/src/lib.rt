@@ -83,13 +83,13 @@ fn find(marks: &[u8; 256], id: u8) -> Found
 }
 
 // Whether a source ID is 0, unknown, or an Output Terminal's; the else of the lookup is the refusal.
-fn wrong_source(marks: &[u8; 256], id: u8) -> bool
-    ensures { λ r. ⌜ r ≡ wrongBy (now (marks .entry)) id ⌝ }
+fn wrong_source(marks: &[u8; 256], source: u8) -> bool
+    ensures { λ r. ⌜ r ≡ wrongBy (now (marks .entry)) source ⌝ }
 {
-    if id == 0 {
+    if source == 0 {
         return true;
     }
-    let Found::Entity(feeds) = find(marks, id) else {
+    let Found::Entity(feeds) = find(marks, source) else {
         return true;
     };
     !feeds

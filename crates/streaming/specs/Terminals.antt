@@ -34,10 +34,10 @@ unfoldable pub terminalOf : Entity → ℕ → List Terminal
 terminalOf Unknown c = []
 terminalOf (Input i t own) c = record { id = i; kind = t; channels = c } ∷ []
 terminalOf (Output i t s) c = record { id = i; kind = t; channels = c } ∷ []
-terminalOf (Mixer i p own l) c = []
+terminalOf (Mixer i p own) c = []
 terminalOf (Selector i p) c = []
 terminalOf (Printed i p) c = []
-terminalOf (Feature i s n l) c = []
+terminalOf (Feature i s n) c = []
 
 abbrev pub terminalAt : List ℕ → Run → List Cluster → ℕ → List Terminal
 terminalAt s r cs i = terminalOf (entityOf (descriptorAt s r i)) (getD cs i noCluster .channels)

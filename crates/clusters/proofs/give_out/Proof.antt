@@ -23,7 +23,7 @@ module _ (s : List ℕ) (n : Node) (cl : ℕ → Cluster) (d : List ℕ) (p : d 
   unfolding giveOut
   input h = of h
 
-  mixer : {i p l : ℕ} {c : Cluster} → e ≡ Mixer i p c l → c ≡ givesBy s n cl
+  mixer : {i p : ℕ} {c : Cluster} → e ≡ Mixer i p c → c ≡ givesBy s n cl
   unfolding giveOut
   mixer h = of h
 
@@ -48,7 +48,7 @@ module _ (s : List ℕ) (n : Node) (cl : ℕ → Cluster) (d : List ℕ) (p : d 
     unfolding giveOut
     printed h = first ∙ of h
 
-    feature : {i s′ k l : ℕ} → e ≡ Feature i s′ k l → f ≡ givesBy s n cl
+    feature : {i s′ k : ℕ} → e ≡ Feature i s′ k → f ≡ givesBy s n cl
     unfolding giveOut
     feature h = first ∙ of h
 

@@ -43,7 +43,7 @@ module _ (s : List ℕ) (n : Node) (counts d : List ℕ) (p : d ≡ bytesOf s n)
   unfolding keeps
   output h = of h
 
-  mixer : {i p l : ℕ} {c : Cluster} → e ≡ Mixer i p c l → (b : Bool)
+  mixer : {i p : ℕ} {c : Cluster} → e ≡ Mixer i p c → (b : Bool)
       → b ≡ mixerKept p c (length d) (map (channelsOn counts) ids) → b ≡ keepsBy s n (channelsOn counts)
   unfolding keeps
   mixer h b a = a ∙ of h
@@ -56,7 +56,7 @@ module _ (s : List ℕ) (n : Node) (counts d : List ℕ) (p : d ≡ bytesOf s n)
   unfolding keeps
   printed h b a = a ∙ of h
 
-  feature : {i s′ k l : ℕ} → e ≡ Feature i s′ k l → (b : Bool)
+  feature : {i s′ k : ℕ} → e ≡ Feature i s′ k → (b : Bool)
       → b ≡ featureKept k (length d) (map (channelsOn counts) ids) → b ≡ keepsBy s n (channelsOn counts)
   unfolding keeps
   feature h b a = a ∙ of h

@@ -33,9 +33,9 @@ module _ (t : Table) (d : List ℕ) (c : ℕ) (e : Entity) (read : e ≡ entityO
   unfolding entityControls grown
   at-output i k f h = sym (by-kind (Output i k f) h)
 
-  at-mixer : (i p l : ℕ) (own : Cluster) → e ≡ Mixer i p own l → t ≡ grown t (entityControls (entityOf d) d c)
+  at-mixer : (i p : ℕ) (own : Cluster) → e ≡ Mixer i p own → t ≡ grown t (entityControls (entityOf d) d c)
   unfolding entityControls grown
-  at-mixer i p l own h = sym (by-kind (Mixer i p own l) h)
+  at-mixer i p own h = sym (by-kind (Mixer i p own) h)
 
   module _ (r : Table) where
     at-selector : (i p : ℕ) → e ≡ Selector i p → (x : ℕ) → controlFrom x ≡ selectorControl i p → r ≡ added t (controlFrom x) → r ≡ grown t (entityControls (entityOf d) d c)
@@ -46,9 +46,9 @@ module _ (t : Table) (d : List ℕ) (c : ℕ) (e : Entity) (read : e ≡ entityO
     unfolding entityControls grown
     at-printed i p h x f g = g ∙ ap (added t) f ∙ sym (by-kind (Printed i p) h)
 
-    at-feature : (i f n l : ℕ) → e ≡ Feature i f n l → r ≡ grown t (featureControls i n c d) → r ≡ grown t (entityControls (entityOf d) d c)
+    at-feature : (i f n : ℕ) → e ≡ Feature i f n → r ≡ grown t (featureControls i n c d) → r ≡ grown t (entityControls (entityOf d) d c)
     unfolding entityControls
-    at-feature i f n l h g = g ∙ sym (by-kind (Feature i f n l) h)
+    at-feature i f n h g = g ∙ sym (by-kind (Feature i f n) h)
 
 -- ten at most for each channel, and ten for master
 few : (d : List ℕ) (c : ℕ) → c < 256 → length (entityControls (entityOf d) d c) ≤ 2560

@@ -33,10 +33,10 @@ module _ (b : Place) (h : b ≡ Nowhere) (e : Entity) (at : ℕ) where
       laid-out Unknown o = absurd (run.miss (1 ∷ 2 ∷ 3 ∷ 4 ∷ 5 ∷ 6 ∷ []) 0 tt o)
       laid-out (Input i t c) o = refl
       laid-out (Output i t s) o = refl
-      laid-out (Mixer i p c l) o = refl
+      laid-out (Mixer i p c) o = refl
       laid-out (Selector i p) o = refl
       laid-out (Printed i p) o = refl
-      laid-out (Feature i s n l) o = refl
+      laid-out (Feature i s n) o = refl
 
 ruleset laws = (met, wrong, right, needs)
 

@@ -23,7 +23,7 @@ module _ (e : Entity) where
   unfolding feedsOf
   output h = sym (ap feedsOf h)
 
-  mixer : {i p l : ℕ} {c : Cluster} → e ≡ Mixer i p c l → true ≡ feedsOf e
+  mixer : {i p : ℕ} {c : Cluster} → e ≡ Mixer i p c → true ≡ feedsOf e
   unfolding feedsOf
   mixer h = sym (ap feedsOf h)
 
@@ -35,7 +35,7 @@ module _ (e : Entity) where
   unfolding feedsOf
   printed h = sym (ap feedsOf h)
 
-  feature : {i s n l : ℕ} → e ≡ Feature i s n l → true ≡ feedsOf e
+  feature : {i s n : ℕ} → e ≡ Feature i s n → true ≡ feedsOf e
   unfolding feedsOf
   feature h = sym (ap feedsOf h)
 

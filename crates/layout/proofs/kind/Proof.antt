@@ -22,7 +22,7 @@ module _ (e : Entity) where
   unfolding kindOf
   output h = sym (ap kindOf h)
 
-  mixer : {i p l : ℕ} {c : Cluster} → e ≡ Mixer i p c l → 4 ≡ kindOf e
+  mixer : {i p : ℕ} {c : Cluster} → e ≡ Mixer i p c → 4 ≡ kindOf e
   unfolding kindOf
   mixer h = sym (ap kindOf h)
 
@@ -34,7 +34,7 @@ module _ (e : Entity) where
   unfolding kindOf
   printed h = sym (ap kindOf h)
 
-  feature : {i s n l : ℕ} → e ≡ Feature i s n l → 6 ≡ kindOf e
+  feature : {i s n : ℕ} → e ≡ Feature i s n → 6 ≡ kindOf e
   unfolding kindOf
   feature h = sym (ap kindOf h)
 

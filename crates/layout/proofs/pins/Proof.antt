@@ -22,7 +22,7 @@ module _ (e : Entity) where
   unfolding pinsOf
   output h = sym (ap pinsOf h)
 
-  mixer : {i p l : ℕ} {c : Cluster} → e ≡ Mixer i p c l → p ≡ pinsOf e
+  mixer : {i p : ℕ} {c : Cluster} → e ≡ Mixer i p c → p ≡ pinsOf e
   unfolding pinsOf
   mixer h = sym (ap pinsOf h)
 
@@ -34,7 +34,7 @@ module _ (e : Entity) where
   unfolding pinsOf
   printed h = sym (ap pinsOf h)
 
-  feature : {i s n l : ℕ} → e ≡ Feature i s n l → 1 ≡ pinsOf e
+  feature : {i s n : ℕ} → e ≡ Feature i s n → 1 ≡ pinsOf e
   unfolding pinsOf
   feature h = sym (ap pinsOf h)
 

@@ -22,7 +22,7 @@ module _ (e : Entity) where
   unfolding sourcesFrom
   output h = sym (ap sourcesFrom h)
 
-  mixer : {i p l : ℕ} {c : Cluster} → e ≡ Mixer i p c l → 5 ≡ sourcesFrom e
+  mixer : {i p : ℕ} {c : Cluster} → e ≡ Mixer i p c → 5 ≡ sourcesFrom e
   unfolding sourcesFrom
   mixer h = sym (ap sourcesFrom h)
 
@@ -34,7 +34,7 @@ module _ (e : Entity) where
   unfolding sourcesFrom
   printed h = sym (ap sourcesFrom h)
 
-  feature : {i s n l : ℕ} → e ≡ Feature i s n l → 4 ≡ sourcesFrom e
+  feature : {i s n : ℕ} → e ≡ Feature i s n → 4 ≡ sourcesFrom e
   unfolding sourcesFrom
   feature h = sym (ap sourcesFrom h)
 

@@ -27,9 +27,9 @@ module _ (kinds counts : List ℕ) (c : ℕ) (e : Entity) where
   unfolding terminalOf
   of-output i t s h kinds′ counts′ f = rw h f
 
-  of-mixer : (i p l : ℕ) (k : Cluster) → e ≡ Mixer i p k l → Entered (terminalOf e c) kinds counts kinds counts
+  of-mixer : (i p : ℕ) (k : Cluster) → e ≡ Mixer i p k → Entered (terminalOf e c) kinds counts kinds counts
   unfolding terminalOf
-  of-mixer i p l k h = none (ap (λ (x : Entity). terminalOf x c) h)
+  of-mixer i p k h = none (ap (λ (x : Entity). terminalOf x c) h)
 
   of-selector : (i p : ℕ) → e ≡ Selector i p → Entered (terminalOf e c) kinds counts kinds counts
   unfolding terminalOf
@@ -39,9 +39,9 @@ module _ (kinds counts : List ℕ) (c : ℕ) (e : Entity) where
   unfolding terminalOf
   of-printed i p h = none (ap (λ (x : Entity). terminalOf x c) h)
 
-  of-feature : (i s n l : ℕ) → e ≡ Feature i s n l → Entered (terminalOf e c) kinds counts kinds counts
+  of-feature : (i s n : ℕ) → e ≡ Feature i s n → Entered (terminalOf e c) kinds counts kinds counts
   unfolding terminalOf
-  of-feature i s n l h = none (ap (λ (x : Entity). terminalOf x c) h)
+  of-feature i s n h = none (ap (λ (x : Entity). terminalOf x c) h)
 
 ruleset laws = (of-unknown, of-input, of-output, of-mixer, of-selector, of-printed, of-feature, needs)
 
