@@ -2,9 +2,11 @@
 // refusal 30, the test that every entry point makes of a table, since everything in it is public. What this crate promises
 // to the layer above: each function answers, for every table whatever, as the definitions of specs/ say.
 ghost use mathlib.Core.Path.{_≡_};
-ghost use Rattle.table.specs.Controls.{blankControl, emptyTable, at, placed, senseOf, sizeOf, answersTo};
+ghost use Prim.Native.Nat.{_≤_, _<_};
+ghost use Rattle.table.specs.Controls.{mostControls, blankControl, emptyTable, at, placed, senseOf, sizeOf, answersTo};
 ghost use Rattle.table.specs.First.{foundIn, sawUnit, missingBy, lookedUp};
-ghost use Rattle.table.specs.Sound.{narrowOf, soundYesNo, soundPin, soundRanged, soundControl, firstThere, soundOf};
+ghost use Rattle.table.specs.Sound.{narrowOf, soundYesNo, soundPin, soundRanged, soundControl, soundOf};
+ghost use Rattle.table.specs.Rising.{Keyed, keyAmong};
 use setting::Range;
 use setting::Sort;
 
@@ -294,17 +296,60 @@ fn sound_control(control: Control) -> bool
     }
 }
 
-// Whether this is the first place of the control that stands there: no control stands twice where each is at its first.
-fn first_there(table: Table, place: usize, control: Control) -> bool
-    ensures { λ r. ⌜ r ≡ firstThere table place control ⌝ }
+fn wide(x: u8) -> usize
+    ensures { λ r. ⌜ (r ≡ x) × (r < 256) ⌝ }
 {
-    match find(table, control.unit, control.channel, control.selector) {
-        Found::Nothing => false,
-        Found::At(first) => first == place,
-    }
+    x as usize
 }
 
-// Whether refusal 30 has nothing against the table.
+// Unit, channel and selector as one number: within a unit it rises as channel, then selector, do.
+fn key_of(control: Control) -> u32
+    ensures { λ r. ⌜ Keyed control r ⌝ }
+{
+    control.unit as u32 * 65536 + control.channel as u32 * 256 + control.selector as u32
+}
+
+// Whether the key is one of the first n.
+fn among(keys: &[u32; CONTROLS], n: usize, wanted: u32) -> bool
+    requires { ⌜ n ≤ mostControls ⌝ }
+    ensures { λ r. ⌜ r ≡ keyAmong (now (keys .entry)) n wanted ⌝ }
+{
+    let mut index = 0;
+    while index < n {
+        if keys[index] == wanted {
+            return true;
+        }
+        index += 1;
+    }
+    false
+}
+
+// As `sound`, for a table in any order: each control's key is looked for among those of all earlier places.
+fn sound_slowly(table: Table) -> bool
+    requires { ⌜ table .count ≤ mostControls ⌝ }
+    ensures { λ r. ⌜ r ≡ soundOf table ⌝ }
+{
+    let count = table.count;
+    let mut keys = [0u32; CONTROLS];
+    let mut place = 0;
+    while place < count {
+        let control = table.controls[place];
+        if !sound_control(control) {
+            return false;
+        }
+        let key = key_of(control);
+        if among(&keys, place, key) {
+            return false;
+        }
+        keys[place] = key;
+        place += 1;
+    }
+    true
+}
+
+// Whether refusal 30 has nothing against the table. One pass as long as the keys of each unit rise from place to place, as in
+// every table that the reader makes: tops has one more than each unit's last key, and a key that is not below it stands at no
+// earlier place. A function that takes the table copies it, so none is called in the loop.
 pub fn sound(table: Table) -> bool
     ensures { λ r. ⌜ r ≡ soundOf table ⌝ }
 {
@@ -312,15 +357,19 @@ pub fn sound(table: Table) -> bool
     if CONTROLS < count {
         return false;
     }
+    let mut tops = [0u32; 256];
     let mut place = 0;
     while place < count {
         let control = table.controls[place];
         if !sound_control(control) {
             return false;
         }
-        if !first_there(table, place, control) {
-            return false;
+        let own = wide(control.unit);
+        let key = key_of(control);
+        if key < tops[own] {
+            return sound_slowly(table);
         }
+        tops[own] = key + 1;
         place += 1;
     }
     true
