@@ -5,3 +5,4 @@ pub mod Meaning
 pub mod Placed
 pub mod Fresh
 pub mod Rising
+pub mod Sought

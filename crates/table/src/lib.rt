@@ -7,6 +7,7 @@ ghost use Rattle.table.specs.Controls.{mostControls, blankControl, empty
 ghost use Rattle.table.specs.First.{foundIn, sawUnit, missingBy, lookedUp};
 ghost use Rattle.table.specs.Sound.{narrowOf, soundYesNo, soundPin, soundRanged, soundControl, soundOf};
 ghost use Rattle.table.specs.Rising.{Keyed, keyAmong};
+ghost use Rattle.table.specs.Sought.{soughtIn};
 use setting::Range;
 use setting::Sort;
 
@@ -52,6 +53,14 @@ pub enum Lookup {
     NoUnit,
     NoControl,
     At(usize),
+}
+
+// What a request asks first: whether refusal 30 has nothing against the table, and then the same, with the control.
+pub enum Sought {
+    Unsound,
+    NoUnit,
+    NoControl,
+    At(usize, Control),
 }
 
 // A spare place.
@@ -373,4 +382,58 @@ pub fn sound(table: Table) -> bool
         place += 1;
     }
     true
+}
+
+// As `seek`, for a table in any order.
+fn seek_slowly(table: Table, unit: u8, channel: u8, selector: u8) -> Sought
+    requires { ⌜ table .count ≤ mostControls ⌝ }
+    ensures { λ r. ⌜ r ≡ soughtIn table unit channel selector ⌝ }
+{
+    if !sound_slowly(table) {
+        return Sought::Unsound;
+    }
+    match look_up(table, unit, channel, selector) {
+        Lookup::NoUnit => Sought::NoUnit,
+        Lookup::NoControl => Sought::NoControl,
+        Lookup::At(place) => Sought::At(place, control_at(table, place)),
+    }
+}
+
+// `sound`, then `look_up`, in one function, so that the table is not copied for each.
+pub fn seek(table: Table, unit: u8, channel: u8, selector: u8) -> Sought
+    ensures { λ r. ⌜ r ≡ soughtIn table unit channel selector ⌝ }
+{
+    let n = table.count;
+    if CONTROLS < n {
+        return Sought::Unsound;
+    }
+    let mut tops = [0u32; 256];
+    let mut place = 0;
+    while place < n {
+        let control = table.controls[place];
+        if !sound_control(control) {
+            return Sought::Unsound;
+        }
+        let own = wide(control.unit);
+        let k = key_of(control);
+        if k < tops[own] {
+            return seek_slowly(table, unit, channel, selector);
+        }
+        tops[own] = k + 1;
+        place += 1;
+    }
+    let mut seen = false;
+    let mut next = 0;
+    while next < n {
+        let here = table.controls[next];
+        if answers(here, unit, channel, selector) {
+            return Sought::At(next, here);
+        }
+        seen = saw(seen, here, unit);
+        next += 1;
+    }
+    if seen {
+        return Sought::NoControl;
+    }
+    Sought::NoUnit
 }

@@ -1,4 +1,4 @@
--- Each refusal ends it in the paper's order; past them the control is stored with what is settled.
+-- Each refusal ends it in the paper's order; past them the control has what is settled.
 use borrow.Author.Needs.{needs}
 use Prim.Native.Nat.{ℕ}
 use mathlib.Core.Path.{_≡_, sym, ap, _∙_}
@@ -20,8 +20,10 @@ use Rattle.request.specs.Outcome.Outcome.{refused}
 use Rattle.request.specs.Load.{storedIn}
 use Rattle.request.specs.Request.{unready, valueIn, settledOf, withCur, setTo, setBy, setAt}
 use Rattle.request.proofs.Outcomes.{refusal, refuses, hands-on}
-use Rattle.request.proofs.set_at.Statement.{statement}
-use Rattle.request.proofs.set_at.Tie as tie
+use Rattle.request.specs.declared.Deed.{Deed}
+use Rattle.request.specs.Deed.{idleDeed, deedAnswer, idle-answer, SetOn}
+use Rattle.request.proofs.set_on.Statement.{statement}
+use Rattle.request.proofs.set_on.Tie as tie
 
 -- the outcome, for each way out
 module _ (t : Table) (p : ℕ) (n : ℕ) (d : List ℕ) (k : Sense) where
@@ -79,55 +81,73 @@ module _ (t : Table) (p : ℕ) (n : ℕ) (d : List ℕ) (r : Answer) (c : Contro
         taken x q a =
             hands-on t _ (storedIn t p (withCur x c)) (goes-to ∙ ap (setTo t p) q ∙ ap (λ (y : Control). storedIn t p (withCur x y)) (sym i)) a
 
-ruleset laws = (unloaded, other-length, other-data, no-setting, taken, needs)
+-- the same of the deed, wherever the control stands
+module _ (n : ℕ) (d : List ℕ) (r : Deed) (c : Control) (k : Sense) (j : k ≡ senseOf (c .selector)) (u : Bool) (e : u ≡ unready k c) where
+  on-unloaded : u ≡ true → r ≡ idleDeed 36 c → SetOn c n d r
+  on-unloaded h q = record { does = λ t p i. unloaded t p n d (deedAnswer t p r) c i k j u e h (idle-answer t p c 36 r i q) }
 
-control-at-requires : tie.Need-control-at-requires
-control-at-requires c κs = search needs
+  module _ (h : u ≡ false) (size : ℕ) (z : size ≡ sizeOf k) where
+    on-other-length : (n ≡ size → ⊥) → r ≡ idleDeed 37 c → SetOn c n d r
+    on-other-length l q = record { does = λ t p i. other-length t p n d (deedAnswer t p r) c i k j u e h size z l (idle-answer t p c 37 r i q) }
+
+    module _ (l : n ≡ size) where
+      on-other-data : (length d ≡ size → ⊥) → r ≡ idleDeed 37 c → SetOn c n d r
+      on-other-data o q = record { does = λ t p i. other-data t p n d (deedAnswer t p r) c i k j u e h size z l o (idle-answer t p c 37 r i q) }
+
+      module _ (o : length d ≡ size) (v : ℕ) (w : v ≡ valueIn d) (s : Settled) (f : s ≡ settledOf k c v) where
+        on-no-setting : s ≡ NoSetting → r ≡ idleDeed 38 c → SetOn c n d r
+        on-no-setting m q = record { does = λ t p i. no-setting t p n d (deedAnswer t p r) c i k j u e h size z l o v w s f m (idle-answer t p c 38 r i q) }
+
+        on-taken : (x : ℕ) → s ≡ To x → r ≡ idleDeed 0 (withCur x c) → SetOn c n d r
+        unfolding answerOf
+        on-taken x m q = record { does = λ t p i. taken t p n d (deedAnswer t p r) c i k j u e h size z l o v w s f x m (ap (deedAnswer t p) q) }
+
+ruleset laws = (on-unloaded, on-other-length, on-other-data, on-no-setting, on-taken, needs)
 
 sense-of-requires : tie.Need-sense-of-requires
-sense-of-requires c κs = search needs
+sense-of-requires c κs = search laws
 
 is-unready-requires : tie.Need-is-unready-requires
-is-unready-requires c κs = search needs
+is-unready-requires c κs = search laws
 
-refused-requires : tie.Need-refused-requires
-refused-requires c κs = search needs
+idle-requires : tie.Need-idle-requires
+idle-requires c κs = search laws
 
 returns : tie.Need-returns
 returns c = search laws
 
 size-requires : tie.Need-size-requires
-size-requires c κs = search needs
+size-requires c κs = search laws
 
-refused-requires-2 : tie.Need-refused-requires-2
-refused-requires-2 c κs = search needs
+idle-requires-2 : tie.Need-idle-requires-2
+idle-requires-2 c κs = search laws
 
 returns-2 : tie.Need-returns-2
 returns-2 c = search laws
 
-refused-requires-3 : tie.Need-refused-requires-3
-refused-requires-3 c κs = search needs
+idle-requires-3 : tie.Need-idle-requires-3
+idle-requires-3 c κs = search laws
 
 returns-3 : tie.Need-returns-3
 returns-3 c = search laws
 
 value-in-requires : tie.Need-value-in-requires
-value-in-requires c κs = search needs
+value-in-requires c κs = search laws
 
 settle-requires : tie.Need-settle-requires
-settle-requires c κs = search needs
+settle-requires c κs = search laws
 
 enum-told : tie.Need-enum-told
-enum-told c = search needs
+enum-told c = search laws
 
-refused-requires-4 : tie.Need-refused-requires-4
-refused-requires-4 c κs = search needs
+idle-requires-4 : tie.Need-idle-requires-4
+idle-requires-4 c κs = search laws
 
 enum-known-value : tie.Need-enum-known-value
-enum-known-value c = search needs
+enum-known-value c = search laws
 
-stored-requires : tie.Need-stored-requires
-stored-requires c κs = search needs
+idle-requires-5 : tie.Need-idle-requires-5
+idle-requires-5 c κs = search laws
 
 returns-4 : tie.Need-returns-4
 returns-4 c = search laws
@@ -135,25 +155,24 @@ returns-4 c = search laws
 returns-5 : tie.Need-returns-5
 returns-5 c = search laws
 
-pub set-at-spec : {M : Type 1} → statement M
-set-at-spec =
+pub set-on-spec : {M : Type 1} → statement M
+set-on-spec =
     tie.close
     (tie.spec
-    control-at-requires
     sense-of-requires
     is-unready-requires
-    refused-requires
+    idle-requires
     returns
     size-requires
-    refused-requires-2
+    idle-requires-2
     returns-2
-    refused-requires-3
+    idle-requires-3
     returns-3
     value-in-requires
     settle-requires
     enum-told
-    refused-requires-4
+    idle-requires-4
     enum-known-value
-    stored-requires
+    idle-requires-5
     returns-4
     returns-5)

@@ -20,8 +20,10 @@ use Rattle.request.specs.declared.Part.{Part}
 use Rattle.request.specs.Outcome.{laid, lowFirst, Answered}
 use Rattle.request.specs.Request.{lacking, partOf, unready, getBy, getAt}
 use Rattle.request.proofs.Outcomes.{refusal, refuses-all, gives-all}
-use Rattle.request.proofs.get_at.Statement.{statement}
-use Rattle.request.proofs.get_at.Tie as tie
+use Rattle.request.specs.declared.Deed.{Deed}
+use Rattle.request.specs.Deed.{idleDeed, deedAnswer, idle-answer, got-answer, GetOn}
+use Rattle.request.proofs.get_on.Statement.{statement}
+use Rattle.request.proofs.get_on.Tie as tie
 
 -- a value has one byte or two
 sized : (k : Sense) → (1 ≤ sizeOf k) × (sizeOf k ≤ 2)
@@ -83,85 +85,109 @@ module _ (t : Table) (p : ℕ) (part : Part) (n room : ℕ) (b : List ℕ) (r : 
             refuses-all 39 (as-held ∙ no _ _ (sym e ∙ h) ∙ no _ _ ready ∙ no _ _ same-length-of ∙ yes _ _ (lt-ltb room (sizeOf k) q))
 
         given : size ≤ room → (x : ℕ) (after : List ℕ) → x ≡ partOf part c → after ≡ laid (lowFirst size x) b
-            → Answered t (getAt t p part n room) b (record { number = 0; written = size; table = t }) after
+            → r ≡ record { number = 0; written = size; table = t } → Answered t (getAt t p part n room) b r after
         unfolding getBy
-        given o x after v w =
+        given o x after v w y =
             let q : sizeOf k ≤ room = omega arith in
             gives-all (lowFirst size x) size
             (as-held ∙ no _ _ (sym e ∙ h) ∙ no _ _ ready ∙ no _ _ same-length-of ∙ no _ _ (le-ltb room (sizeOf k) q) ∙ rw (z, v, i))
             (bytes-sized size x)
-            refl
+            y
             w
 
-ruleset laws = (at-least-one, at-most-two, no-part, unloaded, other-length, no-room, given, needs)
+-- the same of the deed, wherever the control stands
+module _ (part : Part) (n : ℕ) (b : List ℕ) (r : Deed) (c : Control) (k : Sense) (j : k ≡ senseOf (c .selector)) (a : Bool) (e : a ≡ lacking k part) where
+  on-no-part : a ≡ true → r ≡ idleDeed 35 c → GetOn c part n b r b
+  on-no-part h q = record { does = λ t p i. no-part t p part n (length b) b (deedAnswer t p r) c i k j a e h (idle-answer t p c 35 r i q) }
 
-control-at-requires : tie.Need-control-at-requires
-control-at-requires c κs = search needs
+  module _ (h : a ≡ false) (u : Bool) (f : u ≡ unready k c) where
+    on-unloaded : u ≡ true → r ≡ idleDeed 36 c → GetOn c part n b r b
+    on-unloaded l q = record { does = λ t p i. unloaded t p part n (length b) b (deedAnswer t p r) c i k j a e h u f l (idle-answer t p c 36 r i q) }
+
+    module _ (l : u ≡ false) (size : ℕ) (z : size ≡ sizeOf k) where
+      on-other-length : (n ≡ size → ⊥) → r ≡ idleDeed 37 c → GetOn c part n b r b
+      on-other-length m q = record { does = λ t p i. other-length t p part n (length b) b (deedAnswer t p r) c i k j a e h u f l size z m (idle-answer t p c 37 r i q) }
+
+      module _ (m : n ≡ size) where
+        on-no-room : length b < size → r ≡ idleDeed 39 c → GetOn c part n b r b
+        on-no-room o q = record { does = λ t p i. no-room t p part n (length b) b (deedAnswer t p r) c i k j a e h u f l size z m o (idle-answer t p c 39 r i q) }
+
+        on-given : size ≤ length b → (x : ℕ) (after : List ℕ) → x ≡ partOf part c → after ≡ laid (lowFirst size x) b
+            → r ≡ record { number = 0; written = size; control = c } → GetOn c part n b r after
+        on-given o x after v w q = record { does = λ t p i. given t p part n (length b) b (deedAnswer t p r) c i k j a e h u f l size z m o x after v w (got-answer t p c 0 size r i q) }
+
+-- the result as it is built
+on-given-here : (part : Part) (n : ℕ) (b : List ℕ) (c : Control) (k : Sense) → k ≡ senseOf (c .selector) → (a : Bool) → a ≡ lacking k part → a ≡ false
+    → (u : Bool) → u ≡ unready k c → u ≡ false → (size : ℕ) → size ≡ sizeOf k → n ≡ size → size ≤ length b
+    → (x : ℕ) (after : List ℕ) → x ≡ partOf part c → after ≡ laid (lowFirst size x) b
+    → GetOn c part n b (record { number = 0; written = size; control = c }) after
+on-given-here part n b c k j a e h u f l size z m o x after v w = on-given part n b (record { number = 0; written = size; control = c }) c k j a e h u f l size z m o x after v w refl
+
+ruleset laws = (at-least-one, at-most-two, on-no-part, on-unloaded, on-other-length, on-no-room, on-given-here, needs)
 
 sense-of-requires : tie.Need-sense-of-requires
-sense-of-requires c κs = search needs
+sense-of-requires c κs = search laws
 
 lacks-requires : tie.Need-lacks-requires
-lacks-requires c κs = search needs
+lacks-requires c κs = search laws
 
-refused-requires : tie.Need-refused-requires
-refused-requires c κs = search needs
+idle-requires : tie.Need-idle-requires
+idle-requires c κs = search laws
 
 returns : tie.Need-returns
 returns c = search laws
 
 is-unready-requires : tie.Need-is-unready-requires
-is-unready-requires c κs = search needs
+is-unready-requires c κs = search laws
 
-refused-requires-2 : tie.Need-refused-requires-2
-refused-requires-2 c κs = search needs
+idle-requires-2 : tie.Need-idle-requires-2
+idle-requires-2 c κs = search laws
 
 returns-2 : tie.Need-returns-2
 returns-2 c = search laws
 
 size-requires : tie.Need-size-requires
-size-requires c κs = search needs
+size-requires c κs = search laws
 
-refused-requires-3 : tie.Need-refused-requires-3
-refused-requires-3 c κs = search needs
+idle-requires-3 : tie.Need-idle-requires-3
+idle-requires-3 c κs = search laws
 
 returns-3 : tie.Need-returns-3
 returns-3 c = search laws
 
-refused-requires-4 : tie.Need-refused-requires-4
-refused-requires-4 c κs = search needs
+idle-requires-4 : tie.Need-idle-requires-4
+idle-requires-4 c κs = search laws
 
 returns-4 : tie.Need-returns-4
 returns-4 c = search laws
 
 part-of-requires : tie.Need-part-of-requires
-part-of-requires c κs = search needs
+part-of-requires c κs = search laws
 
 write-requires : tie.Need-write-requires
 write-requires c κs = search laws
 
 same-length : tie.Need-same-length
-same-length c = search needs
+same-length c = search laws
 
 returns-5 : tie.Need-returns-5
 returns-5 c = search laws
 
-pub get-at-spec : {M : Type 1} → statement M
-get-at-spec =
+pub get-on-spec : {M : Type 1} → statement M
+get-on-spec =
     tie.close
     (tie.spec
-    control-at-requires
     sense-of-requires
     lacks-requires
-    refused-requires
+    idle-requires
     returns
     is-unready-requires
-    refused-requires-2
+    idle-requires-2
     returns-2
     size-requires
-    refused-requires-3
+    idle-requires-3
     returns-3
-    refused-requires-4
+    idle-requires-4
     returns-4
     part-of-requires
     write-requires
