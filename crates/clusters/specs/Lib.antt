@@ -1,3 +1,5 @@
-pub mod Edition
-pub mod Audio
+pub mod Rules
+pub mod Sweep
+pub mod SweepLaws
 pub mod Topology
+pub mod Collection

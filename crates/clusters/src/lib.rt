@@ -1,67 +1,69 @@
-// Clusters, rule 13 (document 01, "Clusters"): what each entity gives out, by rounds, and whether each keeps its kind's rule. What this
-// crate promises to the layer above: each public function answers, for every run whatever, as the definitions of specs/ say.
+// Clusters, rule 13 (document 01, "Clusters"): what each entity gives out, in one sweep along an order of the run, and whether each keeps
+// its kind's rule. What this crate promises to the layer above: each public function answers, for every configuration and every
+// run whatever, as the definitions of specs/ say.
 ghost use mathlib.Core.Path.{_≡_};
-ghost use Prim.Native.Nat.{_≤_};
-ghost use lib.Dec.{eqb};
-ghost use lib.ListN.{getD, take};
-ghost use Rattle.graph.specs.Rounds.{clusterRound, clusterRounds};
-ghost use Rattle.entities.specs.Run.{mostEntities};
-ghost use Rattle.sources.specs.Pins.{linked, linkedTo};
-ghost use Rattle.ranks.specs.Rules.{mostSteps};
-ghost use Rattle.clusters.specs.Audio.{firstOf, alike, alikeIn, Entering, giveOut, mixerLength, mixerKept, featureLength, featureKept, keeps, audio};
-ghost use Rattle.layout.specs.Layout.{noCluster};
-ghost use Rattle.clusters.specs.Edition.{clustersAt, ruleAt, clustersOf, breach13};
+ghost use Prim.Native.Nat.{_≤_, _<_};
+ghost use mathlib.Core.List.{map};
+ghost use lib.ListN.{length, getD};
+ghost use Rattle.edition.specs.Audio.{alike, alikeIn, mixerLength, mixerKept, featureLength, featureKept, keeps};
+ghost use Rattle.clusters.specs.Sweep.{clusterBy, clusterOn, channelsOn, firstBy, givesBy, keepsBy, Entering, Sweeps, breach13, clustersOf};
 use entities::MOST_ENTITIES;
+use entities::Node;
 use entities::Run;
 use ground::Place;
 use layout::Cluster;
 use layout::Entity;
-use ranks::MOST_STEPS;
-use sources::Link;
 
-// No channels.
-fn no_cluster() -> Cluster
-    ensures { λ r. ⌜ r ≡ noCluster ⌝ }
+// What each ID gives out: by ID its channels, its locations and its first name index.
+pub struct Given {
+    pub channels: [u8; 256],
+    pub locations: [u16; 256],
+    pub names: [u8; 256],
+}
+
+// A byte as an index of 256 places.
+fn wide(x: u8) -> usize
+    ensures { λ r. ⌜ (r ≡ x) × (r < 256) ⌝ }
 {
+    x as usize
+}
+
+// The cluster that enters by pin 1; none where there is no pin.
+fn first_entering(
+    ids: &[u8],
+    channels: &[u8; 256],
+    locations: &[u16; 256],
+    names: &[u8; 256],
+) -> Cluster
+    ensures { λ r. ⌜ r ≡ firstBy (clusterBy (now (channels .entry)) (now (locations .entry)) (now (names .entry))) (now (ids .entry)) ⌝ }
+{
+    if ids.len() == 0 {
+        return Cluster {
+            channels: 0,
+            locations: 0,
+            names: 0,
+        };
+    }
+    let x = wide(ids[0]);
     Cluster {
-        channels: 0,
-        locations: 0,
-        names: 0,
+        channels: channels[x],
+        locations: locations[x],
+        names: names[x],
     }
 }
 
-// The cluster at a place; none past the last.
-fn cluster_at(now: [Cluster; 32], j: usize) -> Cluster
-    ensures { λ r. ⌜ r ≡ getD now j noCluster ⌝ }
+// What an entity gives out, where these clusters enter by its pins.
+fn give_out(
+    config: &[u8],
+    node: Node,
+    channels: &[u8; 256],
+    locations: &[u16; 256],
+    names: &[u8; 256],
+) -> Cluster
+    ensures { λ r. ⌜ r ≡ givesBy (now (config .entry)) node (clusterBy (now (channels .entry)) (now (locations .entry)) (now (names .entry))) ⌝ }
 {
-    if j < MOST_ENTITIES {
-        return now[j];
-    }
-    no_cluster()
-}
-
-// The cluster at the first place; none where there is no pin.
-fn first_in(now: [Cluster; 32], places: [usize; 8], pins: usize) -> Cluster
-    ensures { λ r. ⌜ r ≡ firstOf (clustersAt now (take pins places)) ⌝ }
-{
-    if pins == 0 {
-        return no_cluster();
-    }
-    cluster_at(now, places[0])
-}
-
-// The cluster that enters by pin 1.
-fn first_entering(now: [Cluster; 32], link: Link) -> Cluster
-    ensures { λ r. ⌜ r ≡ firstOf (clustersAt now (linked link)) ⌝ }
-{
-    let places = link.places;
-    first_in(now, places, link.pins as usize)
-}
-
-// What an entity gives out, from what enters by pin 1.
-fn give_out(entity: Entity, first: Cluster) -> Cluster
-    ensures { λ r. ⌜ r ≡ giveOut entity first ⌝ }
-{
+    let first = first_entering(entities::sources(config, node), channels, locations, names);
+    let entity = layout::read(scan::descriptor_at(config, node.place));
     match entity {
         Entity::Unknown => first,
         Entity::Input { cluster, .. } => cluster,
@@ -73,85 +75,59 @@ fn give_out(entity: Entity, first: Cluster) -> Cluster
     }
 }
 
-// One round: each entity gives out by what the last round gave out.
-fn round(run: Run, links: [Link; 32], now: [Cluster; 32]) -> [Cluster; 32]
-    ensures { λ r. ⌜ r ≡ clusterRound mostEntities (linkedTo links) (ruleAt audio run) noCluster now ⌝ }
+// What each ID gives out, along the run: each entity finds what its sources gave out before it.
+pub fn sweep(config: &[u8], run: Run) -> Given
+    ensures { λ r. ⌜ Sweeps (now (config .entry)) run r ⌝ }
 {
-    let none = no_cluster();
-    let mut next = [none; 32];
+    let n = entities::count(run);
+    let mut channels = [0u8; 256];
+    let mut locations = [0u16; 256];
+    let mut names = [0u8; 256];
     let mut i: usize = 0;
-    while i < MOST_ENTITIES {
-        let link = links[i];
-        next[i] = give_out(sources::entity(run, i), first_entering(now, link));
+    while i < n {
+        let node = run.nodes[i];
+        let gives = give_out(config, node, &channels, &locations, &names);
+        let id = wide(node.id);
+        channels[id] = gives.channels;
+        locations[id] = gives.locations;
+        names[id] = gives.names;
         i += 1;
     }
-    next
-}
-
-// All the rounds.
-fn rounds(run: Run, links: [Link; 32]) -> [Cluster; 32]
-    ensures { λ r. ⌜ r ≡ clusterRounds mostEntities (linkedTo links) (ruleAt audio run) noCluster noCluster mostSteps ⌝ }
-{
-    let none = no_cluster();
-    let mut now = [none; 32];
-    let mut d: usize = 0;
-    while d < MOST_STEPS {
-        let next = round(run, links, now);
-        now = next;
-        d += 1;
+    Given {
+        channels,
+        locations,
+        names,
     }
-    now
 }
 
-// The cluster that each place of a run gives out; for an Output Terminal, the one that enters.
-pub fn clusters(run: Run) -> [Cluster; 32]
-    ensures { λ r. ⌜ r ≡ clustersOf audio run ⌝ }
+// How many channels an ID gives out.
+fn count_of(counts: &[u8; 256], id: u8) -> u8
+    ensures { λ r. ⌜ r ≡ getD (now (counts .entry)) id 0 ⌝ }
 {
-    let links = sources::links(run);
-    rounds(run, links)
+    counts[wide(id)]
 }
 
-// How many channels the cluster at a place has.
-fn channels_at(now: [Cluster; 32], j: usize) -> u8
-    ensures { λ r. ⌜ r ≡ getD now j noCluster .channels ⌝ }
-{
-    let cluster = cluster_at(now, j);
-    cluster.channels
-}
-
-// How many channels enter in all, by the first places, as many as there are pins.
-fn channels_in(now: [Cluster; 32], places: [usize; 8], pins: usize) -> usize
-    ensures { λ r. ⌜ Entering (clustersAt now (take pins places)) r ⌝ }
+// How many channels enter in all.
+fn channels_in(ids: &[u8], counts: &[u8; 256]) -> usize
+    requires { ⌜ length (now ids) ≤ 255 ⌝ }
+    ensures { λ r. ⌜ Entering (map (channelsOn (now (counts .entry))) (now (ids .entry))) r ⌝ }
 {
     let mut sum: usize = 0;
     let mut k: usize = 0;
-    while k < 8 {
-        if pins <= k {
-            return sum;
-        }
-        sum += channels_at(now, places[k]) as usize;
+    while k < ids.len() {
+        sum += wide(count_of(counts, ids[k]));
         k += 1;
     }
     sum
 }
 
-// Whether the cluster at a place has c channels.
-fn has(now: [Cluster; 32], j: usize, c: u8) -> bool
-    ensures { λ r. ⌜ r ≡ eqb (getD now j noCluster .channels) c ⌝ }
-{
-    channels_at(now, j) == c
-}
-
 // Whether c channels enter by each pin.
-fn all_have(now: [Cluster; 32], places: [usize; 8], pins: usize, c: u8) -> bool
-    ensures { λ r. ⌜ r ≡ alike c (clustersAt now (take pins places)) ⌝ }
+fn all_have(ids: &[u8], counts: &[u8; 256], c: u8) -> bool
+    ensures { λ r. ⌜ r ≡ alike c (map (channelsOn (now (counts .entry))) (now (ids .entry))) ⌝ }
 {
     let mut k: usize = 0;
-    while k < 8 {
-        if pins <= k {
-            return true;
-        }
-        if !has(now, places[k], c) {
+    while k < ids.len() {
+        if count_of(counts, ids[k]) != c {
             return false;
         }
         k += 1;
@@ -161,7 +137,7 @@ fn all_have(now: [Cluster; 32], places: [usize; 8], pins: usize, c: u8) -> bool
 
 // The length of a Mixer with p pins and c channels, where i channels enter in all: N = i·c/8 rounded up.
 fn mixer_length(p: u8, c: u8, i: usize) -> usize
-    requires { ⌜ i ≤ 2040 ⌝ }
+    requires { ⌜ i ≤ 65025 ⌝ }
     ensures { λ r. ⌜ r ≡ mixerLength p c i ⌝ }
 {
     let controls = (i * c as usize + 7) / 8;
@@ -175,70 +151,95 @@ fn feature_length(c: u8, n: u8) -> usize
     7 + (c as usize + 1) * n as usize
 }
 
-// Whether c channels enter by each pin of a Selector, as by pin 1.
-fn selector_kept(now: [Cluster; 32], link: Link) -> bool
-    ensures { λ r. ⌜ r ≡ alikeIn (clustersAt now (linked link)) ⌝ }
+// How many channels enter by pin 1; none where there is no pin.
+fn first_count(ids: &[u8], counts: &[u8; 256]) -> u8
+    ensures { λ r. ⌜ r ≡ firstBy (channelsOn (now (counts .entry))) (now (ids .entry)) .channels ⌝ }
 {
-    let first = first_entering(now, link);
-    let places = link.places;
-    all_have(now, places, link.pins as usize, first.channels)
+    if ids.len() == 0 {
+        return 0;
+    }
+    count_of(counts, ids[0])
 }
 
-// Whether a Mixer keeps its rule.
-fn mixer_kept(now: [Cluster; 32], link: Link, p: u8, cluster: Cluster, length: u8) -> bool
-    ensures { λ r. ⌜ r ≡ mixerKept p cluster length (clustersAt now (linked link)) ⌝ }
+// Whether as many channels enter by each pin of a Selector as by pin 1.
+fn selector_kept(ids: &[u8], counts: &[u8; 256]) -> bool
+    ensures { λ r. ⌜ r ≡ alikeIn (map (channelsOn (now (counts .entry))) (now (ids .entry))) ⌝ }
+{
+    all_have(ids, counts, first_count(ids, counts))
+}
+
+// Whether a Mixer of this length keeps its rule.
+fn mixer_kept(ids: &[u8], counts: &[u8; 256], p: u8, cluster: Cluster, size: usize) -> bool
+    requires { ⌜ length (now ids) ≤ 255 ⌝ }
+    ensures { λ r. ⌜ r ≡ mixerKept p cluster size (map (channelsOn (now (counts .entry))) (now (ids .entry))) ⌝ }
 {
     if !channels::cluster_kept(cluster) {
         return false;
     }
-    let places = link.places;
-    let i = channels_in(now, places, link.pins as usize);
-    length as usize == mixer_length(p, cluster.channels, i)
+    let i = channels_in(ids, counts);
+    size == mixer_length(p, cluster.channels, i)
 }
 
-// Whether a Feature Unit keeps its rule.
-fn feature_kept(now: [Cluster; 32], link: Link, n: u8, length: u8) -> bool
-    ensures { λ r. ⌜ r ≡ featureKept n length (clustersAt now (linked link)) ⌝ }
+// Whether a Feature Unit of this length keeps its rule.
+fn feature_kept(ids: &[u8], counts: &[u8; 256], n: u8, size: usize) -> bool
+    ensures { λ r. ⌜ r ≡ featureKept n size (map (channelsOn (now (counts .entry))) (now (ids .entry))) ⌝ }
 {
-    let first = first_entering(now, link);
-    length as usize == feature_length(first.channels, n)
+    size == feature_length(first_count(ids, counts), n)
 }
 
-// Whether an entity keeps its kind's rule, where these clusters were given out.
-fn kept(entity: Entity, now: [Cluster; 32], link: Link) -> bool
-    ensures { λ r. ⌜ r ≡ keeps entity (clustersAt now (linked link)) ⌝ }
+// Whether an entity keeps its kind's rule, where so many channels are given out by each ID.
+fn kept(config: &[u8], node: Node, counts: &[u8; 256]) -> bool
+    ensures { λ r. ⌜ r ≡ keepsBy (now (config .entry)) node (channelsOn (now (counts .entry))) ⌝ }
 {
+    let d = scan::descriptor_at(config, node.place);
+    let ids = entities::sources(config, node);
+    let entity = layout::read(d);
     match entity {
         Entity::Unknown => true,
         Entity::Input { cluster, .. } => channels::cluster_kept(cluster),
         Entity::Output { .. } => true,
-        Entity::Mixer {
-            pins,
-            cluster,
-            length,
-            ..
-        } => mixer_kept(now, link, pins, cluster, length),
-        Entity::Selector { .. } => selector_kept(now, link),
-        Entity::Printed { .. } => selector_kept(now, link),
-        Entity::Feature { size, length, .. } => feature_kept(now, link, size, length),
+        Entity::Mixer { pins, cluster, .. } => mixer_kept(ids, counts, pins, cluster, d.len()),
+        Entity::Selector { .. } => selector_kept(ids, counts),
+        Entity::Printed { .. } => selector_kept(ids, counts),
+        Entity::Feature { size, .. } => feature_kept(ids, counts, size, d.len()),
     }
 }
 
-// The first place that breaks rule 13.
-pub fn check_clusters(run: Run) -> Place
-    ensures { λ r. ⌜ r ≡ breach13 audio run ⌝ }
+// The first entity that breaks rule 13, where each ID gives out these clusters.
+pub fn check_clusters(config: &[u8], run: Run, given: Given) -> Place
+    ensures { λ r. ⌜ r ≡ breach13 (now (config .entry)) run (clusterOn given) ⌝ }
 {
-    let n = sources::count(run);
-    let links = sources::links(run);
-    let now = clusters(run);
+    let n = entities::count(run);
+    let counts = given.channels;
     let mut i: usize = 0;
     while i < n {
-        let link = links[i];
-        if !kept(sources::entity(run, i), now, link) {
-            let node = sources::node(run, i);
+        let node = run.nodes[i];
+        if !kept(config, node, &counts) {
             return Place::At(node.place);
         }
         i += 1;
     }
     Place::Nowhere
+}
+
+// The cluster of each entity of a run, by its index.
+pub fn by_index(run: Run, given: Given) -> [Cluster; 32]
+    ensures { λ r. ⌜ r ≡ clustersOf run (clusterOn given) ⌝ }
+{
+    let mut clusters = [Cluster {
+        channels: 0,
+        locations: 0,
+        names: 0,
+    }; 32];
+    let mut i: usize = 0;
+    while i < MOST_ENTITIES {
+        let id = wide(run.nodes[i].id);
+        clusters[i] = Cluster {
+            channels: given.channels[id],
+            locations: given.locations[id],
+            names: given.names[id],
+        };
+        i += 1;
+    }
+    clusters
 }

@@ -1,2 +1,2 @@
 pub mod Judgement
-pub mod Cases
+pub mod JudgementLaws

@@ -1,38 +1,60 @@
 // The rules 10 to 13 in their order (document 01, "Refusals of a configuration"): how the entities of a run are connected. What this
-// crate promises to the layer above: the lowest number of these that a run breaks, with its place.
+// crate promises to the layer above: the lowest number of these that a run breaks, with its place; or the cluster on each entity's
+// output. Each is computed once, and not before the rules in front of it are kept.
 ghost use mathlib.Core.Path.{_≡_};
-ghost use Rattle.ground.specs.Refuse.{none};
-ghost use Rattle.connections.specs.Judgement.{judged};
-use clusters::check_clusters;
+ghost use Rattle.connections.specs.Judgement.{refusedBy, connectedIn};
 use entities::Run;
 use ground::Place;
 use ground::Refusal;
-use ranks::check_ranks;
-use sources::check_ids;
-use sources::check_sources;
+use layout::Cluster;
 
-// The lowest number of the rules 10 to 13 that a run breaks, with its place; 0 and 0 where it keeps them.
-pub fn judge(run: Run) -> Refusal
-    ensures { λ r. ⌜ r ≡ judged run none ⌝ }
+// The lowest number of the rules 10 to 13 that a run breaks, with its place, and no clusters; or 0 and 0, and the cluster of each
+// entity by its index.
+pub struct Connected {
+    pub refusal: Refusal,
+    pub clusters: [Cluster; 32],
+}
+
+fn refused(number: u8, place: usize) -> Connected
+    ensures { λ r. ⌜ r ≡ refusedBy (record { number = number; place = place }) ⌝ }
 {
-    let ids = check_ids(run);
+    Connected {
+        refusal: Refusal { number, place },
+        clusters: [Cluster {
+            channels: 0,
+            locations: 0,
+            names: 0,
+        }; 32],
+    }
+}
+
+// Judges a run of a configuration by the rules 10 to 13.
+pub fn judge(config: &[u8], run: Run) -> Connected
+    ensures { λ r. ⌜ r ≡ connectedIn (now (config .entry)) run ⌝ }
+{
+    let ids = sources::check_ids(run);
     if let Place::At(place) = ids {
-        return Refusal { number: 10, place };
+        return refused(10, place);
     }
-    let sources = check_sources(run);
-    if let Place::At(place) = sources {
-        return Refusal { number: 11, place };
+    let wrong = sources::check_sources(config, run);
+    if let Place::At(place) = wrong {
+        return refused(11, place);
     }
-    let ranks = check_ranks(run);
-    if let Place::At(place) = ranks {
-        return Refusal { number: 12, place };
+    let order = ranks::order_of(config, run);
+    let endless = ranks::check_ranks(run, order);
+    if let Place::At(place) = endless {
+        return refused(12, place);
     }
-    let clusters = check_clusters(run);
-    if let Place::At(place) = clusters {
-        return Refusal { number: 13, place };
+    let given = clusters::sweep(config, order);
+    let broken = clusters::check_clusters(config, run, given);
+    if let Place::At(place) = broken {
+        return refused(13, place);
     }
-    Refusal {
-        number: 0,
-        place: 0,
+    Connected {
+        refusal: Refusal {
+            number: 0,
+            place: 0,
+        },
+        clusters: clusters::by_index(run, given),
     }
 }

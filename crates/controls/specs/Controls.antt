@@ -1,6 +1,7 @@
 -- Which control stands where (document 01, "Controls and settings"): "Channel k's mask (0 is master), bit b: control with selector
 -- b+1, for b from 0 to 9 except 5. Other bits carry none. Each Selector has one control. The table goes by entity place, channel,
 -- selector; spare places, and numbers not yet loaded or that a control does not use, are zero."
+--   freshControl u k v p f  ==  the control of unit u, channel k and selector v with p pins, not loaded, its value at first f
 --   unitControl u k v       ==  the control of the Feature Unit u, channel k, selector v
 --   selectorControl u p     ==  the control of the Selector u with p pins; its value is a pin, at first 1
 --   maskOf d n k            ==  channel k's mask in the Feature Unit d of control size n: "masks of n bytes from 6"
@@ -12,14 +13,15 @@
 --   channelsFrom j k u n d  ==  .. of the next j channels from channel k on
 --   featureControls u n c d ==  those of the Feature Unit d with ID u and control size n, whose cluster has c channels
 --   entityControls e d c    ==  those of the entity e, which d is
---   controlsOf ds cs        ==  those of the run ds with the clusters cs at its places
---   controlsOfRun s r cs    ==  the same, as the reader has the run: entities that stand at places of the configuration s
---   nodeControls s n c, controlsIn s ns cs  ==  .. of one such entity, of a list of them
+--   controlsOf ds cluster   ==  those of the run's descriptors ds, with the clusters by their IDs
+--   nodeControls s n c      ==  those of the entity n, whose descriptor stands in the configuration s and whose cluster has c channels
+--   controlsTo i s r cs     ==  those of the first i entities of the run r, with the clusters cs index by index
+--   controlsOfRun s r cs    ==  those of all that are looked at
 --   breach15 k p            ==  where rule 15 is broken by k controls: nowhere, or at the header's place p
 use Prim.Native.Nat.{ℕ, zero, suc, _+_, _*_, _/_, _%_, _^_}
 use mathlib.Core.Bool.{Bool, false, not, _&&_}
 use mathlib.Core.List.{List, [], _∷_, _++_}
-use lib.ListN.{take}
+use lib.ListN.{getD}
 use lib.Dec.{eqb, leb}
 use Rattle.ground.specs.declared.Place.{Place}
 use Rattle.ground.specs.Pick.{pick}
@@ -30,19 +32,23 @@ use Rattle.scan.specs.Cutting.{endAt}
 use Rattle.layout.specs.declared.Cluster.{Cluster}
 use Rattle.layout.specs.declared.Entity.{Entity}
 use Rattle.layout.specs.declared.Entity.the-variants.{Unknown, Input, Output, Mixer, Selector, Printed, Feature}
-use Rattle.layout.specs.Layout.{entityOf}
+use Rattle.layout.specs.Layout.{noCluster, entityOf}
+use Rattle.edition.specs.Edition.{ownId}
 use Rattle.entities.specs.declared.Node.{Node}
 use Rattle.entities.specs.declared.Run.{Run}
+use Rattle.entities.specs.Run.{held, nodeAt}
 use Rattle.table.specs.declared.Control.{Control}
 use Rattle.table.specs.Controls.{mostControls}
 
+abbrev pub freshControl : ℕ → ℕ → ℕ → ℕ → ℕ → Control
+freshControl u k v p f =
+    record { unit = u; channel = k; selector = v; pins = p; loaded = false; min = 0; max = 0; res = 0; cur = f }
+
 abbrev pub unitControl : ℕ → ℕ → ℕ → Control
-unitControl u k v =
-    record { unit = u; channel = k; selector = v; pins = 0; loaded = false; min = 0; max = 0; res = 0; cur = 0 }
+unitControl u k v = freshControl u k v 0 0
 
 abbrev pub selectorControl : ℕ → ℕ → Control
-selectorControl u p =
-    record { unit = u; channel = 0; selector = 0; pins = p; loaded = false; min = 0; max = 0; res = 0; cur = 1 }
+selectorControl u p = freshControl u 0 0 p 1
 
 abbrev pub maskOf : List ℕ → ℕ → ℕ → List ℕ
 maskOf d n k = part d (6 + k * n) (6 + k * n + n)
@@ -76,26 +82,24 @@ unfoldable pub entityControls : Entity → List ℕ → ℕ → List Control
 entityControls Unknown d c = []
 entityControls (Input i t own) d c = []
 entityControls (Output i t s) d c = []
-entityControls (Mixer i p own l) d c = []
+entityControls (Mixer i p own) d c = []
 entityControls (Selector i p) d c = selectorControl i p ∷ []
 entityControls (Printed i p) d c = selectorControl i p ∷ []
-entityControls (Feature i s n l) d c = featureControls i n c d
+entityControls (Feature i s n) d c = featureControls i n c d
 
-unfoldable pub controlsOf : List (List ℕ) → List Cluster → List Control
-controlsOf [] cs = []
-controlsOf (d ∷ ds) [] = []
-controlsOf (d ∷ ds) (c ∷ cs) = entityControls (entityOf d) d (c .channels) ++ controlsOf ds cs
+unfoldable pub controlsOf : List (List ℕ) → (ℕ → Cluster) → List Control
+controlsOf [] cluster = []
+controlsOf (d ∷ ds) cluster = entityControls (entityOf d) d (cluster (ownId d) .channels) ++ controlsOf ds cluster
 
-unfoldable pub nodeControls : List ℕ → Node → ℕ → List Control
-nodeControls s n c = entityControls (n .entity) (part s (n .place) (endAt s (n .place))) c
+abbrev pub nodeControls : List ℕ → Node → ℕ → List Control
+nodeControls s n c = entityControls (entityOf (part s (n .place) (endAt s (n .place)))) (part s (n .place) (endAt s (n .place))) c
 
-unfoldable pub controlsIn : List ℕ → List Node → List Cluster → List Control
-controlsIn s [] cs = []
-controlsIn s (n ∷ ns) [] = []
-controlsIn s (n ∷ ns) (c ∷ cs) = nodeControls s n (c .channels) ++ controlsIn s ns cs
+unfoldable pub controlsTo : ℕ → List ℕ → Run → List Cluster → List Control
+controlsTo zero s r cs = []
+controlsTo (suc i) s r cs = controlsTo i s r cs ++ nodeControls s (nodeAt r i) (getD cs i noCluster .channels)
 
 unfoldable pub controlsOfRun : List ℕ → Run → List Cluster → List Control
-controlsOfRun s r cs = controlsIn s (take (r .count) (r .nodes)) cs
+controlsOfRun s r cs = controlsTo (held r) s r cs
 
 unfoldable pub breach15 : ℕ → ℕ → Place
 breach15 k p = keptAt (leb k mostControls) p

@@ -1,20 +1,17 @@
 -- How many controls there may be, so that counting them cannot wrap.
 --   bit-few     ==  one at most for a bit
 --   mask-few    ==  ten at most for a mask
---   entity-few, node-few  ==  ten at most for each channel of an entity, and ten for master
+--   entity-few  ==  ten at most for each channel of an entity, and ten for master
 use Prim.Native.Nat.{ℕ, zero, suc, _+_, _*_, _≤_}
 use mathlib.Core.Bool.{Bool, true, false}
 use mathlib.Core.List.{List, [], _∷_}
 use native.Mathlib.Omega.{arith}
 use lib.ListN.{length, length-append}
 use Rattle.ground.specs.Pick.{pick}
-use Rattle.ground.specs.Lists.{part}
-use Rattle.scan.specs.Cutting.{endAt}
-use Rattle.entities.specs.declared.Node.{Node}
 use Rattle.layout.specs.declared.Entity.{Entity}
 use Rattle.layout.specs.declared.Entity.the-variants.{Unknown, Input, Output, Mixer, Selector, Printed, Feature}
 use Rattle.table.specs.declared.Control.{Control}
-use Rattle.controls.specs.Controls.{unitControl, maskOf, bitCarries, bitControls, bitsFrom, maskControls, channelsFrom, featureControls, entityControls, nodeControls}
+use Rattle.controls.specs.Controls.{unitControl, maskOf, bitCarries, bitControls, bitsFrom, maskControls, channelsFrom, featureControls, entityControls}
 
 one-few : (t : Bool) (x : Control) → length (pick t (x ∷ []) []) ≤ 1
 one-few true x = omega arith
@@ -51,11 +48,7 @@ unfolding entityControls featureControls
 entity-few Unknown d c = omega arith
 entity-few (Input i t own) d c = omega arith
 entity-few (Output i t s) d c = omega arith
-entity-few (Mixer i p own l) d c = omega arith
+entity-few (Mixer i p own) d c = omega arith
 entity-few (Selector i p) d c = omega arith
 entity-few (Printed i p) d c = omega arith
-entity-few (Feature i s n l) d c = let h = channels-few (suc c) 0 i n d in omega arith
-
-pub node-few : (s : List ℕ) (n : Node) (c : ℕ) → length (nodeControls s n c) ≤ 10 * (c + 1)
-unfolding nodeControls
-node-few s n c = entity-few (n .entity) (part s (n .place) (endAt s (n .place))) c
+entity-few (Feature i s n) d c = let h = channels-few (suc c) 0 i n d in omega arith

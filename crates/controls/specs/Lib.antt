@@ -1,8 +1,8 @@
 pub mod Controls
 pub mod Growth
+pub mod Notes
 pub mod Counts
 pub mod Standing
 pub mod Order
 pub mod Rule
 pub mod Reader
-pub mod Examples

@@ -1,7 +1,6 @@
 -- "The table goes by entity place, channel, selector" (document 01).
 --   Pairs R l        ==  each element of l is related by R to each that stands behind it
 --   pairs-as, pairs-at ==  elements that have P, related by R, are related by S; the elements at two places are related
---   member-at        ==  what stands at a place of a list is an element
 --   Lower a b        ==  a has the lower channel, or the same channel and the lower selector
 --   Earlier ds u v   ==  in the run ds an entity with ID u stands before one with ID v
 --   Before ds a b    ==  a's entity stands earlier, or the two are of one unit and a is Lower
@@ -15,20 +14,24 @@ use native.Mathlib.Omega.{arith}
 use lib.ListN.{length, getD}
 use Rattle.ground.specs.Pick.{pick}
 use Rattle.ground.specs.Numbers.{byte}
+use Rattle.ground.specs.Lists.{member-at}
+use Rattle.graph.specs.Members.{_∈_}
 use Rattle.layout.specs.declared.Cluster.{Cluster}
 use Rattle.layout.specs.declared.Entity.{Entity}
 use Rattle.layout.specs.declared.Entity.the-variants.{Unknown, Input, Output, Mixer, Selector, Printed, Feature}
 use Rattle.layout.specs.Layout.{entityOf}
 use Rattle.layout.specs.LayoutLaws.{told}
+use Rattle.edition.specs.Edition.{ownId}
 use Rattle.table.specs.declared.Control.{Control}
 use Rattle.controls.specs.Controls.{unitControl, maskOf, bitCarries, bitControls, bitsFrom, maskControls, channelsFrom, featureControls, entityControls, controlsOf}
-use Rattle.controls.specs.Standing.{Carries, feature, selector, FromBit, bit-of, bits-of, FromUnit, of-mask, channels-of, carried, Stands, here, there, stands-of}
+use Rattle.controls.specs.Standing.{Carries, feature, selector, FromBit, bit-of, bits-of, FromUnit, of-mask, channels-of, carried, Stands, stands-of}
 
 pub data Pairs {A : Type 0} (R : A → A → Type 0) : List A → Type 0 where
   none : Pairs R []
   more : {a : A} {l : List A} → ((b : A) → List·Memᴰ b l → R a b) → Pairs R l → Pairs R (a ∷ l)
 
-pairs-append : {A : Type 0} (R : A → A → Type 0) {l m : List A} → Pairs R l → Pairs R m → ((a b : A) → List·Memᴰ a l → List·Memᴰ b m → R a b) → Pairs R (l ++ m)
+pairs-append : {A : Type 0} (R : A → A → Type 0) {l m : List A} → Pairs R l → Pairs R m
+    → ((a b : A) → List·Memᴰ a l → List·Memᴰ b m → R a b) → Pairs R (l ++ m)
 pairs-append R none q h = q
 pairs-append R {m = m} (more {a} {l} f p) q h =
     more
@@ -36,19 +39,15 @@ pairs-append R {m = m} (more {a} {l} f p) q h =
     (pairs-append R p q (λ x y i. h x y (List·Memᴰ·tail i)))
 
 -- elements that have P, related by R, are related by S
-pub pairs-as : {A : Type 0} (P : A → Type 0) (R S : A → A → Type 0) {l : List A} → ((a b : A) → P a → P b → R a b → S a b) → ((a : A) → List·Memᴰ a l → P a) → Pairs R l → Pairs S l
+pub pairs-as : {A : Type 0} (P : A → Type 0) (R S : A → A → Type 0) {l : List A} → ((a b : A) → P a → P b → R a b → S a b)
+    → ((a : A) → List·Memᴰ a l → P a) → Pairs R l → Pairs S l
 pairs-as P R S h g none = none
 pairs-as P R S h g (more f p) =
     more (λ b i. h _ b (g _ (List·Memᴰ·head refl)) (g b (List·Memᴰ·tail i)) (f b i)) (pairs-as P R S h (λ x i. g x (List·Memᴰ·tail i)) p)
 
--- what stands at a place is an element
-pub member-at : {A : Type 0} (z : A) (l : List A) (i : ℕ) → i < length l → List·Memᴰ (getD l i z) l
-member-at z [] i h = absurd (omega arith)
-member-at z (a ∷ l) zero h = List·Memᴰ·head refl
-member-at z (a ∷ l) (suc i) h = List·Memᴰ·tail (member-at z l i (omega arith))
-
 -- two elements at two places
-pub pairs-at : {A : Type 0} (R : A → A → Type 0) (z : A) {l : List A} → Pairs R l → (p q : ℕ) → p < q → q < length l → R (getD l p z) (getD l q z)
+pub pairs-at : {A : Type 0} (R : A → A → Type 0) (z : A) {l : List A} → Pairs R l
+    → (p q : ℕ) → p < q → q < length l → R (getD l p z) (getD l q z)
 pairs-at R z none p q h k = absurd (omega arith)
 pairs-at R z (more f r) p zero h k = absurd (omega arith)
 pairs-at R z (more {l = l} f r) zero (suc q) h k = f (getD l q z) (member-at z l q (omega arith))
@@ -112,10 +111,10 @@ unfolding entityControls featureControls
 entity-pairs Unknown d c = none
 entity-pairs (Input i t own) d c = none
 entity-pairs (Output i t s) d c = none
-entity-pairs (Mixer i p own l) d c = none
+entity-pairs (Mixer i p own) d c = none
 entity-pairs (Selector i p) d c = more (λ x m. absurd (List·Memᴰ·not-nil m)) none
 entity-pairs (Printed i p) d c = more (λ x m. absurd (List·Memᴰ·not-nil m)) none
-entity-pairs (Feature i s n l) d c = channels-pairs i n d (suc c) 0
+entity-pairs (Feature i s n) d c = channels-pairs i n d (suc c) 0
 
 -- the unit is the entity's ID
 carried-unit : {d : List ℕ} {c : ℕ} {x : Control} → Carries d c x → x .unit ≡ byte d 3
@@ -125,9 +124,8 @@ carried-unit (selector i) = refl
 unit-of : (d : List ℕ) (c : ℕ) (x : Control) → List·Memᴰ x (entityControls (entityOf d) d c) → x .unit ≡ byte d 3
 unit-of d c x m = carried-unit (carried d c (told d) x m)
 
-unit-among : {ds : List (List ℕ)} {cs : List Cluster} {x : Control} → Stands ds cs x → (e : List ℕ) × (List·Memᴰ e ds) × (byte e 3 ≡ x .unit)
-unit-among (here {d} h) = (d, List·Memᴰ·head refl, sym (carried-unit h))
-unit-among (there h) = let r = unit-among h in (r .0, List·Memᴰ·tail (r .1), r .2)
+unit-among : (cluster : ℕ → Cluster) {ds : List (List ℕ)} {x : Control} → Stands ds cluster x → (e : List ℕ) × e ∈ ds × (byte e 3 ≡ x .unit)
+unit-among cluster h = (h .one, h .among, sym (carried-unit (h .has)))
 
 before-more : (d : List ℕ) (ds : List (List ℕ)) (a b : Control) → Before ds a b → Before (d ∷ ds) a b
 before-more d ds a b (inl e) =
@@ -135,13 +133,15 @@ before-more d ds a b (inl e) =
 before-more d ds a b (inr h) = inr h
 
 -- THE LAW: by entity place, channel, selector
-pub controls-ordered : (ds : List (List ℕ)) (cs : List Cluster) → Pairs (Before ds) (controlsOf ds cs)
+pub controls-ordered : (cluster : ℕ → Cluster) (ds : List (List ℕ)) → Pairs (Before ds) (controlsOf ds cluster)
 unfolding controlsOf
-controls-ordered [] cs = none
-controls-ordered (d ∷ ds) [] = none
-controls-ordered (d ∷ ds) (c ∷ cs) =
+controls-ordered cluster [] = none
+controls-ordered cluster (d ∷ ds) =
     pairs-append (Before (d ∷ ds))
-    (pairs-as (λ a. a .unit ≡ byte d 3) Lower (Before (d ∷ ds)) (λ a b p q l. inr (p ∙ sym q, l)) (unit-of d (c .channels)) (entity-pairs (entityOf d) d (c .channels)))
-    (pairs-as (λ a. Control) (Before ds) (Before (d ∷ ds)) (λ a b p q l. before-more d ds a b l) (λ a m. a) (controls-ordered ds cs))
-    (λ a b i j. let r = unit-among (stands-of ds cs b j) in
-    inl (record { before = []; one = d; behind = ds; other = r .0; split = refl; among = r .1; first = sym (unit-of d (c .channels) a i); second = r .2 }))
+    (pairs-as (λ a. a .unit ≡ byte d 3) Lower (Before (d ∷ ds)) (λ a b p q l. inr (p ∙ sym q, l)) (unit-of d c) (entity-pairs (entityOf d) d c))
+    (pairs-as (λ a. Control) (Before ds) (Before (d ∷ ds)) (λ a b p q l. before-more d ds a b l) (λ a m. a) (controls-ordered cluster ds))
+    (λ a b i j. let r = unit-among cluster (stands-of cluster ds b j) in
+    inl (record { before = []; one = d; behind = ds; other = r .0; split = refl; among = r .1; first = sym (unit-of d c a i); second = r .2 }))
+  where
+    c : ℕ
+    c = cluster (ownId d) .channels

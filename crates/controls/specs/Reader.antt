@@ -1,28 +1,31 @@
 -- The reader's table, of a run with right layouts and distinct IDs that keeps rule 15.
 --   InTable t x      ==  the control x stands in the table t
---   controls-run     ==  the controls of a run as the reader has it are those of its descriptors
+--   controls-same    ==  the controls of a run as the reader has it are those of the descriptors that it stands for
 --   table-stands     ==  a control stands in the table exactly where some entity of the run carries it
 --   table-ordered    ==  of two places of the table the earlier holds the control that is Before the other
 --   reader-fresh     ==  its controls are as they are made: nothing loaded, first values, spare places zero
 use Prim.Native.Nat.{ℕ, zero, suc, _+_, _≤_, _<_}
 use mathlib.Core.Path.{_≡_, refl, sym, ap, _∙_}
 use mathlib.Core.Logic.{⊎-elim, _↔_}
-use mathlib.Core.List.{List, [], _∷_, _++_, flatten, append-assoc, List·Memᴰ, List·Memᴰ·head, List·Memᴰ·tail}
+use mathlib.Core.List.{List, [], _∷_, _++_, append-assoc, append-nil}
 use native.Mathlib.Omega.{arith}
 use lib.Dec.{ltb}
-use lib.ListN.{length, getD, drop, length-append, List·getD-eq-default}
-use lib.Seq.{getD-append-seam}
+use lib.ListN.{length, getD, take, List·getD-eq-default}
+use lib.Seq.{take-suc, take-length}
 use Rattle.ground.specs.Pick.{decided, reads-lt}
 use Rattle.ground.specs.Numbers.{byte}
-use Rattle.ground.specs.Lists.{part, pad, pad-length, pad-at, split-of}
-use Rattle.scan.specs.Cutting.{Descriptor, endAt}
-use Rattle.scan.specs.CuttingLaws.{starts-end, starts-part, starts-next}
+use Rattle.ground.specs.Lists.{pad, pad-length, pad-at, member-at, member-index}
+use Rattle.graph.specs.Members.{_∈_}
 use Rattle.layout.specs.declared.Cluster.{Cluster}
-use Rattle.layout.specs.Layout.{Pins, LaidOut, entityOf}
-use Rattle.layout.specs.Layout as layout
-use Rattle.entities.specs.declared.Node.{Node}
-use Rattle.entities.specs.Run.{mostEntities, nodeOf, nodesFrom, runIn}
-use Rattle.entities.specs.RunLaws.{run-nodes, DistinctIds}
+use Rattle.layout.specs.Layout.{Pins, LaidOut, noCluster, entityOf}
+use Rattle.layout.specs.declared.Entity.{Entity}
+use Rattle.layout.specs.LayoutLaws.{Told, told}
+use Rattle.layout.specs.LayoutLaws as laid
+use Rattle.edition.specs.Edition.{ownId, DistinctIds}
+use Rattle.edition.specs.Audio.{audio}
+use Rattle.entities.specs.declared.Run.{Run}
+use Rattle.entities.specs.Run.{nodeAt}
+use Rattle.entities.specs.Represents.{Represents}
 use Rattle.setting.specs.declared.Sort.{Sort}
 use Rattle.setting.specs.declared.Sort.the-variants.{Volume, Tone, Delay}
 use Rattle.table.specs.declared.Control.{Control}
@@ -31,27 +34,40 @@ use Rattle.table.specs.declared.Sense.{Sense}
 use Rattle.table.specs.declared.Sense.the-variants.{YesNo, Ranged}
 use Rattle.table.specs.Controls.{mostControls, blankControl, at, senseOf}
 use Rattle.table.specs.Fresh.{FreshAs, Fresh}
-use Rattle.controls.specs.Controls.{unitControl, entityControls, controlsOf, nodeControls, controlsIn, controlsOfRun}
+use Rattle.controls.specs.Controls.{unitControl, entityControls, controlsOf, nodeControls, controlsTo, controlsOfRun}
 use Rattle.controls.specs.Growth.{tableOf}
-use Rattle.controls.specs.Standing.{Carries, feature, selector, Stands, here, there, stands-of, control-stands}
-use Rattle.controls.specs.Order.{member-at, pairs-at, Before, controls-ordered}
+use Rattle.controls.specs.Standing.{Carries, feature, selector, Stands, stands-of, control-stands}
+use Rattle.controls.specs.Order.{pairs-at, Before, controls-ordered}
 use Rattle.controls.specs.Rule.{Rule15, before-other, listed-few}
 
--- the run's descriptors stand in the configuration s from place p on
-nodes-controls : (s : List ℕ) (p : ℕ) (ds : List (List ℕ)) (cs : List Cluster) (tail : List ℕ) → drop p s ≡ flatten ds ++ tail → ((d : List ℕ) → List·Memᴰ d ds → Descriptor d) → controlsIn s (nodesFrom p ds) cs ≡ controlsOf ds cs
-unfolding controlsIn controlsOf nodesFrom nodeControls nodeOf flatten
-nodes-controls s p [] cs tail e h = refl
-nodes-controls s p (d ∷ ds) [] tail e h = refl
-nodes-controls s p (d ∷ ds) (c ∷ cs) tail e h =
-    let g : drop p s ≡ d ++ (flatten ds ++ tail) = e ∙ append-assoc d (flatten ds) tail in
-    let k = h d (List·Memᴰ·head refl) in
-    let own : part s p (endAt s p) ≡ d = ap (part s p) (starts-end s p d (flatten ds ++ tail) g k) ∙ starts-part s p d (flatten ds ++ tail) g k in
-    ap (λ (x : List ℕ). entityControls (entityOf d) x (c .channels) ++ controlsIn s (nodesFrom (p + length d) ds) cs) own
-    ∙ ap (λ (l : List Control). entityControls (entityOf d) d (c .channels) ++ l) (nodes-controls s (p + length d) ds cs tail (starts-next s p d (flatten ds ++ tail) g k) (λ x m. h x (List·Memᴰ·tail m)))
+controls-append : (cluster : ℕ → Cluster) (xs ys : List (List ℕ))
+    → controlsOf (xs ++ ys) cluster ≡ controlsOf xs cluster ++ controlsOf ys cluster
+unfolding controlsOf
+controls-append cluster [] ys = refl
+controls-append cluster (d ∷ xs) ys =
+    ap (λ (l : List Control). entityControls (entityOf d) d (cluster (ownId d) .channels) ++ l) (controls-append cluster xs ys)
+    ∙ sym (append-assoc (entityControls (entityOf d) d (cluster (ownId d) .channels)) (controlsOf xs cluster) (controlsOf ys cluster))
 
-pub controls-run : (s : List ℕ) (p : ℕ) (ds : List (List ℕ)) (cs : List Cluster) (tail : List ℕ) → drop p s ≡ flatten ds ++ tail → ((d : List ℕ) → List·Memᴰ d ds → Descriptor d) → length ds ≤ mostEntities → controlsOfRun s (runIn p ds) cs ≡ controlsOf ds cs
-unfolding controlsOfRun
-controls-run s p ds cs tail e h l = ap (λ (ns : List Node). controlsIn s ns cs) (run-nodes p ds l) ∙ nodes-controls s p ds cs tail e h
+-- THE LAW: what the reader lists of its run, with clusters index by index, is what the descriptors have, with clusters by their IDs
+module _ {s : List ℕ} {p : ℕ} {ds : List (List ℕ)} {run : Run} (h : Represents audio s p ds run) (cs : List Cluster) (cluster : ℕ → Cluster)
+    (agree : (i : ℕ) → i < length ds → getD cs i noCluster ≡ cluster (ownId (getD ds i []))) where
+  controls-front : (i : ℕ) → i ≤ length ds → controlsTo i s run cs ≡ controlsOf (take i ds) cluster
+  unfolding controlsTo controlsOf
+  controls-front zero l = refl
+  controls-front (suc i) l =
+      ap (λ (x : List Control). x ++ nodeControls s (nodeAt run i) (getD cs i noCluster .channels)) (controls-front i (omega arith))
+      ∙ ap (λ (d : List ℕ). controlsOf (take i ds) cluster ++ entityControls (entityOf d) d (getD cs i noCluster .channels)) (h .bytes i l)
+      ∙ ap (λ (c : Cluster). controlsOf (take i ds) cluster ++ entityControls (entityOf (getD ds i [])) (getD ds i []) (c .channels)) (agree i l)
+      ∙ ap (λ (x : List Control). controlsOf (take i ds) cluster ++ x) (sym (append-nil (entityControls (entityOf (getD ds i [])) (getD ds i []) (cluster (ownId (getD ds i [])) .channels))))
+      ∙ sym (controls-append cluster (take i ds) (getD ds i [] ∷ []))
+      ∙ ap (λ (x : List (List ℕ)). controlsOf x cluster) (sym (take-suc ds i [] l))
+
+  pub controls-same : controlsOfRun s run cs ≡ controlsOf ds cluster
+  unfolding controlsOfRun
+  controls-same =
+      ap (λ (i : ℕ). controlsTo i s run cs) (h .counted)
+      ∙ controls-front (length ds) (omega arith)
+      ∙ ap (λ (x : List (List ℕ)). controlsOf x cluster) (take-length ds)
 
 -- what stands at a place of the table of at most 128 controls
 at-place : (l : List Control) → length l ≤ mostControls → (p : ℕ) → p < length l → at (tableOf l) p ≡ getD l p blankControl
@@ -96,12 +112,16 @@ unit-fresh yes-no u k v h = record { channel = h; pins = refl; unused = record {
 unit-fresh (ranged s) u k v h = record { channel = h; pins = refl; unused = record { unloaded = refl; min = refl; max = refl; res = refl }; first = refl }
 
 selector-pins : (d : List ℕ) → LaidOut d → byte d 2 ≡ 5 → Pins (byte d 4)
-selector-pins d (layout.input k l) e = absurd (omega arith)
-selector-pins d (layout.output k l) e = absurd (omega arith)
-selector-pins d (layout.mixer k q l) e = absurd (omega arith)
-selector-pins d (layout.selector k q l) e = q
-selector-pins d (layout.printed k q l z) e = q
-selector-pins d (layout.feature k q l) e = absurd (omega arith)
+selector-pins d o e = of (told d)
+  where
+    of : {x : Entity} → Told d x → Pins (byte d 4)
+    of (laid.unknown n) = absurd (n o)
+    of (laid.input k l) = absurd (omega arith)
+    of (laid.output k l) = absurd (omega arith)
+    of (laid.mixer k q l) = absurd (omega arith)
+    of (laid.selector k q l) = q
+    of (laid.printed k q l z) = q
+    of (laid.feature k q l) = absurd (omega arith)
 
 carried-fresh : {d : List ℕ} {c : ℕ} {x : Control} → LaidOut d → c ≤ 16 → Carries d c x → FreshAs (senseOf (x .selector)) x
 unfolding senseOf
@@ -109,51 +129,41 @@ carried-fresh {d} o h (feature k b i p q f g) = unit-fresh (known b q f) (byte d
 carried-fresh {d} o h (selector i) =
     record { channel = refl; pins = selector-pins d o i; unused = record { unloaded = refl; min = refl; max = refl; res = refl }; first = refl }
 
--- where a control's entity stands
-stands-at : (z : Cluster) {ds : List (List ℕ)} {cs : List Cluster} {x : Control} → Stands ds cs x → (i : ℕ) × (i < length ds) × Carries (getD ds i []) (getD cs i z .channels) x
-stands-at z (here h) = (0, omega arith, h)
-stands-at z (there h) = let r = stands-at z h in (suc (r .0), let l = r .1 in omega arith, r .2)
-
-module _ (ds : List (List ℕ)) (cs : List Cluster) (laid : (d : List ℕ) → List·Memᴰ d ds → LaidOut d) (distinct : DistinctIds (λ d. byte d 3) ds) (rule : Rule15 ds cs) where
+module _ (ds : List (List ℕ)) (cluster : ℕ → Cluster) (laid : (d : List ℕ) → d ∈ ds → LaidOut d)
+    (distinct : DistinctIds ds) (rule : Rule15 ds cluster) where
   abbrev listed : List Control
-  listed = controlsOf ds cs
+  listed = controlsOf ds cluster
 
   few : length listed ≤ mostControls
-  few = listed-few ds cs laid distinct .1 rule
+  few = listed-few ds cluster laid distinct .1 rule
 
   -- THE LAW: a control stands in the table exactly where some entity of the run carries it
-  pub table-stands : (x : Control) → InTable (tableOf listed) x ↔ Stands ds cs x
+  pub table-stands : (x : Control) → InTable (tableOf listed) x ↔ Stands ds cluster x
   unfolding tableOf
   table-stands x = (of, to)
     where
-      of : InTable (tableOf listed) x → Stands ds cs x
+      of : InTable (tableOf listed) x → Stands ds cluster x
       of k =
           let e : getD listed (k .place) blankControl ≡ x = sym (at-place listed few (k .place) (k .inside)) ∙ k .stands in
-          stands-of ds cs x (rw (← e) (member-at blankControl listed (k .place) (k .inside)))
+          stands-of cluster ds x (rw (← e) (member-at blankControl listed (k .place) (k .inside)))
 
-      to : Stands ds cs x → InTable (tableOf listed) x
+      to : Stands ds cluster x → InTable (tableOf listed) x
       to h =
-          let k = split-of (control-stands ds cs laid x .1 h) in
-          let a = k .0 in
-          let n : length listed ≡ length a + suc (length (k .1)) = ap length (k .2) ∙ length-append a (x ∷ k .1) in
-          record {
-            place = length a;
-            inside = omega arith;
-            stands = at-place listed few (length a) (omega arith) ∙ ap (λ (m : List Control). getD m (length a) blankControl) (k .2) ∙ getD-append-seam a x (k .1) blankControl;
-          }
+          let k = member-index blankControl (control-stands cluster ds laid x .1 h) in
+          record { place = k .0; inside = k .1; stands = at-place listed few (k .0) (k .1) ∙ k .2 }
 
   -- THE LAW: the table goes by entity place, channel, selector
   pub table-ordered : (p q : ℕ) → p < q → q < tableOf listed .count → Before ds (at (tableOf listed) p) (at (tableOf listed) q)
   unfolding tableOf
   table-ordered p q l h =
-      rw (at-place listed few p (omega arith), at-place listed few q h) (pairs-at (Before ds) blankControl (controls-ordered ds cs) p q l h)
+      rw (at-place listed few p (omega arith), at-place listed few q h) (pairs-at (Before ds) blankControl (controls-ordered cluster ds) p q l h)
 
-  -- THE THEOREM: with at most 16 channels at each place, the table is as document 01 has it at first; so refusal 30 does not turn it away
-  pub reader-fresh : (z : Cluster) → ((i : ℕ) → i < length ds → getD cs i z .channels ≤ 16) → Fresh (tableOf listed)
+  -- THE THEOREM: with at most 16 channels on each ID, the table is as document 01 has it at first; so refusal 30 does not turn it away
+  pub reader-fresh : ((d : List ℕ) → d ∈ ds → cluster (ownId d) .channels ≤ 16) → Fresh (tableOf listed)
   unfolding tableOf
-  reader-fresh z channels = record { few = few; once = λ p q l h. before-other ds distinct _ _ (table-ordered p q l h); each = each; spare = spare-place listed }
+  reader-fresh channels = record { few = few; once = λ p q l h. before-other ds distinct _ _ (table-ordered p q l h); each = each; spare = spare-place listed }
     where
       each : (p : ℕ) → p < tableOf listed .count → FreshAs (senseOf (at (tableOf listed) p .selector)) (at (tableOf listed) p)
       each p h =
-          let r = stands-at z (stands-of ds cs (getD listed p blankControl) (member-at blankControl listed p h)) in
-          rw (at-place listed few p h) (carried-fresh (laid (getD ds (r .0) []) (member-at [] ds (r .0) (r .1))) (channels (r .0) (r .1)) (r .2))
+          let r = stands-of cluster ds (getD listed p blankControl) (member-at blankControl listed p h) in
+          rw (at-place listed few p h) (carried-fresh (laid (r .one) (r .among)) (channels (r .one) (r .among)) (r .has))

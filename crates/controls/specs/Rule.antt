@@ -1,5 +1,5 @@
 -- Rule 15. Document 01, refusal 15: "more than 128 controls". Counted are the controls that stand, whoever lists them.
---   Rule15 ds cs     ==  some list of at most 128 has every control that stands
+--   Rule15 ds cluster  ==  some list of at most 128 has every control that stands
 --   pairs-fit        ==  a list whose elements are apart, each an element of another list, is no longer than that one
 --   before-other     ==  of two controls the one that is Before the other is another
 --   controls-apart   ==  no control stands twice in the reader's list, where the entities have distinct IDs
@@ -14,12 +14,12 @@ use native.Mathlib.Omega.{arith}
 use lib.ListN.{length, length-append}
 use Rattle.ground.specs.declared.Place.the-variants.{Nowhere, At}
 use Rattle.ground.specs.Pick.{reads-same, reads-le}
-use Rattle.ground.specs.Numbers.{byte}
+use Rattle.graph.specs.Members.{_∈_}
 use Rattle.ground.specs.Lists.{split-of}
 use Rattle.ground.specs.Refuse.{kept-nowhere, kept-at}
 use Rattle.layout.specs.declared.Cluster.{Cluster}
 use Rattle.layout.specs.Layout.{LaidOut}
-use Rattle.entities.specs.RunLaws.{DistinctIds}
+use Rattle.edition.specs.Edition.{ownId, DistinctIds}
 use Rattle.table.specs.declared.Control.{Control}
 use Rattle.table.specs.Controls.{mostControls}
 use Rattle.table.specs.Meaning.{Same}
@@ -28,12 +28,13 @@ use Rattle.controls.specs.Growth.{tableOf}
 use Rattle.controls.specs.Standing.{Stands, stands-of, control-stands}
 use Rattle.controls.specs.Order.{Pairs, none, more, pairs-as, Before, controls-ordered}
 
-pub record Rule15 (ds : List (List ℕ)) (cs : List Cluster) : Type 0 where
+pub record Rule15 (ds : List (List ℕ)) (cluster : ℕ → Cluster) : Type 0 where
   pub listed : List Control
   pub few : length listed ≤ mostControls
-  pub every : (x : Control) → Stands ds cs x → List·Memᴰ x listed
+  pub every : (x : Control) → Stands ds cluster x → x ∈ listed
 
-pub pairs-fit : {A : Type 0} {l : List A} (m : List A) → Pairs (λ a b. a ≡ b → ⊥) l → ((a : A) → List·Memᴰ a l → List·Memᴰ a m) → length l ≤ length m
+pub pairs-fit : {A : Type 0} {l : List A} (m : List A) → Pairs (λ a b. a ≡ b → ⊥) l
+    → ((a : A) → List·Memᴰ a l → List·Memᴰ a m) → length l ≤ length m
 pairs-fit m none h = zero-le
 pairs-fit {A} m (more {a} {l} apart p) h =
     let n : length m ≡ length (k .0) + suc (length (k .1)) = ap length (k .2) ∙ length-append (k .0) (a ∷ k .1) in
@@ -52,29 +53,29 @@ pairs-fit {A} m (more {a} {l} apart p) h =
         (λ i. ⊎-elim (λ e. absurd (n (sym e))) (λ r. Memᴰ·append-right (k .0) r) (List·Memᴰ·cases-cons i))
         (List·Memᴰ·append-cases (k .0) j)
 
-pub before-other : (ds : List (List ℕ)) → DistinctIds (λ d. byte d 3) ds → (a b : Control) → Before ds a b → Same a b → ⊥
+pub before-other : (ds : List (List ℕ)) → DistinctIds ds → (a b : Control) → Before ds a b → Same a b → ⊥
 before-other ds h a b (inl e) s = h (e .before) (e .one) (e .behind) (e .other) (e .split) (e .among) (e .first ∙ s .unit ∙ sym (e .second))
 before-other ds h a b (inr (u, inl l)) s = let c = s .channel in omega arith
 before-other ds h a b (inr (u, inr (k, l))) s = let c = s .selector in omega arith
 
-module _ (ds : List (List ℕ)) (cs : List Cluster) (laid : (d : List ℕ) → List·Memᴰ d ds → LaidOut d) (distinct : DistinctIds (λ d. byte d 3) ds) where
-  pub controls-apart : Pairs (λ a b. a ≡ b → ⊥) (controlsOf ds cs)
+module _ (ds : List (List ℕ)) (cluster : ℕ → Cluster) (laid : (d : List ℕ) → d ∈ ds → LaidOut d) (distinct : DistinctIds ds) where
+  pub controls-apart : Pairs (λ a b. a ≡ b → ⊥) (controlsOf ds cluster)
   controls-apart =
       pairs-as (λ a. Control) (Before ds) (λ a b. a ≡ b → ⊥)
       (λ a b p q l e. before-other ds distinct a b l (record { unit = ap (λ (x : Control). x .unit) e; channel = ap (λ (x : Control). x .channel) e; selector = ap (λ (x : Control). x .selector) e }))
-      (λ a m. a) (controls-ordered ds cs)
+      (λ a m. a) (controls-ordered cluster ds)
 
-  pub listed-few : (length (controlsOf ds cs) ≤ mostControls) ↔ Rule15 ds cs
+  pub listed-few : (length (controlsOf ds cluster) ≤ mostControls) ↔ Rule15 ds cluster
   listed-few = (
-    λ h. record { listed = controlsOf ds cs; few = h; every = λ x. control-stands ds cs laid x .1 },
-    λ r. let h = pairs-fit (r .listed) controls-apart (λ x m. r .every x (stands-of ds cs x m)) in let f = r .few in omega arith,
+    λ h. record { listed = controlsOf ds cluster; few = h; every = λ x. control-stands cluster ds laid x .1 },
+    λ r. let h = pairs-fit (r .listed) controls-apart (λ x m. r .every x (stands-of cluster ds x m)) in let f = r .few in omega arith,
   )
 
   module _ (p : ℕ) where
-    pub rule15-kept : (breach15 (tableOf (controlsOf ds cs) .count) p ≡ Nowhere) ↔ Rule15 ds cs
+    pub rule15-kept : (breach15 (tableOf (controlsOf ds cluster) .count) p ≡ Nowhere) ↔ Rule15 ds cluster
     unfolding breach15 tableOf
-    rule15-kept = kept-nowhere p (reads-same (reads-le (length (controlsOf ds cs)) mostControls) (listed-few .0) (listed-few .1))
+    rule15-kept = kept-nowhere p (reads-same (reads-le (length (controlsOf ds cluster)) mostControls) (listed-few .0) (listed-few .1))
 
-    pub rule15-broken : (q : ℕ) → (breach15 (tableOf (controlsOf ds cs) .count) p ≡ At q) ↔ ((q ≡ p) × (Rule15 ds cs → ⊥))
+    pub rule15-broken : (q : ℕ) → (breach15 (tableOf (controlsOf ds cluster) .count) p ≡ At q) ↔ ((q ≡ p) × (Rule15 ds cluster → ⊥))
     unfolding breach15 tableOf
-    rule15-broken q = kept-at p q (reads-same (reads-le (length (controlsOf ds cs)) mostControls) (listed-few .0) (listed-few .1))
+    rule15-broken q = kept-at p q (reads-same (reads-le (length (controlsOf ds cluster)) mostControls) (listed-few .0) (listed-few .1))

@@ -2,8 +2,9 @@
 --   SetBit m b       ==  bit b of the mask m is set, the low byte first
 --   Carries d c x    ==  the entity d, whose cluster has c channels, carries the control x: "Channel k's mask (0 is master), bit b:
 --                        control with selector b+1, for b from 0 to 9 except 5", k at most c; "Each Selector has one control"
---   Stands ds cs x   ==  some entity of the run ds, with the cluster at its place among cs, carries x
---   FromBit m u k b x, FromUnit u n d from to x  ==  x is what bit b of the mask m carries; what some channel from .. to of a Feature Unit does
+--   Stands ds cluster x  ==  some entity of the run ds, with the cluster on its ID, carries x
+--   FromBit m u k b x, FromUnit u n d from to x  ==  x is what bit b of the mask m carries; what some channel from .. to of a Feature
+--                        Unit does
 --   bit-of, bits-of, of-mask, channels-of  ==  what is listed of a bit, of bits, of a mask, of channels, is such
 --   carried          ==  what is listed of an entity, it carries
 --   stands-of        ==  what is listed of the run stands
@@ -17,11 +18,14 @@ use native.Mathlib.Omega.{arith}
 use lib.Dec.{eqb}
 use Rattle.ground.specs.Pick.{pick, Reads, shows, decided, reads-eq, reads-and, reads-not}
 use Rattle.ground.specs.Numbers.{byte}
+use Rattle.ground.specs.Lists.{Some}
+use Rattle.graph.specs.Members.{_∈_}
 use Rattle.layout.specs.declared.Cluster.{Cluster}
 use Rattle.layout.specs.declared.Entity.{Entity}
 use Rattle.layout.specs.Layout.{LaidOut, entityOf}
 use Rattle.layout.specs.LayoutLaws.{Told, told}
 use Rattle.layout.specs.LayoutLaws as laid
+use Rattle.edition.specs.Edition.{ownId}
 use Rattle.table.specs.declared.Control.{Control}
 use Rattle.controls.specs.Controls.{unitControl, selectorControl, maskOf, bitSet, bitCarries, bitControls, bitsFrom, maskControls, channelsFrom, featureControls, entityControls, controlsOf}
 
@@ -29,12 +33,12 @@ abbrev pub SetBit : List ℕ → ℕ → Type 0
 SetBit m b = byte m (b / 8) / 2 ^ (b % 8) % 2 ≡ 1
 
 pub data Carries (d : List ℕ) (c : ℕ) : Control → Type 0 where
-  feature : (k b : ℕ) → byte d 2 ≡ 6 → k ≤ c → b ≤ 9 → (b ≡ 5 → ⊥) → SetBit (maskOf d (byte d 5) k) b → Carries d c (unitControl (byte d 3) k (b + 1))
+  feature : (k b : ℕ) → byte d 2 ≡ 6 → k ≤ c → b ≤ 9 → (b ≡ 5 → ⊥) → SetBit (maskOf d (byte d 5) k) b
+      → Carries d c (unitControl (byte d 3) k (b + 1))
   selector : byte d 2 ≡ 5 → Carries d c (selectorControl (byte d 3) (byte d 4))
 
-pub data Stands : List (List ℕ) → List Cluster → Control → Type 0 where
-  here : {d : List ℕ} {ds : List (List ℕ)} {c : Cluster} {cs : List Cluster} {x : Control} → Carries d (c .channels) x → Stands (d ∷ ds) (c ∷ cs) x
-  there : {d : List ℕ} {ds : List (List ℕ)} {c : Cluster} {cs : List Cluster} {x : Control} → Stands ds cs x → Stands (d ∷ ds) (c ∷ cs) x
+abbrev pub Stands : List (List ℕ) → (ℕ → Cluster) → Control → Type 0
+Stands ds cluster x = Some (λ d. Carries d (cluster (ownId d) .channels) x) ds
 
 -- the control that a bit of a mask carries
 module _ (m : List ℕ) (u k : ℕ) where
@@ -102,7 +106,8 @@ module _ (u n : ℕ) (d : List ℕ) where
       (λ i. let r = channels-of j (k + 1) x i in record { channel = r .channel; bit = r .bit; not-before = let l = r .not-before in omega arith; not-behind = let l = r .not-behind in omega arith; known = r .known; carried = r .carried })
       (List·Memᴰ·append-cases (maskControls (maskOf d n k) u k) h)
 
-  of-channels : (j k a b : ℕ) → k ≤ a → a < k + j → b ≤ 9 → (b ≡ 5 → ⊥) → SetBit (maskOf d n a) b → List·Memᴰ (unitControl u a (b + 1)) (channelsFrom j k u n d)
+  of-channels : (j k a b : ℕ) → k ≤ a → a < k + j → b ≤ 9 → (b ≡ 5 → ⊥) → SetBit (maskOf d n a) b
+      → List·Memᴰ (unitControl u a (b + 1)) (channelsFrom j k u n d)
   unfolding channelsFrom maskControls
   of-channels zero k a b l h o f i = absurd (omega arith)
   of-channels (suc j) k a b l h o f i =
@@ -143,16 +148,25 @@ module _ (d : List ℕ) (c : ℕ) where
   carries (laid.feature k q l) o x (selector i) = absurd (omega arith)
 
 -- THE LAW: a control stands in the list exactly where some entity carries it
-pub stands-of : (ds : List (List ℕ)) (cs : List Cluster) (x : Control) → List·Memᴰ x (controlsOf ds cs) → Stands ds cs x
-unfolding controlsOf
-stands-of [] cs x m = absurd (List·Memᴰ·not-nil m)
-stands-of (d ∷ ds) [] x m = absurd (List·Memᴰ·not-nil m)
-stands-of (d ∷ ds) (c ∷ cs) x m = ⊎-elim (λ h. here (carried d (c .channels) (told d) x h)) (λ h. there (stands-of ds cs x h)) (List·Memᴰ·append-cases (entityControls (entityOf d) d (c .channels)) m)
+module _ (cluster : ℕ → Cluster) where
+  pub stands-of : (ds : List (List ℕ)) (x : Control) → x ∈ controlsOf ds cluster → Stands ds cluster x
+  unfolding controlsOf
+  stands-of [] x m = absurd (List·Memᴰ·not-nil m)
+  stands-of (d ∷ ds) x m =
+      ⊎-elim
+      (λ h. record { one = d; among = List·Memᴰ·head refl; has = carried d (cluster (ownId d) .channels) (told d) x h })
+      (λ h. let r = stands-of ds x h in record { one = r .one; among = List·Memᴰ·tail (r .among); has = r .has })
+      (List·Memᴰ·append-cases (entityControls (entityOf d) d (cluster (ownId d) .channels)) m)
 
-of-stands : (ds : List (List ℕ)) (cs : List Cluster) → ((d : List ℕ) → List·Memᴰ d ds → LaidOut d) → (x : Control) → Stands ds cs x → List·Memᴰ x (controlsOf ds cs)
-unfolding controlsOf
-of-stands (d ∷ ds) (c ∷ cs) o x (here h) = Memᴰ·append-left (controlsOf ds cs) (carries d (c .channels) (told d) (o d (List·Memᴰ·head refl)) x h)
-of-stands (d ∷ ds) (c ∷ cs) o x (there h) = Memᴰ·append-right (entityControls (entityOf d) d (c .channels)) (of-stands ds cs (λ e m. o e (List·Memᴰ·tail m)) x h)
+  of-stands : {ds : List (List ℕ)} {d : List ℕ} (x : Control) → d ∈ ds → LaidOut d → Carries d (cluster (ownId d) .channels) x
+      → x ∈ controlsOf ds cluster
+  unfolding controlsOf
+  of-stands {ds = a ∷ ds} {d} x (List·Memᴰ·head e) o h =
+      Memᴰ·append-left {s = entityControls (entityOf a) a (cluster (ownId a) .channels)} (controlsOf ds cluster)
+      (rw e at (carries d (cluster (ownId d) .channels) (told d) o x h))
+  of-stands {ds = a ∷ ds} x (List·Memᴰ·tail m) o h =
+      Memᴰ·append-right (entityControls (entityOf a) a (cluster (ownId a) .channels)) (of-stands x m o h)
 
-pub control-stands : (ds : List (List ℕ)) (cs : List Cluster) → ((d : List ℕ) → List·Memᴰ d ds → LaidOut d) → (x : Control) → List·Memᴰ x (controlsOf ds cs) ↔ Stands ds cs x
-control-stands ds cs o x = (stands-of ds cs x, of-stands ds cs o x)
+  pub control-stands : (ds : List (List ℕ)) → ((d : List ℕ) → d ∈ ds → LaidOut d)
+      → (x : Control) → x ∈ controlsOf ds cluster ↔ Stands ds cluster x
+  control-stands ds o x = (stands-of ds x, λ h. of-stands x (h .among) (o (h .one) (h .among)) (h .has))

@@ -1,67 +1,58 @@
-// Controls (document 01, "Controls and settings", first paragraph): the table of controls that the masks of the Feature Units and
-// the Selectors of a run give, and rule 15, which counts them. Each public function takes every input; of the run, the first count of
-// its 32 places are looked at. A Feature Unit's channels are its cluster's, never told by its own length.
+// Controls (document 01, "Controls and settings", first paragraph). What it promises to the layer above: for every configuration, every run
+// and every cluster of its entities, the table of controls that the masks of the Feature Units and the Selectors give, none loaded; and
+// rule 15, which counts them. A Feature Unit's channels are its cluster's, never told by its own length.
 ghost use mathlib.Core.Path.{_≡_};
 ghost use Prim.Native.Nat.{_<_};
-ghost use lib.ListN.{take};
-ghost use Rattle.controls.specs.Controls.{unitControl, selectorControl, bitSet, bitControls, maskControls, featureControls, nodeControls, controlsIn, controlsOfRun, breach15};
-ghost use Rattle.controls.specs.Growth.{added, grown, tableOf};
-use entities::Node;
+ghost use Rattle.layout.specs.Layout.{entityOf};
+ghost use Rattle.controls.specs.Controls.{freshControl, maskOf, bitSet, bitControls, maskControls, featureControls};
+ghost use Rattle.controls.specs.Controls.{entityControls, controlsOfRun, breach15};
+ghost use Rattle.controls.specs.Growth.{added, tableOf};
+ghost use Rattle.controls.specs.Notes.{controlFrom, tableBy, tableFrom, Grows, Come, Room};
 use entities::Run;
 use ground::Place;
 use groups::stretch;
 use layout::Cluster;
 use layout::Entity;
 use scan::byte_at;
+use scan::word_at;
 use table::Control;
 use table::Table;
 
-// A Feature Unit's control: not loaded, its numbers zero.
-fn unit_control(unit: u8, channel: u8, selector: u8) -> Control
-    ensures { λ r. ⌜ r ≡ unitControl unit channel selector ⌝ }
+// What is kept of a control until the table is made: its unit, channel, selector, pins and first value, a byte each, the unit lowest.
+fn note_of(unit: u8, channel: u8, selector: u8, pins: u8, first: u8) -> u64
+    ensures { λ r. ⌜ controlFrom r ≡ freshControl unit channel selector pins first ⌝ }
+{
+    let above = pins as u64 + 256 * first as u64;
+    unit as u64 + 256 * (channel as u64 + 256 * (selector as u64 + 256 * above))
+}
+
+// The control of a note: not loaded, and its numbers zero but the first value.
+fn control_from(note: u64) -> Control
+    ensures { λ r. ⌜ r ≡ controlFrom note ⌝ }
 {
     Control {
-        unit,
-        channel,
-        selector,
-        pins: 0,
+        unit: (note % 256) as u8,
+        channel: (note / 256 % 256) as u8,
+        selector: (note / 256 / 256 % 256) as u8,
+        pins: (note / 256 / 256 / 256 % 256) as u8,
         loaded: false,
         min: 0,
         max: 0,
         res: 0,
-        cur: 0,
+        cur: (note / 256 / 256 / 256 / 256 % 256) as u16,
     }
 }
 
-// A Selector's control: its value is a pin, at first 1.
-fn selector_control(unit: u8, pins: u8) -> Control
-    ensures { λ r. ⌜ r ≡ selectorControl unit pins ⌝ }
+// One note more; past the last place it is counted only.
+fn add(notes: &mut [u64; table::CONTROLS], count: usize, note: u64) -> usize
+    requires { ⌜ Room (tableBy (now notes) count) 1000000 ⌝ }
+    ensures { λ r. ⌜ tableBy (now (notes .exit)) r ≡ added (tableBy (now (notes .entry)) count) (controlFrom note) ⌝ }
 {
-    Control {
-        unit,
-        channel: 0,
-        selector: 0,
-        pins,
-        loaded: false,
-        min: 0,
-        max: 0,
-        res: 0,
-        cur: 1,
+    if table::CONTROLS <= count {
+        return count + 1;
     }
-}
-
-// The table with one control more; past the last place it is counted only.
-fn add(table: Table, control: Control) -> Table
-    requires { ⌜ table .count < 1000000 ⌝ }
-    ensures { λ r. ⌜ r ≡ added table control ⌝ }
-{
-    let count = table.count;
-    let kept = table::put(table, count, control);
-    let controls = kept.controls;
-    Table {
-        count: count + 1,
-        controls,
-    }
+    notes[count] = note;
+    count + 1
 }
 
 // Bit b of a mask, the low byte first.
@@ -73,107 +64,132 @@ fn has_bit(mask: &[u8], bit: u8) -> bool
 }
 
 // The control that a bit of a channel's mask carries; bit 5 carries none.
-fn add_bit(table: Table, mask: &[u8], unit: u8, channel: u8, bit: u8) -> Table
-    requires { ⌜ (table .count < 1000000) × (bit < 10) ⌝ }
-    ensures { λ r. ⌜ r ≡ grown table (bitControls (now (mask .entry)) unit channel bit) ⌝ }
+fn add_bit(
+    notes: &mut [u64; table::CONTROLS],
+    count: usize,
+    mask: &[u8],
+    unit: u8,
+    channel: u8,
+    bit: u8,
+) -> usize
+    requires { ⌜ Room (tableBy (now notes) count) 1000000 ⌝ }
+    requires { ⌜ bit < 10 ⌝ }
+    ensures { λ r. ⌜ Grows (now (notes .entry)) count (bitControls (now (mask .entry)) unit channel bit) (now (notes .exit)) r ⌝ }
 {
     if bit == 5 {
-        return table;
+        return count;
     }
     if !has_bit(mask, bit) {
-        return table;
+        return count;
     }
-    add(table, unit_control(unit, channel, bit + 1))
+    add(notes, count, note_of(unit, channel, bit + 1, 0, 0))
 }
 
-// The controls that a channel's mask carries.
-fn add_mask(table: Table, mask: &[u8], unit: u8, channel: u8) -> Table
-    requires { ⌜ table .count < 990000 ⌝ }
-    ensures { λ r. ⌜ r ≡ grown table (maskControls (now (mask .entry)) unit channel) ⌝ }
+// The controls that a channel's mask carries; where its first two bytes are 0, which have all ten bits, none.
+fn add_mask(
+    notes: &mut [u64; table::CONTROLS],
+    count: usize,
+    mask: &[u8],
+    unit: u8,
+    channel: u8,
+) -> usize
+    requires { ⌜ Room (tableBy (now notes) count) 990000 ⌝ }
+    ensures { λ r. ⌜ Grows (now (notes .entry)) count (maskControls (now (mask .entry)) unit channel) (now (notes .exit)) r ⌝ }
 {
-    let mut held = table;
+    if word_at(mask, 0) == 0 {
+        return count;
+    }
+    let mut made = count;
     let mut bit: u8 = 0;
     while bit < 10 {
-        let next = add_bit(held, mask, unit, channel, bit);
-        held = next;
+        let more = add_bit(notes, made, mask, unit, channel, bit);
+        made = more;
         bit += 1;
     }
-    held
+    made
+}
+
+// A channel's mask in a Feature Unit of this control size: masks of so many bytes stand from 6 on.
+fn mask_of(d: &[u8], size: u8, channel: u8) -> &[u8]
+    ensures { λ r. ⌜ now r ≡ maskOf (now (d .entry)) size channel ⌝ }
+{
+    let at = 6 + channel as usize * size as usize;
+    stretch(d, at, at + size as usize)
 }
 
 // The controls of a Feature Unit: channel 0 is master, and one for each channel of its cluster.
-fn add_unit(table: Table, d: &[u8], unit: u8, size: u8, channels: u8) -> Table
-    requires { ⌜ table .count < 900000 ⌝ }
-    ensures { λ r. ⌜ r ≡ grown table (featureControls unit size channels (now (d .entry))) ⌝ }
+fn add_unit(
+    notes: &mut [u64; table::CONTROLS],
+    count: usize,
+    d: &[u8],
+    unit: u8,
+    size: u8,
+    channels: u8,
+) -> usize
+    requires { ⌜ Room (tableBy (now notes) count) 900000 ⌝ }
+    ensures { λ r. ⌜ Grows (now (notes .entry)) count (featureControls unit size channels (now (d .entry))) (now (notes .exit)) r ⌝ }
 {
-    let mut held = table;
+    let mut made = count;
     let mut channel: usize = 0;
     while channel <= channels as usize {
-        let at = 6 + channel * size as usize;
-        let next = add_mask(
-            held,
-            stretch(d, at, at + size as usize),
-            unit,
-            channel as u8,
-        );
-        held = next;
+        let mask = mask_of(d, size, channel as u8);
+        let more = add_mask(notes, made, mask, unit, channel as u8);
+        made = more;
         channel += 1;
     }
-    held
+    made
 }
 
-// The controls of an entity with these channels.
-fn add_entity(table: Table, config: &[u8], node: Node, channels: u8) -> Table
-    requires { ⌜ table .count < 900000 ⌝ }
-    ensures { λ r. ⌜ r ≡ grown table (nodeControls (now (config .entry)) node channels) ⌝ }
+// The controls of the entity with this descriptor and these channels.
+fn add_entity(notes: &mut [u64; table::CONTROLS], count: usize, d: &[u8], channels: u8) -> usize
+    requires { ⌜ Room (tableBy (now notes) count) 900000 ⌝ }
+    ensures { λ r. ⌜ Come (now (notes .entry)) count (entityControls (entityOf (now (d .entry))) (now (d .entry)) channels) 2560 (now (notes .exit)) r ⌝ }
 {
-    let entity = node.entity;
-    let place = node.place;
+    let entity = layout::read(d);
     match entity {
-        Entity::Unknown => table,
-        Entity::Input { .. } => table,
-        Entity::Output { .. } => table,
-        Entity::Mixer { .. } => table,
-        Entity::Selector { id, pins } => add(table, selector_control(id, pins)),
-        Entity::Printed { id, pins } => add(table, selector_control(id, pins)),
-        Entity::Feature { id, size, .. } => {
-            let end = scan::end_of(config, place);
-            add_unit(table, stretch(config, place, end), id, size, channels)
-        }
+        Entity::Unknown => count,
+        Entity::Input { .. } => count,
+        Entity::Output { .. } => count,
+        Entity::Mixer { .. } => count,
+        Entity::Selector { id, pins } => add(notes, count, note_of(id, 0, 0, pins, 1)),
+        Entity::Printed { id, pins } => add(notes, count, note_of(id, 0, 0, pins, 1)),
+        Entity::Feature { id, size, .. } => add_unit(notes, count, d, id, size, channels),
     }
 }
 
-fn channels_of(cluster: Cluster) -> u8
-    ensures { λ r. ⌜ r ≡ cluster .channels ⌝ }
+// The table of the counted notes, as many as it has places for.
+fn table_of(notes: &[u64; table::CONTROLS], count: usize) -> Table
+    requires { ⌜ Room (tableBy (now notes) count) 900000 ⌝ }
+    ensures { λ r. ⌜ r ≡ tableFrom (now (notes .entry)) count ⌝ }
 {
-    cluster.channels
-}
-
-// The controls of the first count places.
-fn controls_among(config: &[u8], nodes: [Node; 32], count: usize, clusters: [Cluster; 32]) -> Table
-    ensures { λ r. ⌜ r ≡ tableOf (controlsIn (now (config .entry)) (take count nodes) clusters) ⌝ }
-{
-    let mut held = table::empty();
+    let spare = control_from(0);
+    let mut controls = [spare; table::CONTROLS];
     let mut i: usize = 0;
-    while i < entities::MOST_ENTITIES {
+    while i < table::CONTROLS {
         if count <= i {
-            return held;
+            return Table { count, controls };
         }
-        let node = nodes[i];
-        let channels = channels_of(clusters[i]);
-        let next = add_entity(held, config, node, channels);
-        held = next;
+        controls[i] = control_from(notes[i]);
         i += 1;
     }
-    held
+    Table { count, controls }
 }
 
 // The table of controls of a run, none loaded. It counts every control and holds the first 128 of them.
 pub fn read_controls(config: &[u8], run: Run, clusters: [Cluster; 32]) -> Table
     ensures { λ r. ⌜ r ≡ tableOf (controlsOfRun (now (config .entry)) run clusters) ⌝ }
 {
-    let nodes = run.nodes;
-    controls_among(config, nodes, run.count, clusters)
+    let n = entities::count(run);
+    let mut notes = [0u64; table::CONTROLS];
+    let mut count: usize = 0;
+    let mut i: usize = 0;
+    while i < n {
+        let d = scan::descriptor_at(config, run.nodes[i].place);
+        let more = add_entity(&mut notes, count, d, clusters[i].channels);
+        count = more;
+        i += 1;
+    }
+    table_of(&notes, count)
 }
 
 // Rule 15: at most 128 controls; the place is the header's.

@@ -1,27 +1,33 @@
 -- The rules 8 and 9, and all nine together: what a configuration is that the cutting layer does not refuse, and what each refusal says.
 --   Rule8 run     ==  there are 1 to 32 entities
---   Rule9 run     ==  each entity has its kind's layout
+--   Rule9 ed run  ==  each entity has one of the layouts of the edition ed
 --   Opened s      ==  the rules 1 to 4 are kept by a cutting of s, in which the AudioControl interface stands
 --   headerPlace o ==  where the header should stand: 9 bytes behind the place of the AudioControl interface
---   Kept s        ==  besides, the header, the run, the group's other descriptors and the next group keep the rules 5 to 9
---   Refused s n p ==  every rule before n is kept, n is not, and p is the place that document 01 gives
+--   Kept s        ==  besides, the header, the run, the group's other descriptors and the next group keep the rules 5 to 9, by the Audio 1.0
+--                     edition
+--   Opening ds    ==  rule 4 is kept by the cutting ds, and the AudioControl interface stands in it; opened: with the rules 1 to 3 before it
+--   BrokenAt q K p  ==  the rule K is broken, and p is its one place q
+--   cuttingRows s behind  ==  the rows 1 to 9 of the papers' table, and behind them what may speak of all nine kept; groupRows: 5 to 9
 use Prim.Native.Nat.{ℕ, _+_, _≤_}
 use mathlib.Core.Path.{_≡_}
-use mathlib.Core.List.{List, _∷_, _++_, List·Memᴰ}
+use mathlib.Core.List.{List, _∷_, _++_}
 use lib.ListN.{length}
 use Rattle.ground.specs.Lists.{total}
 use Rattle.ground.specs.First.{Breaks}
-use Rattle.scan.specs.Cutting.{Cutting, Misfit}
+use Rattle.ground.specs.Rows.{Rows, row}
+use Rattle.scan.specs.Cutting.{Cutting, Rule3, Misfit}
 use Rattle.scan.specs.Want.{Audio}
-use Rattle.layout.specs.Layout.{LaidOut}
+use Rattle.graph.specs.Members.{_∈_}
+use Rattle.edition.specs.Edition.{Edition}
+use Rattle.edition.specs.Audio.{audio}
 use Rattle.entities.specs.Run.{mostEntities}
 use Rattle.groups.specs.Rules.{Rule1, Rule2, Rule4, Broken4, Rule5, listedOf, Rule6, Rule7}
 
 abbrev pub Rule8 : List (List ℕ) → Type 0
 Rule8 run = (1 ≤ length run) × (length run ≤ mostEntities)
 
-abbrev pub Rule9 : List (List ℕ) → Type 0
-Rule9 run = (d : List ℕ) → List·Memᴰ d run → LaidOut d
+abbrev pub Rule9 : Edition → List (List ℕ) → Type 0
+Rule9 ed run = (d : List ℕ) → d ∈ run → ed .LaidOut d
 
 pub record Opened (s : List ℕ) : Type 0 where
   pub rule1 : Rule1 s
@@ -38,21 +44,54 @@ pub record Opened (s : List ℕ) : Type 0 where
 abbrev pub headerPlace : {s : List ℕ} → Opened s → ℕ
 headerPlace o = total (o .before) + 9
 
+-- the rule 4, and where the AudioControl interface stands
+pub record Opening (ds : List (List ℕ)) : Type 0 where
+  pub rule4 : Rule4 ds
+  pub before : List (List ℕ)
+  pub control : List ℕ
+  pub tail : List (List ℕ)
+  pub split : ds ≡ before ++ control ∷ tail
+  pub is-control : Audio 1 control
+
 pub record Kept (s : List ℕ) : Type 0 where
   pub opened : Opened s
   pub rule5 : Rule5 (opened .tail)
   pub rule6 : Rule6 (rule5 .header) (rule5 .others)
   pub rule7 : Rule7 (opened .descriptors) (listedOf (rule5 .header))
   pub rule8 : Rule8 (rule6 .run)
-  pub rule9 : Rule9 (rule6 .run)
+  pub rule9 : Rule9 audio (rule6 .run)
 
-pub data Refused (s : List ℕ) : ℕ → ℕ → Type 0 where
-  by1 : (Rule1 s → ⊥) → Refused s 1 0
-  by2 : Rule1 s → (Rule2 s → ⊥) → Refused s 2 0
-  by3 : {p : ℕ} → Rule1 s → Rule2 s → Misfit s p → Refused s 3 p
-  by4 : {p : ℕ} {ds : List (List ℕ)} → Rule1 s → Rule2 s → Cutting s ds → Broken4 s ds p → Refused s 4 p
-  by5 : {p : ℕ} (o : Opened s) → (Rule5 (o .tail) → ⊥) → p ≡ headerPlace o → Refused s 5 p
-  by6 : {p : ℕ} (o : Opened s) (h : Rule5 (o .tail)) → (Rule6 (h .header) (h .others) → ⊥) → p ≡ headerPlace o → Refused s 6 p
-  by7 : {p : ℕ} (o : Opened s) (h : Rule5 (o .tail)) → Rule6 (h .header) (h .others) → (Rule7 (o .descriptors) (listedOf (h .header)) → ⊥) → p ≡ headerPlace o → Refused s 7 p
-  by8 : {p : ℕ} (o : Opened s) (h : Rule5 (o .tail)) (t : Rule6 (h .header) (h .others)) → Rule7 (o .descriptors) (listedOf (h .header)) → (Rule8 (t .run) → ⊥) → p ≡ headerPlace o → Refused s 8 p
-  by9 : {p : ℕ} (o : Opened s) (h : Rule5 (o .tail)) (t : Rule6 (h .header) (h .others)) → Rule7 (o .descriptors) (listedOf (h .header)) → Rule8 (t .run) → Breaks (λ b d. LaidOut d → ⊥) (headerPlace o + length (h .header)) (t .run) p → Refused s 9 p
+abbrev pub opened : {s : List ℕ} → Rule1 s → Rule2 s → (c : Rule3 s) → Opening (c .0) → Opened s
+opened a b c o = record {
+  rule1 = a;
+  rule2 = b;
+  descriptors = c .0;
+  rule3 = c .1;
+  rule4 = o .rule4;
+  before = o .before;
+  control = o .control;
+  tail = o .tail;
+  split = o .split;
+  is-control = o .is-control;
+}
+
+-- a rule whose breach has one place
+abbrev pub BrokenAt : ℕ → Type 0 → ℕ → Type 0
+BrokenAt q K p = (p ≡ q) × (K → ⊥)
+
+-- the rules 5 to 9, in the AudioControl group
+abbrev pub groupRows : {s : List ℕ} (o : Opened s) → (Kept s → Rows) → Rows
+groupRows o behind =
+    row 5 (Rule5 (o .tail)) (BrokenAt (headerPlace o) (Rule5 (o .tail))) (λ h.
+    row 6 (Rule6 (h .header) (h .others)) (BrokenAt (headerPlace o) (Rule6 (h .header) (h .others))) (λ t.
+    row 7 (Rule7 (o .descriptors) (listedOf (h .header))) (BrokenAt (headerPlace o) (Rule7 (o .descriptors) (listedOf (h .header)))) (λ c.
+    row 8 (Rule8 (t .run)) (BrokenAt (headerPlace o) (Rule8 (t .run))) (λ m.
+    row 9 (Rule9 audio (t .run)) (Breaks (λ b d. audio .LaidOut d → ⊥) (headerPlace o + length (h .header)) (t .run)) (λ l.
+    behind (record { opened = o; rule5 = h; rule6 = t; rule7 = c; rule8 = m; rule9 = l }))))))
+
+abbrev pub cuttingRows : (s : List ℕ) → (Kept s → Rows) → Rows
+cuttingRows s behind =
+    row 1 (Rule1 s) (BrokenAt 0 (Rule1 s)) (λ a.
+    row 2 (Rule2 s) (BrokenAt 0 (Rule2 s)) (λ b.
+    row 3 (Rule3 s) (Misfit s) (λ c.
+    row 4 (Opening (c .0)) (Broken4 s (c .0)) (λ o. groupRows (opened a b c o) behind))))

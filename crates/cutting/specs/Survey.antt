@@ -8,8 +8,7 @@
 --   surveyed s f            ==  the survey where nothing is refused: the AudioControl number, the header's place and the entities
 --   surveyOf s              ==  the survey of s: surveyed, or refused by the verdict
 -- In the order of the reader's steps:
---   runRefused s from n h   ==  the refusal by rules 8 and 9 of a run of n descriptors from place from on, the header at h; s is the
---                               configuration up to the run's end
+--   runRefused n w h        ==  the refusal by rules 8 and 9 of a run of n descriptors whose first wrong layout stands at w, the header at h
 --   runSurvey s f           ==  the survey of a configuration s that keeps the rules 1 to 7
 use Prim.Native.Nat.{ℕ, _+_}
 use mathlib.Core.List.{List, []}
@@ -23,11 +22,13 @@ use Rattle.ground.specs.Refuse.{none, refuse, keptAt}
 use Rattle.scan.specs.Cutting.{rest}
 use Rattle.scan.specs.Search.{searched}
 use Rattle.layout.specs.Layout.{entityOf, isUnknown}
+use Rattle.edition.specs.Audio.{audio}
 use Rattle.entities.specs.Run.{mostEntities, runIn}
 use Rattle.groups.specs.declared.Frame.{Frame}
 use Rattle.groups.specs.Reading.{frameOf, judged}
 use Rattle.cutting.specs.declared.Survey.{Survey}
 
+-- the run is read in the configuration up to its end, so that a search in it stops with the run
 unfoldable pub runOf : List ℕ → Frame → List (List ℕ)
 runOf s f = rest (take (f .end) s) (f .run)
 
@@ -47,14 +48,13 @@ unfoldable pub verdict : List ℕ → Refusal
 verdict s = verdictThen s none
 
 unfoldable pub refusedSurvey : Refusal → Survey
-refusedSurvey r = record { refusal = r; control = 0; header = 0; run = runIn 0 [] }
+refusedSurvey r = record { refusal = r; control = 0; header = 0; run = runIn audio 0 [] }
 
 unfoldable pub surveyed : List ℕ → Frame → Survey
-surveyed s f = record { refusal = none; control = byte s (f .control + 2); header = f .header; run = runIn (f .run) (runOf s f) }
+surveyed s f = record { refusal = none; control = byte s (f .control + 2); header = f .header; run = runIn audio (f .run) (runOf s f) }
 
--- s is the configuration up to the run's end, so that a search in it stops with the run
-unfoldable pub runRefused : List ℕ → ℕ → ℕ → ℕ → Refusal
-runRefused s from count header = refuse 8 (keptAt (within 1 count mostEntities) header) (refuse 9 (searched (λ b d. isUnknown (entityOf d)) s from) none)
+unfoldable pub runRefused : ℕ → Place → ℕ → Refusal
+runRefused count wrong header = refuse 8 (keptAt (within 1 count mostEntities) header) (refuse 9 wrong none)
 
 unfoldable pub runSurvey : List ℕ → Frame → Survey
 runSurvey s f = pick (eqb (runJudged s f none .number) 0) (surveyed s f) (refusedSurvey (runJudged s f none))

@@ -1,9 +1,7 @@
 // Layer 1, cutting. What it promises to the layer above: a configuration is refused by the rules 1 to 9 of document 01, with number
 // and place, exactly where it breaks one of them; or it is surveyed: the AudioControl number, where the header stands, how many
-// entities there are, where each stands, what it is, and its sources.
+// entities there are, where each stands, its ID, whether it may be a source, and where its own source IDs stand.
 ghost use mathlib.Core.Path.{_≡_};
-ghost use Rattle.scan.specs.Search.{searched};
-ghost use Rattle.layout.specs.Layout.{entityOf, isUnknown};
 ghost use Prim.Native.Nat.{_+_};
 ghost use Rattle.ground.specs.Numbers.{byte};
 ghost use Rattle.cutting.specs.Survey.{runRefused, refusedSurvey, runSurvey, surveyOf};
@@ -11,7 +9,6 @@ use entities::Run;
 use ground::Place;
 use ground::Refusal;
 use groups::Frame;
-use layout::Entity;
 
 // What stands in a configuration that the rules 1 to 9 do not refuse; where they do, the refusal and nothing else.
 pub struct Survey {
@@ -21,38 +18,9 @@ pub struct Survey {
     pub run: Run,
 }
 
-// Whether a descriptor's layout is wrong.
-fn is_unknown(d: &[u8]) -> bool
-    ensures { λ r. ⌜ r ≡ isUnknown (entityOf (now (d .entry))) ⌝ }
-{
-    let entity = layout::read(d);
-    if let Entity::Unknown = entity {
-        true
-    } else {
-        false
-    }
-}
-
-// The first descriptor from a place on whose layout is wrong.
-fn first_wrong_layout(s: &[u8], from: usize) -> Place
-    ensures { λ r. ⌜ r ≡ searched (λ b d. isUnknown (entityOf d)) (now (s .entry)) from ⌝ }
-{
-    let mut at = from;
-    loop {
-        let e = scan::end_of(s, at);
-        if e == at {
-            return Place::Nowhere;
-        }
-        if is_unknown(&s[at..e]) {
-            return Place::At(at);
-        }
-        at = e;
-    }
-}
-
-// Rules 8 and 9 of the run that stands in s from a place on, count descriptors long, behind the header.
-fn judge_run(s: &[u8], from: usize, count: usize, header: usize) -> Refusal
-    ensures { λ r. ⌜ r ≡ runRefused (now (s .entry)) from count header ⌝ }
+// Rules 8 and 9 of a run that is count descriptors long, behind the header; wrong is the place of its first wrong layout.
+fn judge_run(count: usize, wrong: Place, header: usize) -> Refusal
+    ensures { λ r. ⌜ r ≡ runRefused count wrong header ⌝ }
 {
     if count < 1 {
         return Refusal {
@@ -66,7 +34,6 @@ fn judge_run(s: &[u8], from: usize, count: usize, header: usize) -> Refusal
             place: header,
         };
     }
-    let wrong = first_wrong_layout(s, from);
     match wrong {
         Place::At(place) => Refusal { number: 9, place },
         Place::Nowhere => Refusal {
@@ -99,11 +66,13 @@ fn survey_run(config: &[u8], f: Frame) -> Survey
     let header = f.header;
     let from = f.run;
     let s = groups::stretch(config, 0, f.end);
-    let run = entities::read_run(s, from);
-    let verdict = judge_run(s, from, run.count, header);
+    let walk = entities::read_run(s, from);
+    let wrong = walk.wrong;
+    let verdict = judge_run(walk.run.count, wrong, header);
     if verdict.number != 0 {
         return refused(verdict);
     }
+    let run = walk.run;
     Survey {
         refusal: verdict,
         control: number_of(config, f.control),
@@ -126,9 +95,10 @@ fn number_of(config: &[u8], at: usize) -> u8
 pub fn cut(config: &[u8]) -> Survey
     ensures { λ r. ⌜ r ≡ surveyOf (now (config .entry)) ⌝ }
 {
-    let verdict = groups::judge(config);
+    let framing = groups::framed(config);
+    let verdict = framing.refusal;
     if verdict.number != 0 {
         return refused(verdict);
     }
-    survey_run(config, groups::frame_of(config))
+    survey_run(config, framing.frame)
 }

@@ -21,34 +21,35 @@ use Rattle.ground.specs.Lists.{total, any, pad}
 use Rattle.scan.specs.Cutting.{endAt, restFrom, rest, reach, breach3}
 use Rattle.scan.specs.Search.{searched}
 use Rattle.scan.specs.Want.{isInterface, isClass, isAudio, isSetting, isMember, wants, foundFrom}
-use Rattle.layout.specs.Layout.{inputOf, outputOf, mixerOf, selectorOf, featureOf, entityOf, kindOf, idOf, isUnknown}
-use Rattle.layout.specs.Sources.{sourceList, pinsOf, sourcesIn, sourcesOf}
+use Rattle.layout.specs.Layout.{entityOf, kindOf, isUnknown}
+use Rattle.layout.specs.Sources.{pinsOf, sourcesFrom, feedsOf}
 use Rattle.entities.specs.Run.{nodeOf, nodesFrom, blankNode, runIn}
 use Rattle.groups.specs.Reading.{breach1, breach2, wrongInterface, breach4, runEnd, frameFrom, frameOf, opens, isHeader, breach5, straysFrom, breach6, isDistinct, allKnown, unlisted, collects, breach7, groupJudged}
 use Rattle.groups.specs.Reading as groups
 use Rattle.cutting.specs.Survey.{runOf, breach8, breach9, verdictThen, verdict, refusedSurvey, surveyed, surveyOf}
 use Rattle.cutting.specs.Survey as cutting
-use Rattle.graph.specs.Members.{all}
-use Rattle.graph.specs.Rounds.{nextRound, roundsOf}
+use Rattle.graph.specs.Members.{all, mem}
+use Rattle.graph.specs.Passes.{joins, step, passFrom, passes}
+use Rattle.graph.specs.Along.{put, given}
 use Rattle.graph.specs.Tables.{tabulateFrom}
-use Rattle.sources.specs.Pins.{isOutput}
-use Rattle.ground.specs.Places.{firstIn}
-use Rattle.sources.specs.Lookup.{lookupBelow, indexOf, placeOf, linkOf, linksOf}
-use Rattle.sources.specs.Rules.{wrongId, breach10, noOutput, wrongSource, wrongSources, breach11}
-use Rattle.ranks.specs.Rules.{settledIn, breach12}
-use Rattle.clusters.specs.Edition.{clustersAt, clustersOf, keepsAt, breach13}
-use Rattle.clusters.specs.Audio.{firstOf, channelsIn, giveOut, mixerLength, featureLength, alike, alikeIn, mixerKept, featureKept, keeps}
+use Rattle.ground.specs.Places.{firstIn, somewhere}
+use Rattle.sources.specs.Lookup.{lookupBelow, sourceNumber}
+use Rattle.sources.specs.Breaches.{wrongId, breach10, wrongSource, breach11}
+use Rattle.ranks.specs.Order.{ordered}
+use Rattle.ranks.specs.Breach.{breach12}
+use Rattle.clusters.specs.Sweep.{givesBy, givenIn, keepsBy, breach13, clustersOf}
+use Rattle.edition.specs.Audio.{firstOf, channelsIn, giveOut, mixerLength, featureLength, alike, alikeIn, mixerKept, featureKept, keeps}
 use Rattle.channels.specs.Declared.{clusterKept, namesKept}
 use Rattle.channels.specs.Cases.{cluster}
 use Rattle.connections.specs.Judgement.{judged}
-use Rattle.streaming.specs.Terminals.{terminalOf, terminalsIn, terminalsOf, bearerIn}
-use Rattle.streaming.specs.Tests.{opensAs, isGeneral, isFormat, samplesRight, ratesRight, isTypeOne, formatRight, bearerRight, describedBy, holdsClass, broken, wrongStream, breach14}
-use Rattle.controls.specs.Controls.{bitCarries, bitSet, bitControls, bitsFrom, maskControls, channelsFrom, featureControls, entityControls, nodeControls, controlsIn, controlsOfRun, breach15}
+use Rattle.streaming.specs.Terminals.{terminalOf, terminalsFrom, terminalsOf, bearerIn, terminalNumber, channelsOf}
+use Rattle.streaming.specs.Tests.{opensAs, isGeneral, isFormat, samplesRight, ratesRight, isTypeOne, formatRight, bearerRight, describedBy, holdsClass, broken, wrongStream, firstBroken, breach14}
+use Rattle.controls.specs.Controls.{bitCarries, bitSet, bitControls, bitsFrom, maskControls, channelsFrom, featureControls, entityControls, controlsTo, controlsOfRun, breach15}
 use Rattle.controls.specs.Growth.{tableOf}
 use Rattle.records.specs.Records.{headOf, recordOf, recordsTo, roomFor, shownIn}
 use lib.IntN.{pos}
 use Rattle.setting.specs.Cases.{minus, found, volume, bass, cases-hold}
-use Rattle.topology.specs.Reading.{restJudged, runJudged, surveyJudged, verdictOf, refusedReading, takenReading, readingOf, sheetOf}
+use Rattle.topology.specs.Reading.{restJudged, surveyJudged, judgedThen, roomJudged, verdictOf, refusedReading, takenReading, readingOf, sheetOf}
 use Rattle.runs.proofs.Case.{caseTable}
 
 unfoldable pub caseA : List ℕ
@@ -122,7 +123,7 @@ record Computed : Type 0 where
   other : AnswerB
 
 computed : Computed
-unfolding caseA caseB refuse placeOr firstFrom isBefore total any pad endAt restFrom rest reach breach3 searched isInterface isClass isAudio isSetting isMember wants foundFrom inputOf outputOf mixerOf selectorOf featureOf entityOf kindOf idOf isUnknown sourceList pinsOf sourcesIn sourcesOf nodeOf nodesFrom blankNode runIn breach1 breach2 wrongInterface breach4 runEnd frameFrom frameOf opens isHeader breach5 straysFrom breach6 isDistinct allKnown unlisted collects breach7 groupJudged groups.judged runOf breach8 breach9 verdictThen verdict cutting.runJudged refusedSurvey surveyed surveyOf all nextRound roundsOf tabulateFrom isOutput firstIn lookupBelow indexOf placeOf linkOf linksOf wrongId breach10 noOutput wrongSource wrongSources breach11 settledIn breach12 clustersAt clustersOf keepsAt breach13 firstOf channelsIn giveOut mixerLength featureLength alike alikeIn mixerKept featureKept keeps clusterKept namesKept ones onesIn judged terminalOf terminalsIn terminalsOf bearerIn opensAs isGeneral isFormat samplesRight ratesRight isTypeOne formatRight bearerRight describedBy holdsClass broken wrongStream breach14 bitSet bitControls bitsFrom maskControls channelsFrom featureControls entityControls nodeControls controlsIn controlsOfRun breach15 tableOf headOf recordOf recordsTo roomFor shownIn restJudged runJudged surveyJudged verdictOf refusedReading takenReading readingOf sheetOf bitCarries
+unfolding caseA caseB refuse placeOr firstFrom isBefore total any pad endAt restFrom rest reach breach3 searched isInterface isClass isAudio isSetting isMember wants foundFrom entityOf kindOf isUnknown pinsOf sourcesFrom feedsOf nodeOf nodesFrom blankNode runIn breach1 breach2 wrongInterface breach4 runEnd frameFrom frameOf opens isHeader breach5 straysFrom breach6 isDistinct allKnown unlisted collects breach7 groupJudged groups.judged runOf breach8 breach9 verdictThen verdict cutting.runJudged refusedSurvey surveyed surveyOf all mem joins step passFrom passes put given tabulateFrom firstIn somewhere lookupBelow sourceNumber wrongId breach10 wrongSource breach11 ordered breach12 givesBy givenIn keepsBy breach13 clustersOf firstOf channelsIn giveOut mixerLength featureLength alike alikeIn mixerKept featureKept keeps clusterKept namesKept ones onesIn judged terminalOf terminalsFrom terminalsOf bearerIn terminalNumber channelsOf opensAs isGeneral isFormat samplesRight ratesRight isTypeOne formatRight bearerRight describedBy holdsClass broken wrongStream firstBroken breach14 bitSet bitControls bitsFrom maskControls channelsFrom featureControls entityControls controlsTo controlsOfRun breach15 tableOf headOf recordOf recordsTo roomFor shownIn restJudged surveyJudged judgedThen roomJudged verdictOf refusedReading takenReading readingOf sheetOf bitCarries
 computed = record {
   configurations = record { accepted = refl; length-wrong = refl; eight-bytes = refl; sources-itself = refl; same-id = refl; sources-output = refl };
   printed = record { answer = refl; sheet = refl };

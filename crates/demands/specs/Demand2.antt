@@ -19,16 +19,14 @@ use native.Mathlib.Omega.{arith}
 use Rattle.layout.specs.declared.Cluster.{Cluster}
 use Rattle.layout.specs.declared.Entity.{Entity}
 use Rattle.layout.specs.declared.Entity.the-variants.{Unknown, Input, Output, Mixer, Selector, Printed, Feature}
-use Rattle.layout.specs.Layout.{noCluster}
-use Rattle.entities.specs.declared.Run.{Run}
-use Rattle.entities.specs.Run.{held, entityAt, idAt}
+use Rattle.layout.specs.Layout.{entityOf}
 use Rattle.graph.specs.Members.{_∈_}
 use Rattle.channels.specs.Declared.{mostChannels}
-use Rattle.sources.specs.Pins.{sourcesAt}
-use Rattle.sources.specs.Lookup.{placeOf}
-use Rattle.sources.specs.GraphLaws.{source-borne}
-use Rattle.clusters.specs.Edition.{Connected, enteringAt}
-use Rattle.clusters.specs.Audio.{firstOf, giveOut, Keeps, audio}
+use Rattle.edition.specs.Edition.{ownId, sources}
+use Rattle.edition.specs.Audio.{firstOf, giveOut, Keeps, audio}
+use Rattle.sources.specs.OwnIds.{distinct-ids}
+use Rattle.clusters.specs.Rules.{entering, Connected}
+use Rattle.clusters.specs.Topology.{source-of}
 use Rattle.table.specs.declared.Table.{Table}
 use Rattle.table.specs.Meaning.{Sound}
 use Rattle.table.specs.Fresh.{Fresh, fresh-sound, fresh-empty}
@@ -44,49 +42,44 @@ use Rattle.runs.proofs.Moved.{Moved, whole-run}
 use Rattle.runs.proofs.Rows.{step-rows}
 use Rattle.topology.specs.declared.Reading.{Reading}
 use Rattle.topology.specs.Reading.{readingOf}
-use Rattle.demands.specs.Surveyed.{entitiesOf}
 use Rattle.demands.specs.Configuration.{Configuration}
-use Rattle.demands.specs.Arrays.{held-all, distinct-ids}
 use Rattle.demands.specs.Refusals.{Shown}
-use Rattle.demands.specs.Demand3.{run, clusters, controls, cluster-shows, answer-shows}
+use Rattle.demands.specs.Demand3.{run, cluster, controls, answer-shows}
 use Rattle.demands.specs.Demand1.{RefusedReading, reader-answers}
 
-few-out : (e : Entity) (cs : List Cluster) → Keeps e cs → firstOf cs .channels ≤ mostChannels → giveOut e (firstOf cs) .channels ≤ mostChannels
+few-out : (e : Entity) (l : ℕ) (cs : List Cluster) → Keeps e l cs → firstOf cs .channels ≤ mostChannels → giveOut e cs .channels ≤ mostChannels
 unfolding giveOut Keeps
-few-out Unknown cs k h = h
-few-out (Input i t own) cs k h = k .channels .1
-few-out (Output i t s) cs k h = h
-few-out (Mixer i p own l) cs k h = k .0 .channels .1
-few-out (Selector i p) cs k h = h
-few-out (Printed i p) cs k h = h
-few-out (Feature i s n l) cs k h = h
+few-out Unknown l cs k h = h
+few-out (Input i t own) l cs k h = k .channels .1
+few-out (Output i t s) l cs k h = h
+few-out (Mixer i p own) l cs k h = k .0 .channels .1
+few-out (Selector i p) l cs k h = h
+few-out (Printed i p) l cs k h = h
+few-out (Feature i s n) l cs k h = h
 
 few-first : (l : List ℕ) (cluster : ℕ → Cluster) → ((b : ℕ) → b ∈ l → cluster b .channels ≤ mostChannels) → firstOf (map cluster l) .channels ≤ mostChannels
 unfolding firstOf
 few-first [] cluster h = zero-le
 few-first (b ∷ l) cluster h = h b (List·Memᴰ·head refl)
 
-module _ (r : Run) (c : Connected audio r) where
+module _ (ds : List (List ℕ)) (c : Connected audio ds) where
   -- along the ranks: a source's is lower than its user's
-  few-below : (n i : ℕ) → i < held r → c .rank (idAt r i) < n → c .cluster (idAt r i) .channels ≤ mostChannels
-  few-below zero i l h = absurd (omega arith)
-  few-below (suc n) i l h =
-      subst (λ (k : Cluster). k .channels ≤ mostChannels) (sym (c .given-out i l))
-      (few-out (entityAt r i) (enteringAt r (c .cluster) i) (c .fits i l)
-      (few-first (sourcesAt r i) (c .cluster)
-      (λ s m. let b = source-borne r (c .rule10) (c .rule11) i l s m in
-      let q : c .rank (idAt r (placeOf r s)) < n = rw (b .1) (let q = c .ranked i l s m in omega arith) in
-      subst (λ (a : ℕ). c .cluster a .channels ≤ mostChannels) (b .1) (few-below n (placeOf r s) (b .0) q))))
+  few-below : (n : ℕ) (d : List ℕ) → d ∈ ds → c .rank (ownId d) < n → c .cluster (ownId d) .channels ≤ mostChannels
+  few-below zero d m h = absurd (omega arith)
+  few-below (suc n) d m h =
+      subst (λ (k : Cluster). k .channels ≤ mostChannels) (sym (c .given-out d m))
+      (few-out (entityOf d) (length d) (entering audio (c .cluster) d) (c .fits d m)
+      (few-first (sources audio d) (c .cluster)
+      (λ x a. let b = source-of (c .rule11) d m x a in
+      let q : c .rank (ownId (b .one)) < n = rw (b .has) (let q = c .ranked d m x a in omega arith) in
+      subst (λ (y : ℕ). c .cluster y .channels ≤ mostChannels) (b .has) (few-below n (b .one) (b .among) q))))
 
-  pub few-channels : (i : ℕ) → i < held r → c .cluster (idAt r i) .channels ≤ mostChannels
-  few-channels i l = few-below (suc (c .rank (idAt r i))) i l (omega arith)
+  pub few-channels : (d : List ℕ) → d ∈ ds → c .cluster (ownId d) .channels ≤ mostChannels
+  few-channels d m = few-below (suc (c .rank (ownId d))) d m (omega arith)
 
 configuration-table : (s : List ℕ) (t : Configuration s) → Fresh (tableOf (controls s t))
 configuration-table s t =
-    reader-fresh (run s t) (clusters s t) (t .kept .rule9) (distinct-ids s (t .kept) (t .connected)) (t .rule15) noCluster
-    (λ i h. let e = held-all s (t .kept) in
-    subst (λ (k : Cluster). k .channels ≤ mostChannels) (sym (cluster-shows s t i h))
-    (few-channels (entitiesOf (t .kept)) (t .connected) i (omega arith)))
+    reader-fresh (run s t) (cluster s t) (t .kept .rule9) (distinct-ids (run s t) (t .connected .rule10)) (t .rule15) (few-channels (run s t) (t .connected))
 
 pub reader-table : (s d : List ℕ) → Fresh (readingOf s (length d) .table)
 reader-table s d = go (reader-answers s d)

@@ -1,7 +1,6 @@
 pub mod Cases
 pub mod Surveyed
 pub mod Configuration
-pub mod Arrays
 pub mod Refusals
 pub mod Demand3
 pub mod Demand1

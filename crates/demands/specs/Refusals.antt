@@ -1,218 +1,195 @@
--- Demand 1: "A refusal comes only in a case that the papers name, gives a number and, for descriptors, a place". Document 01, "Refusals of
--- a configuration": "the lowest number that applies is given, at no other time." For every configuration and every room of the
--- sheet: the number and the place, exactly.
---   Refused s room n p  ==  every rule before n is kept, n is not, and p is the place that document 01 gives
---   Shown s room        ==  s is a configuration, and the sheet has room for its records
---   first-by-place      ==  of the rules 10 to 13, whose first offender is the first in the run: no offender of the run has a lower place
---   accepted-exactly    ==  nothing is refused exactly where s is a configuration and the sheet has room for its records
---   refused-exactly     ==  number n is given at place p exactly where Refused s room n p
-use Prim.Native.Nat.{ℕ, _≤_, _<_}
+-- The papers' table of refusals of a configuration (document 01), row by row, and that the reader gives exactly the first row that applies,
+-- at exactly its place.
+--   runRows k cluster room  ==  the rows 14 to 16, with the clusters on IDs and a sheet of room bytes
+--   keptRows k room         ==  the rows 10 to 16 of a configuration that keeps the rules 1 to 9
+--   tableOfRows s room      ==  THE TABLE: all sixteen rows
+--   Refused s room n p      ==  number n at place p: every rule before n is kept, n is not, and p is its place
+--   Shown s room            ==  the bytes s are a configuration, and its records have room
+--   shown-rows              ==  .. which is: all sixteen rules are kept
+--   clusters-on, controls-on  ==  what the reader has at an entity's index is the cluster on its ID; its controls are those of the descriptors
+--   reads-room              ==  the test of room decides rule 16
+--   first-by-place          ==  the first offender's place is the lowest of all offenders' places
+--   accepted-exactly, refused-exactly  ==  THE THEOREMS, for every configuration and every room
+use Prim.Native.Nat.{ℕ, _+_, _*_, _≤_, _<_}
 use mathlib.Core.Path.{_≡_, refl, sym, ap, _∙_}
-use mathlib.Core.List.{List}
-use mathlib.Core.Logic.{_⊎_, inl, inr, ⊎-elim, _↔_}
+use mathlib.Core.List.{List, []}
+use mathlib.Core.Logic.{⊎-elim, _↔_}
+use lib.ListN.{length, getD, take}
 use lib.Dec.{eqb, ltb}
 use native.Mathlib.Omega.{arith}
-use Rattle.ground.specs.declared.Place.{Place}
-use Rattle.ground.specs.declared.Place.the-variants.{Nowhere, At}
 use Rattle.ground.specs.declared.Refusal.{Refusal}
-use Rattle.ground.specs.Pick.{decided, reads-eq, reads-lt}
-use Rattle.ground.specs.Refuse.{none, refuse, refuse-at, refuse-on, keptAt, kept-nowhere, kept-at, chain-none}
+use Rattle.ground.specs.Refuse.{none, keptAt}
+use Rattle.ground.specs.Rows.{Rows, end, row, AllKept, FirstBroken, Numbered, Answers, Decides, kept-decides, answers-kept, answers-broken}
+use Rattle.ground.specs.Pick.{Reads, decided, reads-eq, reads-lt, reads-le}
+use Rattle.ground.specs.Lists.{total}
+use Rattle.ground.specs.First.{Breaks}
+use Rattle.ground.specs.Places.{FirstPlace}
+use Rattle.layout.specs.declared.Cluster.{Cluster}
+use Rattle.layout.specs.Layout.{noCluster}
+use Rattle.edition.specs.Edition.{ownId}
+use Rattle.edition.specs.Audio.{audio}
 use Rattle.entities.specs.Run.{held, placeAt}
+use Rattle.entities.specs.Represents.{Represents}
+use Rattle.entities.specs.RepresentsLaws.{breaks-of, places-rise}
 use Rattle.cutting.specs.declared.Survey.{Survey}
-use Rattle.cutting.specs.Rules.{Kept, headerPlace}
-use Rattle.cutting.specs.Rules as cut
-use Rattle.cutting.specs.Survey.{verdict, verdictThen}
-use Rattle.cutting.specs.Verdict.{verdict-chain}
-use Rattle.cutting.specs.Exact.{verdict-kept, verdict-refused}
-use Rattle.sources.specs.Rules.{WrongId, Rule10, WrongSources, Rule11}
-use Rattle.sources.specs.RunLaws.{places-rise}
-use Rattle.ranks.specs.Rules.{Endless, Rule12}
-use Rattle.clusters.specs.Edition.{Broken, Connected, clustersOf}
-use Rattle.clusters.specs.Audio.{audio}
-use Rattle.clusters.specs.Topology.{connected-parts}
-use Rattle.connections.specs.Judgement.{judged, FirstWrong, Judgement, wrong-id, wrong-source, no-rank, wrong-cluster, kept, judged-told, told-judged}
+use Rattle.cutting.specs.Rules.{headerPlace, Kept, BrokenAt, cuttingRows}
+use Rattle.cutting.specs.Survey.{surveyOf}
+use Rattle.cutting.specs.Exact.{cutting-answers, cutting-numbered, all-nine, nine-kept}
+use Rattle.sources.specs.Rules.{Rule10, Rule11}
+use Rattle.sources.specs.OwnIds.{own-ids, distinct-ids}
+use Rattle.ranks.specs.Rules.{Rule12}
+use Rattle.clusters.specs.Rules.{Rule13, Connected}
+use Rattle.clusters.specs.Topology.{clusters-shown}
+use Rattle.connections.specs.JudgementLaws.{connectedRows, connected-with, connected-kept, judged-answers}
+use Rattle.streaming.specs.Rule.{Breaks14}
 use Rattle.streaming.specs.Terminals.{terminalsOf}
 use Rattle.streaming.specs.Tests.{breach14}
-use Rattle.streaming.specs.Rule.{Breaks14}
+use Rattle.streaming.specs.Standing.{terminals-are, one-each}
 use Rattle.streaming.specs.Breaches.{rule14-kept, rule14-broken}
-use Rattle.controls.specs.Controls.{controlsOfRun, breach15}
+use Rattle.controls.specs.Controls.{controlsOf, controlsOfRun, breach15}
 use Rattle.controls.specs.Growth.{tableOf}
 use Rattle.controls.specs.Rule.{rule15-kept, rule15-broken}
-use Rattle.records.specs.Records.{roomFor}
-use Rattle.topology.specs.Reading.{restJudged, runJudged, surveyJudged, verdictOf}
-use Rattle.demands.specs.Surveyed.{placeOfRun, entitiesOf, survey-kept, run-cut}
-use Rattle.demands.specs.Configuration.{clustersBy, Streams, FewControls, Configuration, Rule16}
-use Rattle.demands.specs.Arrays.{held-all, reads-room, terminals-same, terminals-all, controls-same, one-terminal, distinct-ids}
+use Rattle.controls.specs.Reader.{controls-same}
+use Rattle.records.specs.Records.{recordSize, roomFor}
+use Rattle.topology.specs.Reading.{clustersAt, tableFor, restJudged, surveyJudged, judgedThen, roomJudged, verdictOf}
+use Rattle.demands.specs.Surveyed.{placeOfRun, entitiesOf, keptSurvey, survey-kept, run-cut, represented}
+use Rattle.demands.specs.Configuration.{runOf, Streams, FewControls, Configuration, Rule16}
 
-pub data Refused (s : List ℕ) (room : ℕ) : ℕ → ℕ → Type 0 where
-  by-cutting : {n p : ℕ} → cut.Refused s n p → Refused s room n p
-  by10 : {p : ℕ} (k : Kept s) → FirstWrong (entitiesOf k) (WrongId (entitiesOf k)) p → Refused s room 10 p
-  by11 : {p : ℕ} (k : Kept s) → Rule10 (entitiesOf k) → FirstWrong (entitiesOf k) (WrongSources (entitiesOf k)) p → Refused s room 11 p
-  by12 : {p : ℕ} (k : Kept s) → Rule10 (entitiesOf k) → Rule11 (entitiesOf k) → FirstWrong (entitiesOf k) (Endless (entitiesOf k)) p → Refused s room 12 p
-  by13 : {p : ℕ} (k : Kept s) → Rule10 (entitiesOf k) → Rule11 (entitiesOf k) → Rule12 (entitiesOf k) → FirstWrong (entitiesOf k) (Broken audio (entitiesOf k)) p → Refused s room 13 p
-  by14 : {p : ℕ} (k : Kept s) (c : Connected audio (entitiesOf k)) → Breaks14 (k .rule6 .run) (c .cluster) (k .opened .descriptors) p → Refused s room 14 p
-  by15 : {p : ℕ} (k : Kept s) (c : Connected audio (entitiesOf k)) → Streams k c → (FewControls k c → ⊥) → p ≡ headerPlace (k .opened) → Refused s room 15 p
-  by16 : {p : ℕ} (k : Kept s) (c : Connected audio (entitiesOf k)) → Streams k c → FewControls k c → (Rule16 (k .rule6 .run) room → ⊥) → p ≡ headerPlace (k .opened) → Refused s room 16 p
+module _ {s : List ℕ} (k : Kept s) where
+  abbrev pub runRows : (ℕ → Cluster) → ℕ → Rows
+  runRows cluster room =
+      row 14 (Streams k cluster) (Breaks14 (runOf k) cluster (k .opened .descriptors)) (λ a.
+      row 15 (FewControls k cluster) (BrokenAt (headerPlace (k .opened)) (FewControls k cluster)) (λ b.
+      row 16 (Rule16 (runOf k) room) (BrokenAt (headerPlace (k .opened)) (Rule16 (runOf k) room)) (λ c. end)))
+
+  abbrev pub keptRows : ℕ → Rows
+  keptRows room = connectedRows (placeOfRun k) (runOf k) (λ a b c e. runRows (e .0) room)
+
+abbrev pub tableOfRows : List ℕ → ℕ → Rows
+tableOfRows s room = cuttingRows s (λ k. keptRows k room)
+
+abbrev pub Refused : List ℕ → ℕ → ℕ → ℕ → Type 0
+Refused s room n p = FirstBroken (tableOfRows s room) n p
+
+abbrev pub Shown : List ℕ → ℕ → Type 0
+Shown s room = (t : Configuration s) × Rule16 (runOf (t .kept)) room
+
+module _ (s : List ℕ) (k : Kept s) where
+  pub clusters-on : (c : Connected audio (runOf k)) (i : ℕ) → i < length (runOf k) → getD (clustersAt s (keptSurvey k)) i noCluster ≡ c .cluster (ownId (getD (runOf k) i []))
+  clusters-on c = clusters-shown (represented s k) c
+
+  pub reads-room : (room : ℕ) → Reads (roomFor (entitiesOf k) room) (Rule16 (runOf k) room)
+  unfolding roomFor
+  reads-room room = rw (← (represented s k .counted)) (reads-le (held (entitiesOf k) * recordSize) room)
+
+  pub controls-on : (c : Connected audio (runOf k)) → controlsOfRun s (entitiesOf k) (clustersAt s (keptSurvey k)) ≡ controlsOf (runOf k) (c .cluster)
+  controls-on c = controls-same (represented s k) (clustersAt s (keptSurvey k)) (c .cluster) (clusters-on c)
+
+  module _ (room : ℕ) (c : Connected audio (runOf k)) where
+    decides-14 : Decides (breach14 (terminalsOf s (entitiesOf k) (clustersAt s (keptSurvey k))) s) (Streams k (c .cluster)) (Breaks14 (runOf k) (c .cluster) (k .opened .descriptors))
+    decides-14 =
+        let all = terminals-are (represented s k) (k .rule9) (c .cluster) (clustersAt s (keptSurvey k)) (clusters-on c) in
+        let one = one-each (represented s k) (clustersAt s (keptSurvey k)) (own-ids (runOf k) (c .rule10)) in
+        let ts = terminalsOf s (entitiesOf k) (clustersAt s (keptSurvey k)) in
+        record {
+          kept = rule14-kept (runOf k) (c .cluster) ts all one s (k .opened .descriptors) (k .opened .rule3);
+          broken = rule14-broken (runOf k) (c .cluster) ts all one s (k .opened .descriptors) (k .opened .rule3);
+        }
+
+    decides-15 : Decides (breach15 (tableFor s (keptSurvey k) (clustersAt s (keptSurvey k)) .count) (headerPlace (k .opened))) (FewControls k (c .cluster)) (BrokenAt (headerPlace (k .opened)) (FewControls k (c .cluster)))
+    decides-15 = rw (controls-on c) (record {
+      kept = rule15-kept (runOf k) (c .cluster) (k .rule9) (distinct-ids (runOf k) (c .rule10)) (headerPlace (k .opened));
+      broken = rule15-broken (runOf k) (c .cluster) (k .rule9) (distinct-ids (runOf k) (c .rule10)) (headerPlace (k .opened));
+    })
+
+    run-answers : Answers (runRows k (c .cluster) room) (restJudged s (keptSurvey k) (clustersAt s (keptSurvey k)) (roomJudged (keptSurvey k) room none))
+    unfolding restJudged roomJudged
+    run-answers = (
+      _,
+      _,
+      refl,
+      decides-14,
+      λ a. (
+        _,
+        _,
+        refl,
+        decides-15,
+        λ b. (keptAt (roomFor (entitiesOf k) room) (headerPlace (k .opened)), none, refl, kept-decides (headerPlace (k .opened)) (reads-room room), λ e. refl),
+      ),
+    )
+
+  kept-answers : (room : ℕ) → Answers (keptRows k room) (surveyJudged s (keptSurvey k) (roomJudged (keptSurvey k) room none))
+  unfolding surveyJudged
+  kept-answers room =
+      judged-answers (represented s k) (λ a b c e. runRows k (e .0) room) (restJudged s (keptSurvey k) (clustersAt s (keptSurvey k)) (roomJudged (keptSurvey k) room none))
+      (λ a b c e. run-answers room (connected-with (represented s k) a b c e))
+
+  kept-numbered : (room : ℕ) → Numbered (keptRows k room)
+  kept-numbered room = (
+    λ e. omega arith,
+    λ a. (
+      λ e. omega arith,
+      λ b. (
+        λ e. omega arith,
+        λ c. (λ e. omega arith, λ x. (λ e. omega arith, λ f. (λ e. omega arith, λ g. (λ e. omega arith, λ h. tt)))),
+      ),
+    ),
+  )
 
 -- document 01 has the first offender's place: the first in the run has the lowest
 module _ (s : List ℕ) (k : Kept s) where
-  pub first-by-place : (Wrong : ℕ → Type 0) (p : ℕ) → FirstWrong (entitiesOf k) Wrong p → (i : ℕ) → i < held (entitiesOf k) → Wrong i → p ≤ placeAt (entitiesOf k) i
-  first-by-place Wrong p f i l w =
-      ⊎-elim
+  pub first-by-place : (Wrong : List (List ℕ) → List ℕ → Type 0) (p : ℕ) → Breaks Wrong (placeOfRun k) (runOf k) p
+      → (i : ℕ) → i < length (runOf k) → Wrong (take i (runOf k)) (getD (runOf k) i []) → p ≤ placeOfRun k + total (take i (runOf k))
+  first-by-place Wrong p b i l w =
+      rw (← (r .place i l))
+      (⊎-elim
       (λ (h : i < f .offender). absurd (f .none-before i h w))
       (λ (h : i < f .offender → ⊥). ⊎-elim (λ (e : f .offender ≡ i). let a = f .at in rw (← e) (omega arith)) (λ (n : f .offender ≡ i → ⊥). later (omega arith)) (decided (eqb (f .offender) i) (reads-eq (f .offender) i)))
-      (decided (ltb i (f .offender)) (reads-lt i (f .offender)))
+      (decided (ltb i (f .offender)) (reads-lt i (f .offender))))
     where
+      r : Represents audio s (placeOfRun k) (runOf k) (entitiesOf k)
+      r = represented s k
+
+      f : FirstPlace (held (entitiesOf k)) (placeAt (entitiesOf k)) (λ j. Wrong (take j (runOf k)) (getD (runOf k) j [])) p
+      f = breaks-of (represented s k) Wrong p .1 b
+
       later : f .offender < i → p ≤ placeAt (entitiesOf k) i
       later h =
-          let n = held-all s k in
-          let r = places-rise (placeOfRun k) (k .rule6 .run) (k .rule8 .1) (λ d m. let z = run-cut s k d m .two in omega arith) (f .offender) i h (omega arith) in
+          let n = represented s k .counted in
+          let q = places-rise (represented s k) (λ d m. let z = run-cut s k d m .two in omega arith) (f .offender) i h (omega arith) in
           let a = f .at in
           omega arith
 
-numbered-cut : {s : List ℕ} {n p : ℕ} → cut.Refused s n p → n ≡ 0 → ⊥
-numbered-cut (cut.by1 n) e = omega arith
-numbered-cut (cut.by2 a n) e = omega arith
-numbered-cut (cut.by3 a b m) e = omega arith
-numbered-cut (cut.by4 a b c n) e = omega arith
-numbered-cut (cut.by5 o n q) e = omega arith
-numbered-cut (cut.by6 o h n q) e = omega arith
-numbered-cut (cut.by7 o h t n q) e = omega arith
-numbered-cut (cut.by8 o h t c n q) e = omega arith
-numbered-cut (cut.by9 o h t c m b) e = omega arith
-
-numbered : {s : List ℕ} {room n p : ℕ} → Refused s room n p → n ≡ 0 → ⊥
-numbered (by-cutting r) e = numbered-cut r e
-numbered (by10 k f) e = omega arith
-numbered (by11 k a f) e = omega arith
-numbered (by12 k a b f) e = omega arith
-numbered (by13 k a b c f) e = omega arith
-numbered (by14 k c b) e = omega arith
-numbered (by15 k c a n q) e = omega arith
-numbered (by16 k c a b n q) e = omega arith
-
 module _ (s : List ℕ) (room : ℕ) where
-  -- what is judged behind the rules 1 to 13
-  abbrev rest : Kept s → Refusal
-  rest k =
-      restJudged s (entitiesOf k) (clustersOf audio (entitiesOf k)) (tableOf (controlsOfRun s (entitiesOf k) (clustersOf audio (entitiesOf k)))) (headerPlace (k .opened)) room none
+  answers : Answers (tableOfRows s room) (verdictOf s room)
+  unfolding verdictOf judgedThen
+  answers =
+      cutting-answers s (λ k. keptRows k room) (surveyJudged s (surveyOf s) (roomJudged (surveyOf s) room none))
+      (λ k. rw (survey-kept s k) (kept-answers s k room))
 
-  after-cutting : (k : Kept s) → verdictOf s room ≡ judged (entitiesOf k) (rest k)
-  unfolding verdictOf verdict surveyJudged runJudged
-  after-cutting k =
-      verdict-chain s .on (ap (λ (r : Refusal). r .number) (verdict-kept s .1 k)) _
-      ∙ ap (λ (v : Survey). surveyJudged s v room none) (survey-kept s k)
+  numbered : Numbered (tableOfRows s room)
+  numbered = cutting-numbered s (λ k. keptRows k room) (λ k. kept-numbered s k room)
 
-  connected-kept : (k : Kept s) (c : Connected audio (entitiesOf k)) → Judgement (entitiesOf k) (rest k) (rest k)
-  connected-kept k c =
-      let p = connected-parts audio (entitiesOf k) (c .rule10) (c .rule11) .0 c in
-      kept (c .rule10) (c .rule11) (p .0) (p .1)
-
-  module _ (k : Kept s) (c : Connected audio (entitiesOf k)) where
-    abbrev found14 : Place
-    found14 = breach14 (terminalsOf (entitiesOf k) (clustersOf audio (entitiesOf k))) s
-
-    abbrev found15 : Place
-    found15 = breach15 (tableOf (controlsOfRun s (entitiesOf k) (clustersOf audio (entitiesOf k))) .count) (headerPlace (k .opened))
-
-    abbrev found16 : Place
-    found16 = keptAt (roomFor (entitiesOf k) room) (headerPlace (k .opened))
-
-    keeps14 : (found14 ≡ Nowhere) ↔ Streams k c
-    keeps14 = rw (terminals-same s k c) (rule14-kept (k .rule6 .run) (c .cluster) (terminalsOf (entitiesOf k) (clustersBy (entitiesOf k) c)) (terminals-all s k c) (one-terminal s k c (clustersBy (entitiesOf k) c)) s (k .opened .descriptors) (k .opened .rule3))
-
-    breaks14 : (p : ℕ) → (found14 ≡ At p) ↔ Breaks14 (k .rule6 .run) (c .cluster) (k .opened .descriptors) p
-    breaks14 p = rw (terminals-same s k c) (rule14-broken (k .rule6 .run) (c .cluster) (terminalsOf (entitiesOf k) (clustersBy (entitiesOf k) c)) (terminals-all s k c) (one-terminal s k c (clustersBy (entitiesOf k) c)) s (k .opened .descriptors) (k .opened .rule3) p)
-
-    keeps15 : (found15 ≡ Nowhere) ↔ FewControls k c
-    keeps15 = rw (controls-same s k c) (rule15-kept (k .rule6 .run) (clustersBy (entitiesOf k) c) (k .rule9) (distinct-ids s k c) (headerPlace (k .opened)))
-
-    breaks15 : (p : ℕ) → (found15 ≡ At p) ↔ ((p ≡ headerPlace (k .opened)) × (FewControls k c → ⊥))
-    breaks15 p = rw (controls-same s k c) (rule15-broken (k .rule6 .run) (clustersBy (entitiesOf k) c) (k .rule9) (distinct-ids s k c) (headerPlace (k .opened)) p)
-
-    keeps16 : (found16 ≡ Nowhere) ↔ Rule16 (k .rule6 .run) room
-    keeps16 = kept-nowhere (headerPlace (k .opened)) (reads-room s k room)
-
-    breaks16 : (p : ℕ) → (found16 ≡ At p) ↔ ((p ≡ headerPlace (k .opened)) × (Rule16 (k .rule6 .run) room → ⊥))
-    breaks16 p = kept-at (headerPlace (k .opened)) p (reads-room s k room)
-
-    after-connected : verdictOf s room ≡ refuse 14 found14 (refuse 15 found15 (refuse 16 found16 none))
-    unfolding restJudged
-    after-connected = after-cutting k ∙ told-judged (entitiesOf k) (rest k) (connected-kept k c)
-
-  gives : {n p : ℕ} → Refused s room n p → verdictOf s room ≡ record { number = n; place = p }
-  unfolding verdictOf verdict
-  gives {n} {p} (by-cutting r) =
-      let e = verdict-refused s n p (numbered-cut r) .1 r in
-      verdict-chain s .stays (λ z. numbered-cut r (sym (ap (λ (x : Refusal). x .number) e) ∙ z)) _ ∙ e
-  gives (by10 k f) = after-cutting k ∙ told-judged (entitiesOf k) (rest k) (wrong-id f)
-  gives (by11 k a f) = after-cutting k ∙ told-judged (entitiesOf k) (rest k) (wrong-source a f)
-  gives (by12 k a b f) = after-cutting k ∙ told-judged (entitiesOf k) (rest k) (no-rank a b f)
-  gives (by13 k a b c f) = after-cutting k ∙ told-judged (entitiesOf k) (rest k) (wrong-cluster a b c f)
-  gives {p = p} (by14 k c b) = after-connected k c ∙ refuse-at 14 p _ (breaks14 k c p .1 b)
-  gives {p = p} (by15 k c a n e) = after-connected k c ∙ refuse-on 14 _ (keeps14 k c .1 a) ∙ refuse-at 15 p _ (breaks15 k c p .1 (e, n))
-  gives {p = p} (by16 k c a b n e) =
-      after-connected k c ∙ refuse-on 14 _ (keeps14 k c .1 a) ∙ refuse-on 15 _ (keeps15 k c .1 b) ∙ refuse-at 16 p _ (breaks16 k c p .1 (e, n))
-
-  abbrev pub Shown : Type 0
-  Shown = (t : Configuration s) × Rule16 (t .kept .rule6 .run) room
-
-  accepts : Shown → verdictOf s room ≡ none
-  accepts (t, r) =
-      let k = t .kept in
-      let c = t .connected in
-      after-connected k c ∙ refuse-on 14 _ (keeps14 k c .1 (t .rule14)) ∙ refuse-on 15 _ (keeps15 k c .1 (t .rule15)) ∙ refuse-on 16 none (keeps16 k c .1 r)
-
-  -- every configuration is accepted or refused by one of the sixteen
-  abbrev Outcome : Type 0
-  Outcome = Shown ⊎ ((n : ℕ) × (p : ℕ) × Refused s room n p)
-
-  outcome-rest : (k : Kept s) (c : Connected audio (entitiesOf k)) → Outcome
-  outcome-rest k c = streams (found14 k c) refl
+  pub shown-rows : AllKept (tableOfRows s room) ↔ Shown s room
+  shown-rows = (to, from)
     where
-      sheet : Streams k c → FewControls k c → (r : Place) → found16 k c ≡ r → Outcome
-      sheet a b Nowhere e = inl (record { kept = k; connected = c; rule14 = a; rule15 = b }, keeps16 k c .0 e)
-      sheet a b (At p) e = let z = breaks16 k c p .0 e in inr (16, p, by16 k c a b (z .1) (z .0))
+      to : AllKept (tableOfRows s room) → Shown s room
+      to h = let n = nine-kept s (λ k. keptRows k room) h in of (n .0) (n .1)
+        where
+          of : (k : Kept s) → AllKept (keptRows k room) → Shown s room
+          of k (a, (b, (c, (e, (x, (y, (z, u))))))) = (record { kept = k; connected = connected-with (represented s k) a b c e; rule14 = x; rule15 = y }, z)
 
-      controls : Streams k c → (r : Place) → found15 k c ≡ r → Outcome
-      controls a Nowhere e = sheet a (keeps15 k c .0 e) (found16 k c) refl
-      controls a (At p) e = let z = breaks15 k c p .0 e in inr (15, p, by15 k c a (z .1) (z .0))
+      from : Shown s room → AllKept (tableOfRows s room)
+      from (t, z) =
+          let c = t .connected in
+          all-nine s (λ k. keptRows k room) (t .kept)
+          (c .rule10, (c .rule11, (connected-kept (represented s (t .kept)) c, ((c .cluster, c .given-out, c .fits), (t .rule14, (t .rule15, (z, tt)))))))
 
-      streams : (r : Place) → found14 k c ≡ r → Outcome
-      streams Nowhere e = controls (keeps14 k c .0 e) (found15 k c) refl
-      streams (At p) e = inr (14, p, by14 k c (breaks14 k c p .0 e))
-
-  outcome-run : Kept s → Outcome
-  outcome-run k = of (judged-told (entitiesOf k) (rest k))
-    where
-      of : {x : Refusal} → Judgement (entitiesOf k) (rest k) x → Outcome
-      of (wrong-id {q} f) = inr (10, q, by10 k f)
-      of (wrong-source {q} a f) = inr (11, q, by11 k a f)
-      of (no-rank {q} a b f) = inr (12, q, by12 k a b f)
-      of (wrong-cluster {q} a b c f) = inr (13, q, by13 k a b c f)
-      of (kept a b c d) = outcome-rest k (connected-parts audio (entitiesOf k) a b .1 (c, d))
-
-  outcome : Outcome
-  unfolding verdict
-  outcome = go (decided (eqb (verdict s .number) 0) (reads-eq (verdict s .number) 0))
-    where
-      go : (verdict s .number ≡ 0) ⊎ (verdict s .number ≡ 0 → ⊥) → Outcome
-      go (inl e) = outcome-run (verdict-kept s .0 (chain-none (verdictThen s) (verdict-chain s) e))
-      go (inr n) = inr (verdict s .number, verdict s .place, by-cutting (verdict-refused s (verdict s .number) (verdict s .place) n .0 refl))
-
-  -- THE THEOREMS, for every configuration and every room
-  pub accepted-exactly : (verdictOf s room .number ≡ 0) ↔ Shown
-  accepted-exactly = (of outcome, λ t. ap (λ (r : Refusal). r .number) (accepts t))
-    where
-      of : Outcome → verdictOf s room .number ≡ 0 → Shown
-      of (inl t) e = t
-      of (inr (n, p, r)) e = absurd (numbered r (sym (ap (λ (x : Refusal). x .number) (gives r)) ∙ e))
+  -- THE THEOREMS
+  pub accepted-exactly : (verdictOf s room .number ≡ 0) ↔ Shown s room
+  accepted-exactly =
+      let a = answers-kept (tableOfRows s room) (verdictOf s room) numbered answers in
+      (λ e. shown-rows .0 (a .0 e), λ t. a .1 (shown-rows .1 t))
 
   pub refused-exactly : (n p : ℕ) → (n ≡ 0 → ⊥) → (verdictOf s room ≡ record { number = n; place = p }) ↔ Refused s room n p
-  refused-exactly n p z = (of outcome, gives)
-    where
-      of : Outcome → verdictOf s room ≡ record { number = n; place = p } → Refused s room n p
-      of (inl t) e = absurd (z (sym (ap (λ (x : Refusal). x .number) (sym (accepts t) ∙ e))))
-      of (inr (m, q, r)) e =
-          let g : _≡_ {A = Refusal} (record { number = m; place = q }) (record { number = n; place = p }) = sym (gives r) ∙ e in
-          rw (← (ap (λ (x : Refusal). x .number) g), ← (ap (λ (x : Refusal). x .place) g)) r
+  refused-exactly = answers-broken (tableOfRows s room) (verdictOf s room) numbered answers

@@ -6,6 +6,7 @@
 --   survey-kept    ==  the survey is that control's number, that header's place and those entities
 --   run-stands     ==  from that place on the configuration's bytes are those of the run, then those of the descriptors behind it
 --   run-cut        ==  each of the run is one of the cutting's descriptors
+--   represented    ==  so the entities that the reader hands on stand for the run's descriptors
 use Prim.Native.Nat.{ℕ, _+_}
 use mathlib.Core.Path.{_≡_, refl, sym, ap, _∙_}
 use mathlib.Core.List.{List, [], _∷_, _++_, flatten, List·Memᴰ, List·Memᴰ·tail, Memᴰ·append-left, Memᴰ·append-right}
@@ -20,7 +21,10 @@ use Rattle.ground.specs.Lists.{total, length-flatten, flatten-append, total-app
 use Rattle.ground.specs.Refuse.{none}
 use Rattle.scan.specs.Cutting.{Descriptor}
 use Rattle.entities.specs.declared.Run.{Run}
+use Rattle.edition.specs.Audio.{audio}
 use Rattle.entities.specs.Run.{runIn}
+use Rattle.entities.specs.Represents.{Represents}
+use Rattle.entities.specs.RepresentsLaws.{run-represents}
 use Rattle.groups.specs.Reading.{frameOf}
 use Rattle.groups.specs.FrameLaws.{nine}
 use Rattle.cutting.specs.declared.Survey.{Survey}
@@ -33,10 +37,10 @@ abbrev pub placeOfRun : {s : List ℕ} → Kept s → ℕ
 placeOfRun k = headerPlace (k .opened) + length (k .rule5 .header)
 
 abbrev pub entitiesOf : {s : List ℕ} → Kept s → Run
-entitiesOf k = runIn (placeOfRun k) (k .rule6 .run)
+entitiesOf k = runIn audio (placeOfRun k) (k .rule6 .run)
 
 abbrev pub surveyWith : ℕ → ℕ → ℕ → List (List ℕ) → Survey
-surveyWith control header place ds = record { refusal = none; control = control; header = header; run = runIn place ds }
+surveyWith control header place ds = record { refusal = none; control = control; header = header; run = runIn audio place ds }
 
 abbrev pub keptSurvey : {s : List ℕ} → Kept s → Survey
 keptSurvey k = surveyWith (byte (k .opened .control) 2) (headerPlace (k .opened)) (placeOfRun k) (k .rule6 .run)
@@ -110,3 +114,6 @@ module _ (s : List ℕ) (k : Kept s) where
   pub run-cut : (d : List ℕ) → List·Memᴰ d (k .rule6 .run) → Descriptor d
   run-cut d m =
       k .opened .rule3 .each d (rw parts (Memᴰ·append-right (k .opened .before) (List·Memᴰ·tail (List·Memᴰ·tail (Memᴰ·append-left behind m)))))
+
+  pub represented : Represents audio s (placeOfRun k) (k .rule6 .run) (entitiesOf k)
+  represented = run-represents audio s (placeOfRun k) (k .rule6 .run) (flatten behind) run-stands run-cut (k .rule9) (k .rule8 .1)

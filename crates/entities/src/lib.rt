@@ -1,20 +1,27 @@
 // The run of entities by value. What it promises to the layer above: how many descriptors stand one after another, and of the first 32
-// of them where each stands, what it is, and its sources, so that everything later is decided without the bytes.
+// of them where each stands, the ID that it bears, whether it may be a source, and where its own source IDs stand in the
+// configuration. A node knows no edition; the kind's own numbers are read from its descriptor where they are needed.
+ghost use Prim.Native.Nat.{_+_, _<_, _^_};
 ghost use mathlib.Core.Path.{_≡_};
-ghost use lib.ListN.{set};
-ghost use Rattle.scan.specs.Cutting.{rest};
-ghost use Rattle.entities.specs.Run.{blankNode, nodeOf, runIn};
+ghost use lib.ListN.{length};
+ghost use Rattle.layout.specs.Layout.{entityOf};
+ghost use Rattle.edition.specs.Audio.{audio};
+ghost use Rattle.entities.specs.Run.{blankNode, nodeOf, held, sourcesOf, earlier, wrongAt, walkOf};
+use ground::Place;
 use layout::Entity;
-use layout::Sources;
+use scan::byte_at;
 
 // The most entities that a run may have.
 pub const MOST_ENTITIES: usize = 32;
 
-// An entity: its place, its kind's own numbers, its sources.
+// An entity: its place, the place of its first source ID and how many there are, one behind another; its own ID; whether it
+// has an output, so that it may be a source.
 pub struct Node {
     pub place: usize,
-    pub entity: Entity,
-    pub sources: Sources,
+    pub first: usize,
+    pub pins: u8,
+    pub id: u8,
+    pub feeds: bool,
 }
 
 // How many descriptors a run has, and the first 32 of them, the spare places blank.
@@ -23,59 +30,101 @@ pub struct Run {
     pub nodes: [Node; 32],
 }
 
+// A run, and the place of its first descriptor that has a wrong layout.
+pub struct Walk {
+    pub run: Run,
+    pub wrong: Place,
+}
+
 // A spare place.
 pub fn blank() -> Node
     ensures { λ r. ⌜ r ≡ blankNode ⌝ }
 {
     Node {
         place: 0,
-        entity: Entity::Unknown,
-        sources: Sources {
-            pins: 0,
-            ids: [0u8; 8],
-        },
+        first: 0,
+        pins: 0,
+        id: 0,
+        feeds: false,
     }
 }
 
-// The descriptor d that stands at a place.
-fn node_at(d: &[u8], place: usize) -> Node
-    ensures { λ r. ⌜ r ≡ nodeOf place (now (d .entry)) ⌝ }
+// How many entities of a run are looked at.
+pub fn count(run: Run) -> usize
+    ensures { λ r. ⌜ r ≡ held run ⌝ }
 {
-    let entity = layout::read(d);
-    let sources = layout::read_sources(d);
+    if run.count < MOST_ENTITIES {
+        return run.count;
+    }
+    MOST_ENTITIES
+}
+
+// The source IDs of an entity, in the order of its pins: a part of the configuration.
+pub fn sources(config: &[u8], node: Node) -> &[u8]
+    ensures { λ r. ⌜ now r ≡ sourcesOf (now (config .entry)) node ⌝ }
+{
+    let first = node.first;
+    let pins = node.pins as usize;
+    if config.len() <= first {
+        return &config[..0];
+    }
+    if config.len() - first < pins {
+        return &config[first..];
+    }
+    let end = first + pins;
+    &config[first..end]
+}
+
+// The descriptor d at a place, whose layout was read as an entity.
+fn node_of(d: &[u8], entity: Entity, place: usize) -> Node
+    requires { ⌜ entity ≡ entityOf (now d) ⌝ }
+    requires { ⌜ place + length (now d) < 2 ^ 64 ⌝ }
+    ensures { λ r. ⌜ r ≡ nodeOf audio place (now (d .entry)) ⌝ }
+{
     Node {
         place,
-        entity,
-        sources,
+        first: place + layout::sources_from(entity),
+        pins: layout::pins(entity),
+        id: byte_at(d, 3),
+        feeds: layout::feeds(entity),
     }
 }
 
-// The places with a node put in one of them; past the last place nothing changes.
-fn keep(nodes: [Node; 32], i: usize, node: Node) -> [Node; 32]
-    ensures { λ r. ⌜ r ≡ set nodes i node ⌝ }
+// The place of the first wrong layout so far, where an entity stands at the next place.
+fn first_wrong(before: Place, entity: Entity, at: usize) -> Place
+    ensures { λ r. ⌜ r ≡ earlier before (wrongAt entity at) ⌝ }
 {
-    let mut kept = nodes;
-    if i < MOST_ENTITIES {
-        kept[i] = node;
+    if let Place::At(_) = before {
+        return before;
     }
-    kept
+    if let Entity::Unknown = entity {
+        Place::At(at)
+    } else {
+        Place::Nowhere
+    }
 }
 
-// The descriptors that stand one after another from a place on, as entities.
-pub fn read_run(s: &[u8], from: usize) -> Run
-    ensures { λ r. ⌜ r ≡ runIn from (rest (now (s .entry)) from) ⌝ }
+// The descriptors that stand one after another from a place on, as entities, and the first of them that has a wrong layout.
+pub fn read_run(s: &[u8], from: usize) -> Walk
+    ensures { λ r. ⌜ r ≡ walkOf (now (s .entry)) from ⌝ }
 {
     let spare = blank();
     let mut nodes = [spare; 32];
     let mut count: usize = 0;
+    let mut wrong = Place::Nowhere;
     let mut at = from;
     loop {
         let e = scan::end_of(s, at);
         if e == at {
-            return Run { count, nodes };
+            let run = Run { count, nodes };
+            return Walk { run, wrong };
         }
-        let next = keep(nodes, count, node_at(&s[at..e], at));
-        nodes = next;
+        let entity = layout::read(&s[at..e]);
+        let next = first_wrong(wrong, entity, at);
+        wrong = next;
+        if count < MOST_ENTITIES {
+            nodes[count] = node_of(&s[at..e], entity, at);
+        }
         count += 1;
         at = e;
     }

@@ -1,12 +1,8 @@
 pub mod Members
 pub mod Tallies
-pub mod Chains
-pub mod Ranks
-pub mod Clusters
-pub mod Validity
-pub mod Renaming
-pub mod Order
 pub mod Tables
-pub mod Rounds
-pub mod Places
-pub mod Examples
+pub mod Passes
+pub mod Grown
+pub mod Quiet
+pub mod Ranked
+pub mod Along

@@ -11,10 +11,22 @@
 --   map-same      ==  functions that agree on the members map alike
 --   all-map       ==  all of a mapped list
 --   along         ==  a member of a list is one of an equal list
+--   mem x l       ==  the test that the number x is a member of l
+--   reads-mem     ==  .. which decides it
+--   mem-in, mem-out  ==  .. so the test is known of a member, and of what is none
+--   mem-append    ==  a member of two lists together is one of either
+--   mem-same      ==  lists with the same members are alike to the test
+--   in-take       ==  a member of a list's first elements is one of the list
+--   member-index, index-member  ==  a member stands at an index, and what stands at an index is a member
+use Prim.Native.Nat.{ℕ, zero, suc, _<_}
+use lib.Dec.{eqb}
+use lib.ListN.{length, getD, take}
+use native.Mathlib.Omega.{arith}
+use mathlib.Core.Logic.{⊎-elim}
 use mathlib.Core.Path.{_≡_, refl, sym, ap, _∙_, subst}
-use mathlib.Core.List.{List, [], _∷_, map, List·Memᴰ, List·Memᴰ·head, List·Memᴰ·tail}
-use mathlib.Core.Bool.{Bool, true, false, _&&_}
-use Rattle.ground.specs.Pick.{Reads, true≠false}
+use mathlib.Core.List.{List, [], _∷_, _++_, map, List·Memᴰ, List·Memᴰ·head, List·Memᴰ·tail, List·Memᴰ·not-nil, List·Memᴰ·cases-cons}
+use mathlib.Core.Bool.{Bool, true, false, _&&_, _||_}
+use Rattle.ground.specs.Pick.{Reads, shows, refutes, true≠false, reads-or, reads-eq}
 
 infix 20 _∈_
 abbrev pub _∈_ : {A : Type 0} → A → List A → Type 0
@@ -77,3 +89,53 @@ pub all-map : {A B : Type 0} (p : B → Bool) (f : A → B) (l : List A) → all
 unfolding all
 all-map p f [] = refl
 all-map p f (x ∷ l) = ap (λ (b : Bool). p (f x) && b) (all-map p f l)
+
+pub in-take : {A : Type 0} (k : ℕ) {l : List A} {x : A} → x ∈ take k l → x ∈ l
+in-take zero m = absurd (List·Memᴰ·not-nil m)
+in-take (suc k) {l = []} m = m
+in-take (suc k) {l = y ∷ l} m = ⊎-elim (λ e. List·Memᴰ·head e) (λ r. List·Memᴰ·tail (in-take k r)) (List·Memᴰ·cases-cons m)
+
+pub member-index : {x : ℕ} {l : List ℕ} → x ∈ l → (k : ℕ) × (k < length l) × (getD l k 0 ≡ x)
+member-index (List·Memᴰ·head e) = (0, omega arith, sym e)
+member-index (List·Memᴰ·tail m) = let r = member-index m in let h = r .1 in (suc (r .0), omega arith, r .2)
+
+pub index-member : (l : List ℕ) (k : ℕ) → k < length l → getD l k 0 ∈ l
+index-member [] k h = absurd (omega arith)
+index-member (x ∷ l) zero h = List·Memᴰ·head refl
+index-member (x ∷ l) (suc k) h = List·Memᴰ·tail (index-member l k (omega arith))
+
+unfoldable pub mem : ℕ → List ℕ → Bool
+mem x [] = false
+mem x (y ∷ l) = eqb x y || mem x l
+
+pub reads-mem : (x : ℕ) (l : List ℕ) → Reads (mem x l) (x ∈ l)
+unfolding mem
+reads-mem x [] = record { says = λ e. absurd (true≠false (sym e)); denies = λ e m. List·Memᴰ·not-nil m }
+reads-mem x (y ∷ l) =
+    let r = reads-or (eqb x y) (mem x l) (reads-eq x y) (reads-mem x l) in
+    record {
+      says = λ e. ⊎-elim (λ q. List·Memᴰ·head q) (λ m. List·Memᴰ·tail m) (r .says e);
+      denies = λ e m. r .denies e (List·Memᴰ·cases-cons m);
+    }
+
+pub mem-in : {x : ℕ} {l : List ℕ} → x ∈ l → mem x l ≡ true
+mem-in {x} {l} m = shows (reads-mem x l) m
+
+pub mem-out : {x : ℕ} {l : List ℕ} → (x ∈ l → ⊥) → mem x l ≡ false
+mem-out {x} {l} f = refutes (reads-mem x l) f
+
+pub mem-append : (x : ℕ) (l m : List ℕ) → mem x (l ++ m) ≡ mem x l || mem x m
+unfolding mem
+mem-append x [] m = refl
+mem-append x (y ∷ l) m = ap (λ (b : Bool). eqb x y || b) (mem-append x l m) ∙ either (eqb x y) (mem x l) (mem x m)
+  where
+    either : (a b c : Bool) → a || (b || c) ≡ (a || b) || c
+    either true b c = refl
+    either false b c = refl
+
+pub mem-same : (x : ℕ) (l m : List ℕ) → (x ∈ l → x ∈ m) → (x ∈ m → x ∈ l) → mem x l ≡ mem x m
+mem-same x l m f g = go (mem x l) refl
+  where
+    go : (b : Bool) → mem x l ≡ b → mem x l ≡ mem x m
+    go true e = e ∙ sym (mem-in (f (reads-mem x l .says e)))
+    go false e = e ∙ sym (mem-out (λ k. reads-mem x l .denies e (g k)))

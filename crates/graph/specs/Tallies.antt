@@ -1,10 +1,13 @@
 -- At how many places of a list a test holds. This is the whole counting argument behind ranks: a round that settles
--- anything new raises the tally by one at least, and no tally passes the list's length.
+-- anything new raises the tally by one at least, and no tally passes the list's length. In the same way each index that joins
+-- an order raises the tally of those that are in it by one.
 --   tally p l       ==  at how many places of l the test p holds
 --   tally-le        ==  at most as many as l has
 --   tally-kept      ==  no less for a test that holds wherever p does
 --   tally-more      ==  more, if that test also holds at a member where p does not
 --   tally-full      ==  a tally as high as the length: the test holds at each member
+--   tally-none, tally-every  ==  a test that never holds, and one that always does
+--   tally-either    ==  no more than both, for a test that holds only where p or q does
 --   kept-or-gained  ==  a second test holds nowhere new, or at some member it does, and which
 use Prim.Native.Nat.{ℕ, suc, _+_, _≤_, zero-le}
 use mathlib.Core.Path.{_≡_, refl, sym, ap, _∙_}
@@ -28,6 +31,12 @@ one-le false = zero-le
 one-kept : (a b : Bool) → (a ≡ true → b ≡ true) → one a ≤ one b
 one-kept true b h = rw (h refl) (le-refl 1)
 one-kept false b h = zero-le
+
+one-either : (a b c : Bool) → (c ≡ true → (a ≡ true) ⊎ (b ≡ true)) → one c ≤ one a + one b
+one-either true b c h = let k = one-le c in omega arith
+one-either false true c h = let k = one-le c in omega arith
+one-either false false true h = absurd (⊎-elim (λ e. true≠false (sym e)) (λ e. true≠false (sym e)) (h refl))
+one-either false false false h = zero-le
 
 module _ {A : Type 0} where
   unfoldable pub tally : (A → Bool) → List A → ℕ
@@ -68,6 +77,24 @@ module _ {A : Type 0} where
           let k = tally-more p (λ y. true) {l = l} (λ y i z. refl) m e refl in
           let g = tally-le (λ y. true) l in
           absurd (omega arith)
+
+  pub tally-none : (l : List A) → tally (λ x. false) l ≡ 0
+  unfolding tally
+  tally-none [] = refl
+  tally-none (x ∷ l) = let h = tally-none l in omega arith
+
+  pub tally-every : (l : List A) → tally (λ x. true) l ≡ length l
+  unfolding tally
+  tally-every [] = refl
+  tally-every (x ∷ l) = let h = tally-every l in omega arith
+
+  pub tally-either : (p q r : A → Bool) (l : List A) → ((x : A) → r x ≡ true → (p x ≡ true) ⊎ (q x ≡ true)) → tally r l ≤ tally p l + tally q l
+  unfolding tally
+  tally-either p q r [] h = zero-le
+  tally-either p q r (x ∷ l) h =
+      let a = tally-either p q r l h in
+      let b = one-either (p x) (q x) (r x) (h x) in
+      omega arith
 
   pub kept-or-gained : (p q : A → Bool) (l : List A) → ((x : A) → x ∈ l → q x ≡ true → p x ≡ true) ⊎ ((x : A) × x ∈ l × (p x ≡ false) × (q x ≡ true))
   kept-or-gained p q [] = inl (λ x m e. absurd (List·Memᴰ·not-nil m))

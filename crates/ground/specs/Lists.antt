@@ -11,15 +11,23 @@
 --   flatten-append, total-append, length-flatten  ==  parts laid end to end, and their length
 --   reads-any  ==  any t l decides Some P l, where t decides P
 --   split-of, of-split  ==  an element stands somewhere in its list, and what stands somewhere in a list is an element
+--   member-at, member-index  ==  what stands at an index is an element, and an element stands at an index
+--   split-inside, split-front, split-here  ==  of a list that is x, then a, then y: x's length is an index of it, before which x stands and
+--              at which a stands
+--   take-in    ==  an element of a list's first elements is one of the list
+--   total-one  ==  the lengths of the parts up to an index, and that part's own
+--   total-rises  ==  where each part has an element, more parts are longer together
 --   pad-length, pad-blank, pad-at, pad-front  ==  how many places; all of them spare; one of them; the taken ones
 --   pad-set    ==  filling the next spare place; past the last place nothing changes
 use Prim.Native.Nat.{ℕ, zero, suc, _+_, _-_, _≤_, _<_}
 use mathlib.Core.Path.{_≡_, refl, sym, ap, _∙_}
 use mathlib.Core.Bool.{Bool, true, false, _||_}
 use mathlib.Core.List.{List, [], _∷_, _++_, flatten, append-assoc, List·Memᴰ, List·Memᴰ·head, List·Memᴰ·tail, List·Memᴰ·not-nil, List·Memᴰ·cases-cons, Memᴰ·append-right, nil≢cons, head-eq-of-cons-eq, tail-eq-of-cons-eq}
-use mathlib.Core.Logic.{_⊎_, inl, inr}
+use mathlib.Core.Logic.{_⊎_, inl, inr, ⊎-elim}
 use lib.ListN.{length, getD, set, replicate, take, drop, take-append-drop, length-append, length-take, length-drop}
-use lib.Seq.{take-add, take-nil, drop-drop}
+use lib.Seq.{take-add, take-nil, take-suc, take-append-seam, getD-append-seam, drop-drop}
+use lib.Dec.{ltb}
+use borrow.Author.Tests.{ltb-true, ltb-false}
 use native.Mathlib.Omega.{arith}
 use native.Mathlib.Nat.{le-of-suc-le-suc}
 use Rattle.ground.specs.Pick.{Reads, true≠false}
@@ -100,6 +108,54 @@ split-of (List·Memᴰ·tail {x = b} m) = let r = split-of m in (b ∷ r .0, r .
 
 pub of-split : {A : Type 0} (x : List A) (a : A) (y : List A) → List·Memᴰ a (x ++ a ∷ y)
 of-split x a y = Memᴰ·append-right x (List·Memᴰ·head refl)
+
+pub member-at : {A : Type 0} (blank : A) (l : List A) (i : ℕ) → i < length l → List·Memᴰ (getD l i blank) l
+member-at blank [] i h = absurd (omega arith)
+member-at blank (x ∷ l) zero h = List·Memᴰ·head refl
+member-at blank (x ∷ l) (suc i) h = List·Memᴰ·tail (member-at blank l i (le-of-suc-le-suc h))
+
+pub member-index : {A : Type 0} (blank : A) {x : A} {l : List A} → List·Memᴰ x l → (i : ℕ) × (i < length l) × (getD l i blank ≡ x)
+member-index blank (List·Memᴰ·head e) = (0, omega arith, sym e)
+member-index blank (List·Memᴰ·tail m) = let r = member-index blank m in let h = r .1 in (suc (r .0), omega arith, r .2)
+
+module _ {A : Type 0} {l : List A} (x : List A) (a : A) (y : List A) (e : l ≡ x ++ a ∷ y) where
+  pub split-inside : length x < length l
+  split-inside = let n : length l ≡ length x + suc (length y) = ap length e ∙ length-append x (a ∷ y) in omega arith
+
+  pub split-front : take (length x) l ≡ x
+  split-front = ap (take (length x)) e ∙ take-append-seam x (a ∷ y)
+
+  pub split-here : (blank : A) → getD l (length x) blank ≡ a
+  split-here blank = ap (λ (m : List A). getD m (length x) blank) e ∙ getD-append-seam x a y blank
+
+pub take-in : {A : Type 0} (k : ℕ) {l : List A} {x : A} → List·Memᴰ x (take k l) → List·Memᴰ x l
+take-in zero m = absurd (List·Memᴰ·not-nil m)
+take-in (suc k) {l = []} m = m
+take-in (suc k) {l = y ∷ l} m = ⊎-elim (λ e. List·Memᴰ·head e) (λ r. List·Memᴰ·tail (take-in k r)) (List·Memᴰ·cases-cons m)
+
+pub total-one : (ds : List (List ℕ)) (i : ℕ) → i < length ds → total (take (suc i) ds) ≡ total (take i ds) + length (getD ds i [])
+unfolding total
+total-one ds i h =
+    let k : total (take i ds ++ getD ds i [] ∷ []) ≡ total (take i ds) + (length (getD ds i []) + 0) = total-append (take i ds) (getD ds i [] ∷ []) in
+    let n : total (take (suc i) ds) ≡ total (take i ds ++ getD ds i [] ∷ []) = ap total (take-suc ds i [] h) in
+    omega arith
+
+pub total-rises : (ds : List (List ℕ)) → ((d : List ℕ) → List·Memᴰ d ds → 0 < length d) → (i j : ℕ) → i < j → j ≤ length ds → total (take i ds) < total (take j ds)
+total-rises ds some i zero h k = absurd (omega arith)
+total-rises ds some i (suc j) h k = go (ltb i j) refl (λ l. total-rises ds some i j l (omega arith))
+  where
+    go : (b : Bool) → ltb i j ≡ b → (i < j → total (take i ds) < total (take j ds)) → total (take i ds) < total (take (suc j) ds)
+    go true e ih =
+        let m = ih (ltb-true _ _ e) in
+        let n = total-one ds j (omega arith) in
+        omega arith
+    go false e ih =
+        let l : j ≤ i = ltb-false _ _ e in
+        let q : i ≡ j = omega arith in
+        let n = total-one ds j (omega arith) in
+        let m : total (take i ds) ≡ total (take j ds) = ap (λ (n : ℕ). total (take n ds)) q in
+        let o = some (getD ds j []) (member-at [] ds j (omega arith)) in
+        omega arith
 
 unfoldable pub pad : {A : Type 0} → A → ℕ → List A → List A
 pad b zero l = []

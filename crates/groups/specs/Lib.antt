@@ -6,3 +6,7 @@ pub mod CollectionLaws
 pub mod FrameLaws
 pub mod TotalLaws
 pub mod Judged
+pub mod Before
+pub mod Pairs
+pub mod Tops
+pub mod Marks

@@ -17,6 +17,10 @@
 --   collects s l              ==  the test that the listed numbers l keep rule 7
 --   groupJudged s f r         ==  the lowest number of 5 to 7 that applies, with its place; r where none does
 --   judged s r                ==  the lowest number of 1 to 7 that applies, with its place; r where none does
+--   noFrame                   ==  a frame of zeros
+--   unframed n p              ==  refusal n at place p, and no frame
+--   framedAs r f              ==  r, with the frame f where r refuses nothing
+--   framedOf s                ==  what the rules 1 to 7 say of s, with its frame where they are kept
 use Prim.Native.Nat.{ℕ, _+_}
 use mathlib.Core.Bool.{Bool, true, false, not, _&&_, _||_}
 use mathlib.Core.List.{List, [], _∷_}
@@ -24,18 +28,19 @@ use lib.ListN.{length}
 use lib.Dec.{eqb}
 use Rattle.ground.specs.declared.Place.{Place}
 use Rattle.ground.specs.declared.Place.the-variants.{Nowhere, At}
-use Rattle.ground.specs.Pick.{within}
+use Rattle.ground.specs.Pick.{pick, within}
 use Rattle.ground.specs.Numbers.{byte, word}
 use Rattle.ground.specs.Lists.{part, any}
 use Rattle.ground.specs.declared.Refusal.{Refusal}
 use Rattle.ground.specs.First.{isBefore}
-use Rattle.ground.specs.Refuse.{keptAt, refuse, placeOr}
+use Rattle.ground.specs.Refuse.{none, keptAt, refuse, placeOr}
 use Rattle.scan.specs.Cutting.{endAt, rest, breach3}
 use Rattle.scan.specs.Search.{searched}
 use Rattle.scan.specs.Want.{isInterface, isAudio, isSetting, isMember, foundFrom}
 use Rattle.scan.specs.declared.Want.the-variants as want
 use Rattle.groups.specs.Rules.{mostBytes, listedOf}
 use Rattle.groups.specs.declared.Frame.{Frame}
+use Rattle.groups.specs.declared.Framing.{Framing}
 
 unfoldable pub breach1 : List ℕ → Place
 breach1 s = keptAt (within 9 (length s) mostBytes) 0
@@ -114,3 +119,15 @@ groupJudged s f r = refuse 5 (breach5 s f) (refuse 6 (breach6 s f) (refuse 7 (br
 
 unfoldable pub judged : List ℕ → Refusal → Refusal
 judged s r = refuse 1 (breach1 s) (refuse 2 (breach2 s) (refuse 3 (breach3 s) (refuse 4 (breach4 s) (groupJudged s (frameOf s) r))))
+
+abbrev pub noFrame : Frame
+noFrame = record { control = 0; header = 0; run = 0; end = 0 }
+
+abbrev pub unframed : ℕ → ℕ → Framing
+unframed n p = record { refusal = record { number = n; place = p }; frame = noFrame }
+
+unfoldable pub framedAs : Refusal → Frame → Framing
+framedAs r f = record { refusal = r; frame = pick (eqb (r .number) 0) f noFrame }
+
+unfoldable pub framedOf : List ℕ → Framing
+framedOf s = framedAs (judged s none) (frameOf s)

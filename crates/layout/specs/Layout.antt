@@ -1,109 +1,122 @@
--- The layouts of the five kinds (document 01, "Entities"). Byte 2 is the kind, byte 3 the ID; pins p are 1 to 8.
---   mostPins                 ==  the most pins that a Mixer or a Selector may have: 8
---   Pins p                   ==  p is 1 to 8
---   LaidOut d                ==  d has one of the six layouts (the printed Selector is a Selector's second)
---   entityOf d               ==  what the reader makes of d: its kind's own numbers, or Unknown
---   inputOf d, outputOf d, mixerOf d, selectorOf d, featureOf d ==  the same of a d that is of the kind in the name
---   printedKind              ==  15 hex, the printed Selector's number on the sheet (document 01, "The sheet")
---   kindOf e                 ==  the number of its kind: byte 2, but printedKind for the printed Selector; 0 for Unknown
---   idOf e                   ==  the ID that an entity bears
+-- What a descriptor is to the reader: an enum case with its kind's own numbers, made of the fields that the layouts find in it
+-- (Layouts, Fields); Unknown where they find none. Byte 2 is the kind, byte 3 the ID.
+--   mostPins, Pins p, LaidOut d  ==  as Layouts and Fields have them, for other crates to use
 --   noCluster                ==  a cluster of no channels, all zeros: what stands where none was given out
+--   declared c l m           ==  the cluster that fields declare
 --   clusterAt d k            ==  the cluster declared at offsets k..k+3: channels, locations (2), name index
+--   entityIn o               ==  the enum case of the fields o; Unknown where there are no fields
+--   entityBy ks d            ==  that of the fields of d by one of the layouts ks, whatever byte 2 is
+--   inputOf d, outputOf d, mixerOf d, selectorOf d, featureOf d ==  the same by the layouts of the kind in the name
+--   entityOf d               ==  what the reader makes of d: by the layouts whose number is byte 2
+--   layoutOf e               ==  the layout that the entity e has; none for Unknown
+--   printedKind              ==  15 hex, the printed Selector's number on the sheet (document 01, "The sheet")
+--   shownAs o, kindOf e      ==  the number of its kind on the sheet: byte 2, but printedKind for the printed Selector; 0 for Unknown
+--   idOf e                   ==  the ID that an entity bears
 --   isUnknown e              ==  the layout was wrong
--- Offsets, 02 Input Terminal: length 12; terminal type at 4, cluster at 7..10. 03 Output Terminal: length 9; type at 4, source at 7.
--- 04 Mixer: p at 4, sources from 5, cluster at 5+p..8+p; length at least 10+p. 05 Selector: p at 4, sources from 5, length 6+p; printed:
--- length 7+p, byte 5 is 0, sources from 6. 06 Feature Unit: source at 4, control size n at 5 (1 to 4); length at least 7.
-use Prim.Native.Nat.{ℕ, _+_, _≤_}
-use mathlib.Core.Path.{_≡_}
+--   layoutNumber e           ==  the refusal that it asks for: 9 where the layout was wrong, else 0
+use Prim.Native.Nat.{ℕ, _+_}
 use mathlib.Core.Bool.{Bool, true, false}
+use mathlib.Core.Option.{Option, none, some}
 use mathlib.Core.List.{List}
 use lib.ListN.{length}
-use lib.Dec.{leb, eqb}
-use Rattle.ground.specs.Pick.{pick, within}
 use Rattle.ground.specs.Numbers.{byte, word}
 use Rattle.layout.specs.declared.Cluster.{Cluster}
 use Rattle.layout.specs.declared.Entity.{Entity}
 use Rattle.layout.specs.declared.Entity.the-variants.{Unknown, Input, Output, Mixer, Selector, Printed, Feature}
-
-abbrev pub mostPins : ℕ
-mostPins = 8
-
-abbrev pub Pins : ℕ → Type 0
-Pins p = (1 ≤ p) × (p ≤ mostPins)
-
-pub data LaidOut (d : List ℕ) : Type 0 where
-  input : byte d 2 ≡ 2 → length d ≡ 12 → LaidOut d
-  output : byte d 2 ≡ 3 → length d ≡ 9 → LaidOut d
-  mixer : byte d 2 ≡ 4 → Pins (byte d 4) → 10 + byte d 4 ≤ length d → LaidOut d
-  selector : byte d 2 ≡ 5 → Pins (byte d 4) → length d ≡ 6 + byte d 4 → LaidOut d
-  printed : byte d 2 ≡ 5 → Pins (byte d 4) → length d ≡ 7 + byte d 4 → byte d 5 ≡ 0 → LaidOut d
-  feature : byte d 2 ≡ 6 → (1 ≤ byte d 5) × (byte d 5 ≤ 4) → 7 ≤ length d → LaidOut d
+use Rattle.layout.specs.Format.{TwoBytes, wordOf}
+use Rattle.layout.specs.Layouts as kind
+use Rattle.layout.specs.Layouts.{Kind, numberOf, kindsOf}
+use Rattle.layout.specs.Fields as fields
+use Rattle.layout.specs.Fields.{Fields, fieldsBy, fieldsOf}
+pub use Rattle.layout.specs.Layouts.{mostPins, Pins}
+pub use Rattle.layout.specs.Fields.{LaidOut}
 
 abbrev pub noCluster : Cluster
 noCluster = record { channels = 0; locations = 0; names = 0 }
 
+abbrev pub declared : ℕ → TwoBytes → ℕ → Cluster
+declared c l m = record { channels = c; locations = wordOf l; names = m }
+
 abbrev pub clusterAt : List ℕ → ℕ → Cluster
 clusterAt d k = record { channels = byte d k; locations = word d (k + 1); names = byte d (k + 3) }
 
+abbrev pub entityIn : Option Fields → Entity
+entityIn none = Unknown
+entityIn (some (fields.input i t a c l m n)) = Input i (wordOf t) (declared c l m)
+entityIn (some (fields.output i t a s n)) = Output i (wordOf t) s
+entityIn (some (fields.mixer i s c l m k n)) = Mixer i (length s) (declared c l m)
+entityIn (some (fields.selector i s n)) = Selector i (length s)
+entityIn (some (fields.printed i s n)) = Printed i (length s)
+entityIn (some (fields.feature i s z k n)) = Feature i s z
+
+abbrev pub entityBy : List Kind → List ℕ → Entity
+entityBy ks d = entityIn (fieldsBy ks d)
+
 unfoldable pub inputOf : List ℕ → Entity
-inputOf d = pick (eqb (length d) 12) (Input (byte d 3) (word d 4) (clusterAt d 7)) Unknown
+inputOf d = entityBy (kindsOf (numberOf kind.input)) d
 
 unfoldable pub outputOf : List ℕ → Entity
-outputOf d = pick (eqb (length d) 9) (Output (byte d 3) (word d 4) (byte d 7)) Unknown
+outputOf d = entityBy (kindsOf (numberOf kind.output)) d
 
 unfoldable pub mixerOf : List ℕ → Entity
-mixerOf d =
-    pick (within 1 (byte d 4) mostPins)
-    (pick (leb (10 + byte d 4) (length d)) (Mixer (byte d 3) (byte d 4) (clusterAt d (5 + byte d 4)) (byte d 0)) Unknown)
-    Unknown
+mixerOf d = entityBy (kindsOf (numberOf kind.mixer)) d
 
 unfoldable pub selectorOf : List ℕ → Entity
-selectorOf d =
-    pick (within 1 (byte d 4) mostPins)
-    (pick (eqb (length d) (6 + byte d 4)) (Selector (byte d 3) (byte d 4))
-    (pick (eqb (length d) (7 + byte d 4)) (pick (eqb (byte d 5) 0) (Printed (byte d 3) (byte d 4)) Unknown) Unknown))
-    Unknown
+selectorOf d = entityBy (kindsOf (numberOf kind.selector)) d
 
 unfoldable pub featureOf : List ℕ → Entity
-featureOf d =
-    pick (within 1 (byte d 5) 4)
-    (pick (leb 7 (length d)) (Feature (byte d 3) (byte d 4) (byte d 5) (byte d 0)) Unknown)
-    Unknown
+featureOf d = entityBy (kindsOf (numberOf kind.feature)) d
 
 unfoldable pub entityOf : List ℕ → Entity
-entityOf d =
-    pick (eqb (byte d 2) 2) (inputOf d)
-    (pick (eqb (byte d 2) 3) (outputOf d)
-    (pick (eqb (byte d 2) 4) (mixerOf d)
-    (pick (eqb (byte d 2) 5) (selectorOf d)
-    (pick (eqb (byte d 2) 6) (featureOf d) Unknown))))
+entityOf d = entityIn (fieldsOf d)
+
+abbrev pub layoutOf : Entity → Option Kind
+layoutOf Unknown = none
+layoutOf (Input i t c) = some kind.input
+layoutOf (Output i t s) = some kind.output
+layoutOf (Mixer i p c) = some kind.mixer
+layoutOf (Selector i p) = some kind.selector
+layoutOf (Printed i p) = some kind.printed
+layoutOf (Feature i s n) = some kind.feature
 
 abbrev pub printedKind : ℕ
 printedKind = 0x15
 
+abbrev pub shownAs : Option Kind → ℕ
+shownAs none = 0
+shownAs (some kind.input) = numberOf kind.input
+shownAs (some kind.output) = numberOf kind.output
+shownAs (some kind.mixer) = numberOf kind.mixer
+shownAs (some kind.selector) = numberOf kind.selector
+shownAs (some kind.printed) = printedKind
+shownAs (some kind.feature) = numberOf kind.feature
+
 unfoldable pub kindOf : Entity → ℕ
-kindOf Unknown = 0
-kindOf (Input i t c) = 2
-kindOf (Output i t s) = 3
-kindOf (Mixer i p c l) = 4
-kindOf (Selector i p) = 5
-kindOf (Printed i p) = printedKind
-kindOf (Feature i s n l) = 6
+kindOf e = shownAs (layoutOf e)
 
 unfoldable pub idOf : Entity → ℕ
 idOf Unknown = 0
 idOf (Input i t c) = i
 idOf (Output i t s) = i
-idOf (Mixer i p c l) = i
+idOf (Mixer i p c) = i
 idOf (Selector i p) = i
 idOf (Printed i p) = i
-idOf (Feature i s n l) = i
+idOf (Feature i s n) = i
 
 unfoldable pub isUnknown : Entity → Bool
 isUnknown Unknown = true
 isUnknown (Input i t c) = false
 isUnknown (Output i t s) = false
-isUnknown (Mixer i p c l) = false
+isUnknown (Mixer i p c) = false
 isUnknown (Selector i p) = false
 isUnknown (Printed i p) = false
-isUnknown (Feature i s n l) = false
+isUnknown (Feature i s n) = false
+
+unfoldable pub layoutNumber : Entity → ℕ
+layoutNumber Unknown = 9
+layoutNumber (Input i t c) = 0
+layoutNumber (Output i t s) = 0
+layoutNumber (Mixer i p c) = 0
+layoutNumber (Selector i p) = 0
+layoutNumber (Printed i p) = 0
+layoutNumber (Feature i s n) = 0

@@ -3,6 +3,7 @@
 --   told, told-only ==  what the reader computes is told by the layouts, and nothing else is
 --   laid-out      ==  a descriptor has a layout or it has none
 --   reads-unknown ==  the reader's "wrong layout" is the rule's: d has none of the layouts (refusal 9)
+--   layout-number, layout-right ==  the number on the enum is 9 exactly there, and 0 elsewhere
 --   input-right, input-wrong, output-right, output-wrong, mixer-right, mixer-wrong, selector-right, printed-right, selector-wrong,
 --   feature-right, feature-wrong  ==  what a kind's own reader makes of its layout, and of any other
 --   kind-input, kind-output, kind-mixer, kind-selector, kind-feature, kind-other ==  byte 2 says which kind's reader it is
@@ -10,129 +11,153 @@
 --                     and where there is none
 --   kind-told     ==  byte 2 is the kind, in every layout but the printed Selector's
 --   id-told       ==  byte 3 is the ID, in every layout
+--   selector-pins ==  a Selector's pins are 1 to 8, in both of its layouts
 use Prim.Native.Nat.{ℕ, _+_, _≤_}
 use mathlib.Core.Path.{_≡_, refl, sym, ap, _∙_}
-use mathlib.Core.Bool.{Bool, false}
-use mathlib.Core.Logic.{_⊎_, inl, inr, ⊎-elim}
-use mathlib.Core.List.{List}
-use lib.ListN.{length}
-use lib.Dec.{eqb}
+use mathlib.Core.Bool.{Bool, true, false}
+use mathlib.Core.Logic.{_⊎_, inl, inr, ⊎-elim, _↔_}
+use mathlib.Core.Option.{Option, none, some}
+use mathlib.Core.List.{List, [], _∷_}
+use lib.ListN.{length, take, drop}
+use borrow.Author.Tests.{ne-eqb}
 use native.Mathlib.Omega.{arith}
-use Rattle.ground.specs.Pick.{pick, yes, no, Reads, shows, refutes, decided, true≠false, reads-eq, reads-le, reads-and, within, reads-within}
+use Rattle.ground.specs.Pick.{pick, yes, no, Reads, shows, refutes, true≠false, reads-same, reads-eq, reads-le, reads-and, reads-within}
 use Rattle.ground.specs.Numbers.{byte, word}
 use Rattle.layout.specs.declared.Entity.{Entity}
 use Rattle.layout.specs.declared.Entity.the-variants.{Unknown, Input, Output, Mixer, Selector, Printed, Feature}
-use Rattle.layout.specs.Layout.{mostPins, Pins, LaidOut, clusterAt, inputOf, outputOf, mixerOf, selectorOf, featureOf, entityOf, kindOf, idOf, isUnknown}
-use Rattle.layout.specs.Layout as layout
-
--- one statement, or two in a row, must hold; where they do not, the layout is wrong
-wrong-one : {P : Type 0} {b : Bool} (x : Entity) → Reads b P → (P → ⊥) → pick b x Unknown ≡ Unknown
-wrong-one x r n = no _ _ (refutes r n)
-
-wrong-two : {P Q : Type 0} {b c : Bool} (x : Entity) → Reads b P → Reads c Q → (P → Q → ⊥) → pick b (pick c x Unknown) Unknown ≡ Unknown
-wrong-two {b = b} x r s n = ⊎-elim (λ p. yes _ _ (shows r p) ∙ wrong-one x s (n p)) (λ m. no _ _ (refutes r m)) (decided b r)
+use Rattle.layout.specs.Format.{fits, valueAt}
+use Rattle.layout.specs.FormatLaws.{stretch-length}
+use Rattle.layout.specs.Layouts as kind
+use Rattle.layout.specs.Layouts.{Kind, numberOf, formatOf, kindsOf, mostPins, Pins}
+use Rattle.layout.specs.Fields as fields
+use Rattle.layout.specs.Fields.{Fields, LaidOut, fieldsAt, fieldsOf}
+use Rattle.layout.specs.FieldsLaws.{none-some, found-by, laid-fields, laid-only}
+use Rattle.layout.specs.Layout.{clusterAt, entityIn, entityBy, inputOf, outputOf, mixerOf, selectorOf, featureOf, entityOf, kindOf, idOf, isUnknown, layoutNumber}
 
 module _ (d : List ℕ) where
   abbrev p : ℕ
   p = byte d 4
 
+  -- ---- the test of each layout, by offset: what the format computes to
+
+  input-fits : Reads (fits (formatOf kind.input) d 3) (length d ≡ 12)
+  input-fits = reads-eq (length d) 12
+
+  output-fits : Reads (fits (formatOf kind.output) d 3) (length d ≡ 9)
+  output-fits = reads-eq (length d) 9
+
+  mixer-fits : Reads (fits (formatOf kind.mixer) d 3) (Pins p × (10 + p ≤ length d))
+  mixer-fits =
+      reads-same (reads-and _ _ (reads-within 1 p mostPins) (reads-le _ (length d)))
+      (λ h. let m = h .1 in (h .0, omega arith))
+      (λ h. let m = h .1 in (h .0, omega arith))
+
+  selector-fits : Reads (fits (formatOf kind.selector) d 3) (Pins p × (length d ≡ 6 + p))
+  selector-fits =
+      reads-same (reads-and _ _ (reads-within 1 p mostPins) (reads-eq (length d) _))
+      (λ h. let m = h .1 in (h .0, omega arith))
+      (λ h. let m = h .1 in (h .0, omega arith))
+
+  printed-fits : Reads (fits (formatOf kind.printed) d 3) (Pins p × ((byte d 5 ≡ 0) × (length d ≡ 7 + p)))
+  printed-fits =
+      reads-same (reads-and _ _ (reads-within 1 p mostPins) (reads-and _ _ (reads-eq (byte d 5) 0) (reads-eq (length d) _)))
+      (λ h. let m = h .1 .1 in (h .0, (h .1 .0, omega arith)))
+      (λ h. let m = h .1 .1 in (h .0, (h .1 .0, omega arith)))
+
+  feature-fits : Reads (fits (formatOf kind.feature) d 3) (((1 ≤ byte d 5) × (byte d 5 ≤ 4)) × (7 ≤ length d))
+  feature-fits = reads-and _ _ (reads-within 1 (byte d 5) 4) (reads-le 7 (length d))
+
+  -- ---- a kind's own reader
+
+  right : {P : Type 0} (k : Kind) (ks : List Kind) → Reads (fits (formatOf k) d 3) P → P → entityBy (k ∷ ks) d ≡ entityIn (some (fieldsAt k (valueAt (formatOf k) d 3)))
+  right k ks r h = ap (entityIn) (yes _ _ (shows r h))
+
+  wrong : {P : Type 0} (k : Kind) (ks : List Kind) → Reads (fits (formatOf k) d 3) P → (P → ⊥) → entityBy (k ∷ ks) d ≡ entityBy ks d
+  wrong k ks r n = ap (entityIn) (no _ _ (refutes r n))
+
   pub input-right : length d ≡ 12 → inputOf d ≡ Input (byte d 3) (word d 4) (clusterAt d 7)
   unfolding inputOf
-  input-right l = yes _ _ (shows (reads-eq _ _) l)
+  input-right l = right kind.input [] input-fits l
 
   pub input-wrong : (length d ≡ 12 → ⊥) → inputOf d ≡ Unknown
   unfolding inputOf
-  input-wrong n = wrong-one _ (reads-eq (length d) 12) n
+  input-wrong n = wrong kind.input [] input-fits n
 
   pub output-right : length d ≡ 9 → outputOf d ≡ Output (byte d 3) (word d 4) (byte d 7)
   unfolding outputOf
-  output-right l = yes _ _ (shows (reads-eq _ _) l)
+  output-right l = right kind.output [] output-fits l
 
   pub output-wrong : (length d ≡ 9 → ⊥) → outputOf d ≡ Unknown
   unfolding outputOf
-  output-wrong n = wrong-one _ (reads-eq (length d) 9) n
+  output-wrong n = wrong kind.output [] output-fits n
 
-  pub mixer-right : Pins p → 10 + p ≤ length d → mixerOf d ≡ Mixer (byte d 3) p (clusterAt d (5 + p)) (byte d 0)
+  pub mixer-right : Pins p → 10 + p ≤ length d → mixerOf d ≡ Mixer (byte d 3) p (clusterAt d (5 + p))
   unfolding mixerOf
-  mixer-right q l = yes _ _ (shows (reads-within 1 p mostPins) q) ∙ yes _ _ (shows (reads-le (10 + p) (length d)) l)
+  mixer-right q l =
+      let s : length (take p (drop 5 d)) ≡ p = stretch-length d 5 p (omega arith) in
+      let k : 5 + p + 1 + 2 ≡ 5 + p + 3 = omega arith in
+      right kind.mixer [] mixer-fits (q, l) ∙ rw (s, k) refl
 
   pub mixer-wrong : (Pins p → 10 + p ≤ length d → ⊥) → mixerOf d ≡ Unknown
   unfolding mixerOf
-  mixer-wrong n = wrong-two _ (reads-within 1 p mostPins) (reads-le (10 + p) (length d)) n
+  mixer-wrong n = wrong kind.mixer [] mixer-fits (λ h. n (h .0) (h .1))
 
   pub selector-right : Pins p → length d ≡ 6 + p → selectorOf d ≡ Selector (byte d 3) p
   unfolding selectorOf
-  selector-right q l = yes _ _ (shows (reads-within 1 p mostPins) q) ∙ yes _ _ (shows (reads-eq (length d) (6 + p)) l)
-
-  -- a Selector that is not of length 6+p
-  not-plain : Pins p → (length d ≡ 6 + p → ⊥) → selectorOf d ≡ pick (eqb (length d) (7 + p)) (pick (eqb (byte d 5) 0) (Printed (byte d 3) p) Unknown) Unknown
-  unfolding selectorOf
-  not-plain q n = yes _ _ (shows (reads-within 1 p mostPins) q) ∙ no _ _ (refutes (reads-eq (length d) (6 + p)) n)
+  selector-right q l =
+      let s : length (take p (drop 5 d)) ≡ p = stretch-length d 5 p (omega arith) in
+      right kind.selector (kind.printed ∷ []) selector-fits (q, l) ∙ rw s refl
 
   pub printed-right : Pins p → length d ≡ 7 + p → byte d 5 ≡ 0 → selectorOf d ≡ Printed (byte d 3) p
-  printed-right q l z = not-plain q (λ m. omega arith) ∙ yes _ _ (shows (reads-eq (length d) (7 + p)) l) ∙ yes _ _ (shows (reads-eq (byte d 5) 0) z)
+  unfolding selectorOf
+  printed-right q l z =
+      let s : length (take p (drop 6 d)) ≡ p = stretch-length d 6 p (omega arith) in
+      wrong kind.selector (kind.printed ∷ []) selector-fits (λ h. let m = h .1 in omega arith) ∙ right kind.printed [] printed-fits (q, (z, l)) ∙ rw s refl
 
   pub selector-wrong : (Pins p → length d ≡ 6 + p → ⊥) → (Pins p → length d ≡ 7 + p → byte d 5 ≡ 0 → ⊥) → selectorOf d ≡ Unknown
   unfolding selectorOf
   selector-wrong n m =
-      ⊎-elim
-      (λ q. not-plain q (n q) ∙ wrong-two _ (reads-eq (length d) (7 + p)) (reads-eq (byte d 5) 0) (m q))
-      (λ k. no _ _ (refutes (reads-within 1 p mostPins) k))
-      (decided _ (reads-within 1 p mostPins))
+      wrong kind.selector (kind.printed ∷ []) selector-fits (λ h. n (h .0) (h .1)) ∙ wrong kind.printed [] printed-fits (λ h. m (h .0) (h .1 .1) (h .1 .0))
 
-  pub feature-right : (1 ≤ byte d 5) × (byte d 5 ≤ 4) → 7 ≤ length d → featureOf d ≡ Feature (byte d 3) (byte d 4) (byte d 5) (byte d 0)
+  pub feature-right : (1 ≤ byte d 5) × (byte d 5 ≤ 4) → 7 ≤ length d → featureOf d ≡ Feature (byte d 3) (byte d 4) (byte d 5)
   unfolding featureOf
-  feature-right q l = yes _ _ (shows (reads-within 1 (byte d 5) 4) q) ∙ yes _ _ (shows (reads-le 7 (length d)) l)
+  feature-right q l = right kind.feature [] feature-fits (q, l)
 
   pub feature-wrong : ((1 ≤ byte d 5) × (byte d 5 ≤ 4) → 7 ≤ length d → ⊥) → featureOf d ≡ Unknown
   unfolding featureOf
-  feature-wrong n = wrong-two _ (reads-within 1 (byte d 5) 4) (reads-le 7 (length d)) n
+  feature-wrong n = wrong kind.feature [] feature-fits (λ h. n (h .0) (h .1))
 
-  -- byte 2 is the kind
-  pub kind-input : byte d 2 ≡ 2 → entityOf d ≡ inputOf d
+  -- ---- byte 2 is the kind
+
+  by-number : {n : ℕ} → byte d 2 ≡ n → entityOf d ≡ entityBy (kindsOf n) d
   unfolding entityOf
-  kind-input k = yes _ _ (shows (reads-eq (byte d 2) 2) k)
+  by-number k = ap (λ (n : ℕ). entityBy (kindsOf n) d) k
 
-  -- the test for one kind fails where the kind is another
-  other-kind : {k : ℕ} (j : ℕ) (x y : Entity) → byte d 2 ≡ k → (k ≡ j → ⊥) → pick (eqb (byte d 2) j) x y ≡ y
-  other-kind j x y e n = no _ _ (refutes (reads-eq (byte d 2) j) (λ h. n (sym e ∙ h)))
+  pub kind-input : byte d 2 ≡ 2 → entityOf d ≡ inputOf d
+  unfolding inputOf
+  kind-input k = by-number k
 
   pub kind-output : byte d 2 ≡ 3 → entityOf d ≡ outputOf d
-  unfolding entityOf
-  kind-output k = other-kind 2 _ _ k (λ h. omega arith) ∙ yes _ _ (shows (reads-eq (byte d 2) 3) k)
+  unfolding outputOf
+  kind-output k = by-number k
 
   pub kind-mixer : byte d 2 ≡ 4 → entityOf d ≡ mixerOf d
-  unfolding entityOf
-  kind-mixer k = other-kind 2 _ _ k (λ h. omega arith) ∙ other-kind 3 _ _ k (λ h. omega arith) ∙ yes _ _ (shows (reads-eq (byte d 2) 4) k)
+  unfolding mixerOf
+  kind-mixer k = by-number k
 
   pub kind-selector : byte d 2 ≡ 5 → entityOf d ≡ selectorOf d
-  unfolding entityOf
-  kind-selector k =
-      other-kind 2 _ _ k (λ h. omega arith) ∙ other-kind 3 _ _ k (λ h. omega arith) ∙ other-kind 4 _ _ k (λ h. omega arith)
-      ∙ yes _ _ (shows (reads-eq (byte d 2) 5) k)
+  unfolding selectorOf
+  kind-selector k = by-number k
 
   pub kind-feature : byte d 2 ≡ 6 → entityOf d ≡ featureOf d
-  unfolding entityOf
-  kind-feature k =
-      other-kind 2 _ _ k (λ h. omega arith) ∙ other-kind 3 _ _ k (λ h. omega arith) ∙ other-kind 4 _ _ k (λ h. omega arith)
-      ∙ other-kind 5 _ _ k (λ h. omega arith) ∙ yes _ _ (shows (reads-eq (byte d 2) 6) k)
-
-  -- each kind's own part gives Unknown: so does the whole
-  all-wrong : (byte d 2 ≡ 2 → inputOf d ≡ Unknown) → (byte d 2 ≡ 3 → outputOf d ≡ Unknown)
-      → (byte d 2 ≡ 4 → mixerOf d ≡ Unknown) → (byte d 2 ≡ 5 → selectorOf d ≡ Unknown)
-      → (byte d 2 ≡ 6 → featureOf d ≡ Unknown) → entityOf d ≡ Unknown
-  unfolding entityOf
-  all-wrong i o m s f = step 2 i (step 3 o (step 4 m (step 5 s (step 6 f refl))))
-    where
-      step : (j : ℕ) {x y : Entity} → (byte d 2 ≡ j → x ≡ Unknown) → y ≡ Unknown → pick (eqb (byte d 2) j) x y ≡ Unknown
-      step j h u =
-          ⊎-elim
-          (λ k. yes _ _ (shows (reads-eq (byte d 2) j) k) ∙ h k)
-          (λ n. no _ _ (refutes (reads-eq (byte d 2) j) n) ∙ u)
-          (decided _ (reads-eq (byte d 2) j))
+  unfolding featureOf
+  kind-feature k = by-number k
 
   pub kind-other : (byte d 2 ≡ 2 → ⊥) → (byte d 2 ≡ 3 → ⊥) → (byte d 2 ≡ 4 → ⊥) → (byte d 2 ≡ 5 → ⊥) → (byte d 2 ≡ 6 → ⊥) → entityOf d ≡ Unknown
-  kind-other a b c e f = all-wrong (λ k. absurd (a k)) (λ k. absurd (b k)) (λ k. absurd (c k)) (λ k. absurd (e k)) (λ k. absurd (f k))
+  unfolding entityOf
+  kind-other a b c e f =
+      let q : kindsOf (byte d 2) ≡ [] = no _ _ (ne-eqb _ 2 a) ∙ no _ _ (ne-eqb _ 3 b) ∙ no _ _ (ne-eqb _ 4 c) ∙ no _ _ (ne-eqb _ 5 e) ∙ no _ _ (ne-eqb _ 5 e) ∙ no _ _ (ne-eqb _ 6 f) in
+      ap (λ (ks : List Kind). entityBy ks d) q
 
   -- what each layout says of a descriptor that has it
   pub entity-input : byte d 2 ≡ 2 → length d ≡ 12 → entityOf d ≡ Input (byte d 3) (word d 4) (clusterAt d 7)
@@ -141,7 +166,7 @@ module _ (d : List ℕ) where
   pub entity-output : byte d 2 ≡ 3 → length d ≡ 9 → entityOf d ≡ Output (byte d 3) (word d 4) (byte d 7)
   entity-output k l = kind-output k ∙ output-right l
 
-  pub entity-mixer : byte d 2 ≡ 4 → Pins p → 10 + p ≤ length d → entityOf d ≡ Mixer (byte d 3) p (clusterAt d (5 + p)) (byte d 0)
+  pub entity-mixer : byte d 2 ≡ 4 → Pins p → 10 + p ≤ length d → entityOf d ≡ Mixer (byte d 3) p (clusterAt d (5 + p))
   entity-mixer k q l = kind-mixer k ∙ mixer-right q l
 
   pub entity-selector : byte d 2 ≡ 5 → Pins p → length d ≡ 6 + p → entityOf d ≡ Selector (byte d 3) p
@@ -150,72 +175,49 @@ module _ (d : List ℕ) where
   pub entity-printed : byte d 2 ≡ 5 → Pins p → length d ≡ 7 + p → byte d 5 ≡ 0 → entityOf d ≡ Printed (byte d 3) p
   entity-printed k q l z = kind-selector k ∙ printed-right q l z
 
-  pub entity-feature : byte d 2 ≡ 6 → (1 ≤ byte d 5) × (byte d 5 ≤ 4) → 7 ≤ length d → entityOf d ≡ Feature (byte d 3) (byte d 4) (byte d 5) (byte d 0)
+  pub entity-feature : byte d 2 ≡ 6 → (1 ≤ byte d 5) × (byte d 5 ≤ 4) → 7 ≤ length d → entityOf d ≡ Feature (byte d 3) (byte d 4) (byte d 5)
   entity-feature k q l = kind-feature k ∙ feature-right q l
 
   pub entity-unknown : (LaidOut d → ⊥) → entityOf d ≡ Unknown
-  entity-unknown n =
-      all-wrong
-      (λ k. input-wrong (λ l. n (layout.input k l)))
-      (λ k. output-wrong (λ l. n (layout.output k l)))
-      (λ k. mixer-wrong (λ q l. n (layout.mixer k q l)))
-      (λ k. selector-wrong (λ q l. n (layout.selector k q l)) (λ q l z. n (layout.printed k q l z)))
-      (λ k. feature-wrong (λ q l. n (layout.feature k q l)))
-
-  or-else : {P : Type 0} {b : Bool} → Reads b P → (P → LaidOut d) → ((P → ⊥) → LaidOut d ⊎ (LaidOut d → ⊥)) → LaidOut d ⊎ (LaidOut d → ⊥)
-  or-else {b = b} r f g = ⊎-elim (λ h. inl (f h)) g (decided b r)
+  unfolding entityOf
+  entity-unknown n = go (fieldsOf d) refl
+    where
+      go : (o : Option Fields) → fieldsOf d ≡ o → entityIn o ≡ Unknown
+      go none e = refl
+      go (some f) e = absurd (n (laid-fields d f e))
 
   -- a descriptor has a layout or it has none
   pub laid-out : LaidOut d ⊎ (LaidOut d → ⊥)
-  laid-out =
-      or-else (reads-and _ _ (kind 2) (reads-eq (length d) 12)) (λ h. layout.input (h .0) (h .1)) (λ i.
-      or-else (reads-and _ _ (kind 3) (reads-eq (length d) 9)) (λ h. layout.output (h .0) (h .1)) (λ o.
-      or-else (reads-and _ _ (kind 4) (reads-and _ _ pins (reads-le (10 + p) (length d)))) (λ h. layout.mixer (h .0) (h .1 .0) (h .1 .1)) (λ m.
-      or-else (reads-and _ _ (kind 5) (reads-and _ _ pins (reads-eq (length d) (6 + p)))) (λ h. layout.selector (h .0) (h .1 .0) (h .1 .1)) (λ s.
-      or-else (reads-and _ _ (kind 5) (reads-and _ _ pins (reads-and _ _ (reads-eq (length d) (7 + p)) (reads-eq (byte d 5) 0)))) (λ h. layout.printed (h .0) (h .1 .0) (h .1 .1 .0) (h .1 .1 .1)) (λ t.
-      or-else (reads-and _ _ (kind 6) (reads-and _ _ (reads-within 1 (byte d 5) 4) (reads-le 7 (length d)))) (λ h. layout.feature (h .0) (h .1 .0) (h .1 .1)) (λ f.
-      inr (none i o m s t f)))))))
+  laid-out = go (fieldsOf d) refl
     where
-      kind : (j : ℕ) → Reads (eqb (byte d 2) j) (byte d 2 ≡ j)
-      kind j = reads-eq (byte d 2) j
-
-      pins : Reads (within 1 p mostPins) (Pins p)
-      pins = reads-within 1 p mostPins
-
-      none : ((byte d 2 ≡ 2) × (length d ≡ 12) → ⊥) → ((byte d 2 ≡ 3) × (length d ≡ 9) → ⊥)
-          → ((byte d 2 ≡ 4) × (Pins p × (10 + p ≤ length d)) → ⊥)
-          → ((byte d 2 ≡ 5) × (Pins p × (length d ≡ 6 + p)) → ⊥)
-          → ((byte d 2 ≡ 5) × (Pins p × ((length d ≡ 7 + p) × (byte d 5 ≡ 0))) → ⊥)
-          → ((byte d 2 ≡ 6) × (((1 ≤ byte d 5) × (byte d 5 ≤ 4)) × (7 ≤ length d)) → ⊥)
-          → LaidOut d → ⊥
-      none i o m s t f (layout.input k l) = i (k, l)
-      none i o m s t f (layout.output k l) = o (k, l)
-      none i o m s t f (layout.mixer k q l) = m (k, (q, l))
-      none i o m s t f (layout.selector k q l) = s (k, (q, l))
-      none i o m s t f (layout.printed k q l z) = t (k, (q, (l, z)))
-      none i o m s t f (layout.feature k q l) = f (k, (q, l))
+      go : (o : Option Fields) → fieldsOf d ≡ o → LaidOut d ⊎ (LaidOut d → ⊥)
+      go none e = inr (λ l. none-some (sym e ∙ laid-only d l))
+      go (some f) e = inl (laid-fields d f e)
 
 -- what the layouts say of d, as an entity
 pub data Told (d : List ℕ) : Entity → Type 0 where
   unknown : (LaidOut d → ⊥) → Told d Unknown
   input : byte d 2 ≡ 2 → length d ≡ 12 → Told d (Input (byte d 3) (word d 4) (clusterAt d 7))
   output : byte d 2 ≡ 3 → length d ≡ 9 → Told d (Output (byte d 3) (word d 4) (byte d 7))
-  mixer : byte d 2 ≡ 4 → Pins (byte d 4) → 10 + byte d 4 ≤ length d → Told d (Mixer (byte d 3) (byte d 4) (clusterAt d (5 + byte d 4)) (byte d 0))
+  mixer : byte d 2 ≡ 4 → Pins (byte d 4) → 10 + byte d 4 ≤ length d → Told d (Mixer (byte d 3) (byte d 4) (clusterAt d (5 + byte d 4)))
   selector : byte d 2 ≡ 5 → Pins (byte d 4) → length d ≡ 6 + byte d 4 → Told d (Selector (byte d 3) (byte d 4))
   printed : byte d 2 ≡ 5 → Pins (byte d 4) → length d ≡ 7 + byte d 4 → byte d 5 ≡ 0 → Told d (Printed (byte d 3) (byte d 4))
-  feature : byte d 2 ≡ 6 → (1 ≤ byte d 5) × (byte d 5 ≤ 4) → 7 ≤ length d → Told d (Feature (byte d 3) (byte d 4) (byte d 5) (byte d 0))
+  feature : byte d 2 ≡ 6 → (1 ≤ byte d 5) × (byte d 5 ≤ 4) → 7 ≤ length d → Told d (Feature (byte d 3) (byte d 4) (byte d 5))
 
 -- THE LAWS: what the reader computes is told by the layouts, and nothing else is
 pub told : (d : List ℕ) → Told d (entityOf d)
 told d = ⊎-elim of (λ n. rw (entity-unknown d n) (unknown n)) (laid-out d)
   where
+    by-kind : (k : Kind) → byte d 2 ≡ numberOf k → fits (formatOf k) d 3 ≡ true → Told d (entityOf d)
+    by-kind kind.input e t = let h = input-fits d .says t in rw (entity-input d e h) (input e h)
+    by-kind kind.output e t = let h = output-fits d .says t in rw (entity-output d e h) (output e h)
+    by-kind kind.mixer e t = let h = mixer-fits d .says t in rw (entity-mixer d e (h .0) (h .1)) (mixer e (h .0) (h .1))
+    by-kind kind.selector e t = let h = selector-fits d .says t in rw (entity-selector d e (h .0) (h .1)) (selector e (h .0) (h .1))
+    by-kind kind.printed e t = let h = printed-fits d .says t in rw (entity-printed d e (h .0) (h .1 .1) (h .1 .0)) (printed e (h .0) (h .1 .1) (h .1 .0))
+    by-kind kind.feature e t = let h = feature-fits d .says t in rw (entity-feature d e (h .0) (h .1)) (feature e (h .0) (h .1))
+
     of : LaidOut d → Told d (entityOf d)
-    of (layout.input k l) = rw (entity-input d k l) (input k l)
-    of (layout.output k l) = rw (entity-output d k l) (output k l)
-    of (layout.mixer k q l) = rw (entity-mixer d k q l) (mixer k q l)
-    of (layout.selector k q l) = rw (entity-selector d k q l) (selector k q l)
-    of (layout.printed k q l z) = rw (entity-printed d k q l z) (printed k q l z)
-    of (layout.feature k q l) = rw (entity-feature d k q l) (feature k q l)
+    of l = let t = found-by d (l .fields) (laid-only d l) in by-kind (t .kind) (t .number) (t .passes)
 
 pub told-only : {d : List ℕ} {e : Entity} → Told d e → entityOf d ≡ e
 told-only {d} (unknown n) = entity-unknown d n
@@ -228,35 +230,76 @@ told-only {d} (feature k q l) = entity-feature d k q l
 
 -- the tie of refusal 9 to what the reader computes
 pub reads-unknown : (d : List ℕ) → Reads (isUnknown (entityOf d)) (LaidOut d → ⊥)
-unfolding isUnknown
-reads-unknown d = of (told d)
+unfolding isUnknown entityOf
+reads-unknown d = go (fieldsOf d) refl
   where
-    known : LaidOut d → Reads false (LaidOut d → ⊥)
-    known l = record { says = λ e. absurd (true≠false (sym e)); denies = λ e n. n l }
+    known : (f : Fields) → isUnknown (entityIn (some f)) ≡ false
+    known (fields.input i t a c l m n) = refl
+    known (fields.output i t a s n) = refl
+    known (fields.mixer i s c l m k n) = refl
+    known (fields.selector i s n) = refl
+    known (fields.printed i s n) = refl
+    known (fields.feature i s z k n) = refl
 
-    of : {e : Entity} → Told d e → Reads (isUnknown e) (LaidOut d → ⊥)
-    of (unknown n) = record { says = λ e. n; denies = λ e. absurd (true≠false e) }
-    of (input k l) = known (layout.input k l)
-    of (output k l) = known (layout.output k l)
-    of (mixer k q l) = known (layout.mixer k q l)
-    of (selector k q l) = known (layout.selector k q l)
-    of (printed k q l z) = known (layout.printed k q l z)
-    of (feature k q l) = known (layout.feature k q l)
+    go : (o : Option Fields) → fieldsOf d ≡ o → Reads (isUnknown (entityIn o)) (LaidOut d → ⊥)
+    go none e = record { says = λ t l. none-some (sym e ∙ laid-only d l); denies = λ t. absurd (true≠false t) }
+    go (some f) e = record { says = λ t. absurd (true≠false (sym t ∙ known f)); denies = λ t n. n (laid-fields d f e) }
+
+-- .. and to the number on the enum
+number-unknown : (e : Entity) → layoutNumber e ≡ pick (isUnknown e) 9 0
+unfolding layoutNumber isUnknown
+number-unknown Unknown = refl
+number-unknown (Input i t c) = refl
+number-unknown (Output i t s) = refl
+number-unknown (Mixer i p c) = refl
+number-unknown (Selector i p) = refl
+number-unknown (Printed i p) = refl
+number-unknown (Feature i s n) = refl
+
+pub layout-number : (d : List ℕ) → (layoutNumber (entityOf d) ≡ 9) ↔ (LaidOut d → ⊥)
+layout-number d = (of (isUnknown (entityOf d)) refl, λ n. number-unknown (entityOf d) ∙ yes _ _ (shows (reads-unknown d) n))
+  where
+    of : (b : Bool) → isUnknown (entityOf d) ≡ b → layoutNumber (entityOf d) ≡ 9 → LaidOut d → ⊥
+    of true t e = reads-unknown d .says t
+    of false t e = let z : layoutNumber (entityOf d) ≡ 0 = number-unknown (entityOf d) ∙ no _ _ t in absurd (omega arith)
+
+pub layout-right : (d : List ℕ) → LaidOut d → layoutNumber (entityOf d) ≡ 0
+layout-right d l = number-unknown (entityOf d) ∙ no _ _ (refutes (reads-unknown d) (λ n. n l))
 
 pub kind-told : (d : List ℕ) → LaidOut d → (kindOf (entityOf d) ≡ byte d 2) ⊎ (entityOf d ≡ Printed (byte d 3) (byte d 4))
 unfolding kindOf
-kind-told d (layout.input k l) = inl (ap kindOf (entity-input d k l) ∙ sym k)
-kind-told d (layout.output k l) = inl (ap kindOf (entity-output d k l) ∙ sym k)
-kind-told d (layout.mixer k q l) = inl (ap kindOf (entity-mixer d k q l) ∙ sym k)
-kind-told d (layout.selector k q l) = inl (ap kindOf (entity-selector d k q l) ∙ sym k)
-kind-told d (layout.printed k q l z) = inr (entity-printed d k q l z)
-kind-told d (layout.feature k q l) = inl (ap kindOf (entity-feature d k q l) ∙ sym k)
+kind-told d o = of (told d)
+  where
+    of : {e : Entity} → Told d e → (kindOf e ≡ byte d 2) ⊎ (e ≡ Printed (byte d 3) (byte d 4))
+    of (unknown n) = absurd (n o)
+    of (input k l) = inl (sym k)
+    of (output k l) = inl (sym k)
+    of (mixer k q l) = inl (sym k)
+    of (selector k q l) = inl (sym k)
+    of (printed k q l z) = inr refl
+    of (feature k q l) = inl (sym k)
 
 pub id-told : (d : List ℕ) → LaidOut d → idOf (entityOf d) ≡ byte d 3
 unfolding idOf
-id-told d (layout.input k l) = ap idOf (entity-input d k l)
-id-told d (layout.output k l) = ap idOf (entity-output d k l)
-id-told d (layout.mixer k q l) = ap idOf (entity-mixer d k q l)
-id-told d (layout.selector k q l) = ap idOf (entity-selector d k q l)
-id-told d (layout.printed k q l z) = ap idOf (entity-printed d k q l z)
-id-told d (layout.feature k q l) = ap idOf (entity-feature d k q l)
+id-told d o = of (told d)
+  where
+    of : {e : Entity} → Told d e → idOf e ≡ byte d 3
+    of (unknown n) = absurd (n o)
+    of (input k l) = refl
+    of (output k l) = refl
+    of (mixer k q l) = refl
+    of (selector k q l) = refl
+    of (printed k q l z) = refl
+    of (feature k q l) = refl
+
+pub selector-pins : (d : List ℕ) → LaidOut d → byte d 2 ≡ 5 → Pins (byte d 4)
+selector-pins d o e = of (told d)
+  where
+    of : {x : Entity} → Told d x → Pins (byte d 4)
+    of (unknown n) = absurd (n o)
+    of (input k l) = absurd (omega arith)
+    of (output k l) = absurd (omega arith)
+    of (mixer k q l) = absurd (omega arith)
+    of (selector k q l) = q
+    of (printed k q l z) = q
+    of (feature k q l) = absurd (omega arith)

@@ -1,3 +1,8 @@
+pub mod Format
+pub mod FormatLaws
+pub mod Layouts
+pub mod Fields
+pub mod FieldsLaws
 pub mod Layout
 pub mod Sources
 pub mod LayoutLaws

@@ -1,12 +1,12 @@
-// The layouts of the five kinds of entities (document 01, "Entities"). A descriptor becomes an enum case that carries its kind's
-// own numbers; its sources are read beside it.
+// The layouts of the five kinds of entities (document 01, "Entities"). To the layer above: a descriptor, any slice, becomes an enum case
+// that carries its kind's own numbers, or Unknown where its layout is wrong; the case tells where the IDs of its sources stand in the
+// descriptor, how many they are, whether it may be a source itself, and its kind on the sheet. The layouts are said in specs/Layouts.
 ghost use mathlib.Core.Path.{_≡_};
 ghost use Prim.Native.Nat.{_≤_, _<_};
-ghost use mathlib.Core.List.{[], _∷_};
 ghost use lib.ListN.{length};
-ghost use Rattle.layout.specs.Layout.{entityOf, inputOf, outputOf, mixerOf, selectorOf, featureOf, clusterAt, mostPins};
+ghost use Rattle.layout.specs.Layout.{entityOf, inputOf, outputOf, mixerOf, selectorOf, featureOf, kindOf, clusterAt, mostPins};
 ghost use Rattle.ground.specs.Pick.{within};
-ghost use Rattle.layout.specs.Sources.{sourcesOf, sourcesIn};
+ghost use Rattle.layout.specs.Sources.{sourcesFrom, pinsOf, feedsOf};
 use scan::byte_at;
 use scan::word_at;
 
@@ -20,6 +20,7 @@ pub struct Cluster {
     pub names: u8,
 }
 
+// What a descriptor of the run is: one of the five kinds, with that kind's own numbers.
 pub enum Entity {
     // Any other kind, or a wrong layout.
     Unknown,
@@ -37,7 +38,6 @@ pub enum Entity {
         id: u8,
         pins: u8,
         cluster: Cluster,
-        length: u8,
     },
     Selector {
         id: u8,
@@ -52,14 +52,7 @@ pub enum Entity {
         id: u8,
         source: u8,
         size: u8,
-        length: u8,
     },
-}
-
-// How many sources an entity has, and their IDs in the order of its pins, the unused places 0.
-pub struct Sources {
-    pub pins: u8,
-    pub ids: [u8; 8],
 }
 
 fn cluster_at(d: &[u8], at: usize) -> Cluster
@@ -125,7 +118,6 @@ fn read_mixer(d: &[u8]) -> Entity
         id: byte_at(d, 3),
         pins,
         cluster,
-        length: byte_at(d, 0),
     }
 }
 
@@ -171,7 +163,6 @@ fn read_feature(d: &[u8]) -> Entity
         id: byte_at(d, 3),
         source: byte_at(d, 4),
         size,
-        length: byte_at(d, 0),
     }
 }
 
@@ -190,64 +181,62 @@ pub fn read(d: &[u8]) -> Entity
     }
 }
 
-// The places of a stretch of IDs, 00 past its end.
-fn sources_in(ids: &[u8]) -> Sources
-    requires { ⌜ length (now ids) ≤ mostPins ⌝ }
-    ensures { λ r. ⌜ r ≡ sourcesIn (now (ids .entry)) ⌝ }
+// The number of an entity's kind on the sheet: byte 2, but 15 hex for the printed Selector.
+pub fn kind(entity: Entity) -> u8
+    ensures { λ r. ⌜ r ≡ kindOf entity ⌝ }
 {
-    let mut places = [0u8; 8];
-    let mut i: usize = 0;
-    while i < ids.len() {
-        places[i] = ids[i];
-        i += 1;
-    }
-    Sources {
-        pins: i as u8,
-        ids: places,
-    }
-}
-
-fn one_source(id: u8) -> Sources
-    ensures { λ r. ⌜ r ≡ sourcesIn (id ∷ []) ⌝ }
-{
-    let mut places = [0u8; 8];
-    places[0] = id;
-    Sources {
-        pins: 1,
-        ids: places,
-    }
-}
-
-fn no_sources() -> Sources
-    ensures { λ r. ⌜ r ≡ sourcesIn [] ⌝ }
-{
-    Sources {
-        pins: 0,
-        ids: [0u8; 8],
-    }
-}
-
-// The sources of an entity; none where its layout is wrong.
-pub fn read_sources(d: &[u8]) -> Sources
-    ensures { λ r. ⌜ r ≡ sourcesOf (now (d .entry)) ⌝ }
-{
-    let entity = read(d);
     match entity {
-        Entity::Unknown => no_sources(),
-        Entity::Input { .. } => no_sources(),
-        Entity::Output { source, .. } => one_source(source),
-        Entity::Mixer { pins, .. } => {
-            let end = 5 + pins as usize;
-            sources_in(&d[5..end])
-        }
-        Entity::Selector { pins, .. } => {
-            let end = 5 + pins as usize;
-            sources_in(&d[5..end])
-        }
-        Entity::Printed { pins, .. } => {
-            let end = 6 + pins as usize;
-            sources_in(&d[6..end])
-        }
-        Entity::Feature { source, .. } => one_source(source),
+        Entity::Unknown => 0,
+        Entity::Input { .. } => 2,
+        Entity::Output { .. } => 3,
+        Entity::Mixer { .. } => 4,
+        Entity::Selector { .. } => 5,
+        Entity::Printed { .. } => 0x15,
+        Entity::Feature { .. } => 6,
+    }
+}
+
+// The offset of an entity's first source ID in its descriptor; the others follow it, one for each pin.
+pub fn sources_from(entity: Entity) -> usize
+    ensures { λ r. ⌜ r ≡ sourcesFrom entity ⌝ }
+{
+    match entity {
+        Entity::Unknown => 0,
+        Entity::Input { .. } => 0,
+        Entity::Output { .. } => 7,
+        Entity::Mixer { .. } => 5,
+        Entity::Selector { .. } => 5,
+        Entity::Printed { .. } => 6,
+        Entity::Feature { .. } => 4,
+    }
+}
+
+// How many sources an entity has: its pins.
+pub fn pins(entity: Entity) -> u8
+    ensures { λ r. ⌜ r ≡ pinsOf entity ⌝ }
+{
+    match entity {
+        Entity::Unknown => 0,
+        Entity::Input { .. } => 0,
+        Entity::Output { .. } => 1,
+        Entity::Mixer { pins, .. } => pins,
+        Entity::Selector { pins, .. } => pins,
+        Entity::Printed { pins, .. } => pins,
+        Entity::Feature { .. } => 1,
+    }
+}
+
+// Whether an entity may be a source: it has an output, as all have but an Output Terminal and a wrong layout.
+pub fn feeds(entity: Entity) -> bool
+    ensures { λ r. ⌜ r ≡ feedsOf entity ⌝ }
+{
+    match entity {
+        Entity::Unknown => false,
+        Entity::Input { .. } => true,
+        Entity::Output { .. } => false,
+        Entity::Mixer { .. } => true,
+        Entity::Selector { .. } => true,
+        Entity::Printed { .. } => true,
+        Entity::Feature { .. } => true,
     }
 }

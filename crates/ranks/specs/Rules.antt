@@ -1,53 +1,28 @@
 -- Document 01, refusal 12: "some upstream chain of sources is longer than 32 steps (no ranks exist)". A chain goes from an entity to one
 -- that bears one of its source IDs, and so on from there; it may meet an entity twice. Wrong is each entity with such a chain above it, on a
--- loop or below one; the first by place is named.
--- The run is the reader's array of entities: what stands at its place i is the i-th descriptor's (sources/specs/RunLaws: id-read,
--- sources-read, place-read).
---   mostSteps        ==  32
---   Upstream run d i ==  a chain of d steps goes upstream from the entity at place i
---   Endless run i    ==  a chain of more than 32 steps does
---   Rule12 run       ==  from no entity of the run does one
---   Ranking run rank ==  the rank, on IDs, is lower at each source than at its user
---   allSettled now l ==  all of the places l are settled
---   settledIn run    ==  which places of the run are settled after 32 rounds
---   breach12 run     ==  the place of the first entity that is not
+-- loop or below one; the first by place is named. All of it speaks of the run's descriptors, for any edition.
+--   mostSteps            ==  32
+--   Upstream ed ds n d   ==  a chain of n steps goes upstream from d in the run ds
+--   Endless ed ds d      ==  a chain of more than 32 steps does
+--   Rule12 ed ds         ==  from no descriptor of the run does one
+--   Ranking ed ds rank   ==  the rank, on IDs, is lower at each source than at its user
 use Prim.Native.Nat.{ℕ, zero, suc, _<_}
-use mathlib.Core.Bool.{Bool, false, not}
 use mathlib.Core.List.{List}
-use lib.ListN.{getD}
-use Rattle.ground.specs.declared.Place.{Place}
-use Rattle.ground.specs.declared.Place.the-variants.{Nowhere, At}
-use Rattle.entities.specs.declared.Run.{Run}
-use Rattle.entities.specs.Run.{mostEntities, held, idAt, placeAt}
-use Rattle.graph.specs.Members.{_∈_, all}
-use Rattle.graph.specs.Rounds.{settlingRounds}
-use Rattle.sources.specs.Pins.{sourcesAt, linkedTo}
-use Rattle.ground.specs.Places.{firstIn}
-use Rattle.sources.specs.Lookup.{linksOf}
-use Rattle.sources.specs.Rules.{Bears}
+use Rattle.graph.specs.Members.{_∈_}
+use Rattle.edition.specs.Edition.{Edition, ownId, sources}
 
 abbrev pub mostSteps : ℕ
 mostSteps = 32
 
-pub data Upstream (run : Run) : ℕ → ℕ → Type 0 where
-  ends : {i : ℕ} → Upstream run zero i
-  up : {d i j s : ℕ} → s ∈ sourcesAt run i → Bears run s j → Upstream run d j → Upstream run (suc d) i
+pub data Upstream (ed : Edition) (ds : List (List ℕ)) : ℕ → List ℕ → Type 0 where
+  ends : {d : List ℕ} → Upstream ed ds zero d
+  up : {n : ℕ} {d e : List ℕ} → e ∈ ds → ownId e ∈ sources ed d → Upstream ed ds n e → Upstream ed ds (suc n) d
 
-abbrev pub Endless : Run → ℕ → Type 0
-Endless run i = (d : ℕ) × (mostSteps < d) × Upstream run d i
+abbrev pub Endless : Edition → List (List ℕ) → List ℕ → Type 0
+Endless ed ds d = (n : ℕ) × (mostSteps < n) × Upstream ed ds n d
 
-abbrev pub Rule12 : Run → Type 0
-Rule12 run = (i : ℕ) → i < held run → Endless run i → ⊥
+abbrev pub Rule12 : Edition → List (List ℕ) → Type 0
+Rule12 ed ds = (d : List ℕ) → d ∈ ds → Endless ed ds d → ⊥
 
-abbrev pub Ranking : Run → (ℕ → ℕ) → Type 0
-Ranking run rank = (i : ℕ) → i < held run → (s : ℕ) → s ∈ sourcesAt run i → rank s < rank (idAt run i)
-
--- what the reader computes
-unfoldable pub allSettled : List Bool → List ℕ → Bool
-allSettled now l = all (λ j. getD now j false) l
-
-unfoldable pub settledIn : Run → List Bool
-settledIn run = settlingRounds mostEntities (linkedTo (linksOf run)) mostSteps
-
-unfoldable pub breach12 : Run → Place
-breach12 run = firstIn (λ i. not (getD (settledIn run) i false)) (λ i. At (placeAt run i)) Nowhere 0 (held run)
+abbrev pub Ranking : Edition → List (List ℕ) → (ℕ → ℕ) → Type 0
+Ranking ed ds rank = (d : List ℕ) → d ∈ ds → (x : ℕ) → x ∈ sources ed d → rank x < rank (ownId d)

@@ -1,42 +1,30 @@
-// Ranks, rule 12 (document 01): no upstream chain of sources is longer than 32 steps. Rounds find out: none is settled at first, and
-// each round settles the entities whose sources were all settled before it. Order carries no meaning. What this crate promises to
-// the layer above: each public function answers, for every run whatever, as the definitions of specs/ say.
+// Ranks, rule 12 (document 01): no upstream chain of sources is longer than 32 steps. An order finds out: passes go over the run, and an
+// entity joins the order once all its sources are in it. Whoever never joins has an endless chain above it. Order of the bytes
+// carries no meaning: a source that stands after its user costs another pass, nothing else. What this crate promises to the
+// layer above: each public function answers, for every configuration and every run whatever, as the definitions of specs/ say.
 ghost use mathlib.Core.Path.{_≡_};
-ghost use mathlib.Core.Bool.{false};
 ghost use Prim.Native.Nat.{_<_};
-ghost use lib.ListN.{getD, set, take};
-ghost use Rattle.graph.specs.Rounds.{settlingRound, settlingRounds};
-ghost use Rattle.entities.specs.Run.{mostEntities};
-ghost use Rattle.sources.specs.Pins.{linked, linkedTo};
-ghost use Rattle.ranks.specs.Rules.{mostSteps, allSettled, settledIn, breach12};
-use entities::MOST_ENTITIES;
+ghost use Rattle.graph.specs.Members.{all};
+ghost use Rattle.ranks.specs.Order.{marked, fresh, ordered};
+ghost use Rattle.ranks.specs.Breach.{borneIn, breach12};
+use entities::Node;
 use entities::Run;
 use ground::Place;
-use sources::Link;
 
-// The most steps that a chain of sources may have, and how many rounds settle all that ever settles.
-pub const MOST_STEPS: usize = 32;
-
-// Whether the entity at a place is settled; none is past the last place.
-fn is_settled(now: [bool; 32], j: usize) -> bool
-    ensures { λ r. ⌜ r ≡ getD now j false ⌝ }
+// A byte as an index of 256 places.
+fn wide(x: u8) -> usize
+    ensures { λ r. ⌜ (r ≡ x) × (r < 256) ⌝ }
 {
-    if j < MOST_ENTITIES {
-        return now[j];
-    }
-    false
+    x as usize
 }
 
-// Whether the first places, as many as there are pins, are settled.
-fn all_settled(now: [bool; 32], places: [usize; 8], pins: usize) -> bool
-    ensures { λ r. ⌜ r ≡ allSettled now (take pins places) ⌝ }
+// Whether all these IDs are marked.
+fn all_marked(marks: &[bool; 256], ids: &[u8]) -> bool
+    ensures { λ r. ⌜ r ≡ all (marked (now (marks .entry))) (now (ids .entry)) ⌝ }
 {
     let mut k: usize = 0;
-    while k < 8 {
-        if pins <= k {
-            return true;
-        }
-        if !is_settled(now, places[k]) {
+    while k < ids.len() {
+        if !marks[wide(ids[k])] {
             return false;
         }
         k += 1;
@@ -44,70 +32,72 @@ fn all_settled(now: [bool; 32], places: [usize; 8], pins: usize) -> bool
     true
 }
 
-// Whether all the sources of an entity are settled.
-fn link_settled(now: [bool; 32], link: Link) -> bool
-    ensures { λ r. ⌜ r ≡ allSettled now (linked link) ⌝ }
+// Whether an entity may join: its ID is not borne in the order yet, and all its source IDs are.
+fn may_join(marks: &[bool; 256], config: &[u8], node: Node) -> bool
+    ensures { λ r. ⌜ r ≡ fresh (now (marks .entry)) (now (config .entry)) node ⌝ }
 {
-    let places = link.places;
-    all_settled(now, places, link.pins as usize)
+    if marks[wide(node.id)] {
+        return false;
+    }
+    all_marked(marks, entities::sources(config, node))
 }
 
-// The next round with one place more: an entity is settled where its sources were all settled before the round.
-fn settle(links: [Link; 32], now: [bool; 32], next: [bool; 32], i: usize) -> [bool; 32]
-    requires { ⌜ i < mostEntities ⌝ }
-    ensures { λ r. ⌜ r ≡ set next i (allSettled now (linkedTo links i)) ⌝ }
+// The entities of a run in an order in which each source comes before its user, and how many there are: the others have an endless
+// chain above them. A pass that adds nothing is the last.
+pub fn order_of(config: &[u8], run: Run) -> Run
+    ensures { λ r. ⌜ r ≡ ordered (now (config .entry)) run ⌝ }
 {
-    let link = links[i];
-    let mut more = next;
-    more[i] = link_settled(now, link);
-    more
-}
-
-// One round.
-fn round(links: [Link; 32], now: [bool; 32]) -> [bool; 32]
-    ensures { λ r. ⌜ r ≡ settlingRound mostEntities (linkedTo links) now ⌝ }
-{
-    let mut next = [false; 32];
+    let n = entities::count(run);
+    let spare = entities::blank();
+    let mut nodes = [spare; 32];
+    let mut marks = [false; 256];
+    let mut count: usize = 0;
+    let mut before: usize = 0;
     let mut i: usize = 0;
-    while i < MOST_ENTITIES {
-        let more = settle(links, now, next, i);
-        next = more;
-        i += 1;
+    while count < n {
+        if i < n {
+            let node = run.nodes[i];
+            if may_join(&marks, config, node) {
+                marks[wide(node.id)] = true;
+                nodes[count] = node;
+                count += 1;
+            }
+            i += 1;
+        } else {
+            if count == before {
+                return Run { count, nodes };
+            }
+            before = count;
+            i = 0;
+        }
     }
-    next
+    Run { count, nodes }
 }
 
-// All the rounds.
-fn rounds(links: [Link; 32]) -> [bool; 32]
-    ensures { λ r. ⌜ r ≡ settlingRounds mostEntities (linkedTo links) mostSteps ⌝ }
+// Which IDs are borne in a run.
+fn borne(run: Run) -> [bool; 256]
+    ensures { λ r. ⌜ r ≡ borneIn run ⌝ }
 {
-    let mut now = [false; 32];
-    let mut d: usize = 0;
-    while d < MOST_STEPS {
-        let next = round(links, now);
-        now = next;
-        d += 1;
-    }
-    now
-}
-
-// Which places of a run settle.
-fn settled(run: Run) -> [bool; 32]
-    ensures { λ r. ⌜ r ≡ settledIn run ⌝ }
-{
-    rounds(sources::links(run))
-}
-
-// The first place that breaks rule 12.
-pub fn check_ranks(run: Run) -> Place
-    ensures { λ r. ⌜ r ≡ breach12 run ⌝ }
-{
-    let n = sources::count(run);
-    let now = settled(run);
+    let n = entities::count(run);
+    let mut marks = [false; 256];
     let mut i: usize = 0;
     while i < n {
-        if !is_settled(now, i) {
-            let node = sources::node(run, i);
+        marks[wide(run.nodes[i].id)] = true;
+        i += 1;
+    }
+    marks
+}
+
+// The first entity of a run that an order of it leaves out: the place where rule 12 is broken.
+pub fn check_ranks(run: Run, order: Run) -> Place
+    ensures { λ r. ⌜ r ≡ breach12 run order ⌝ }
+{
+    let n = entities::count(run);
+    let marks = borne(order);
+    let mut i: usize = 0;
+    while i < n {
+        let node = run.nodes[i];
+        if !marks[wide(node.id)] {
             return Place::At(node.place);
         }
         i += 1;

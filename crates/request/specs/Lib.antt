@@ -1,3 +1,4 @@
 pub mod Outcome
 pub mod Load
 pub mod Request
+pub mod Deed

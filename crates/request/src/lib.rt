@@ -6,13 +6,14 @@ ghost use Prim.Native.Nat.{_+_, _*_, _≤_};
 ghost use lib.ListN.{length};
 ghost use Rattle.request.specs.Outcome.{answerOf, Answered, laid, lowFirst};
 ghost use Rattle.request.specs.Load.{storedIn, loadRange, loadBy, loadOf};
-ghost use Rattle.request.specs.Request.{askedBy, askedOf, addressedIn, isRanged, ofRange, lacking, partOf, unready, valueIn, settledBetween, settledOf, setAt, setOf, getAt, getOf, requestOf};
+ghost use Rattle.request.specs.Request.{askedBy, askedOf, isRanged, ofRange, lacking, partOf, unready, valueIn, settledBetween, settledOf, requestOf};
+ghost use Rattle.request.specs.Deed.{idleDeed, deedAnswer, SetOn, GetOn, ActOn, askedFor, elsewhereBy, barredBy, lostBy};
 use setting::Range;
 use setting::Sort;
 use table::Control;
 use table::Found;
-use table::Lookup;
 use table::Sense;
+use table::Sought;
 use table::Table;
 
 // What a load or a request comes to: 0 or the number of the refusal, how many bytes of the reply were written, and the table
@@ -57,6 +58,13 @@ pub enum Addressed {
 pub enum Settled {
     NoSetting,
     To(u16),
+}
+
+// What a request comes to at the control that it is about, which is stored as it is here.
+pub struct Deed {
+    pub number: u8,
+    pub written: usize,
+    pub control: Control,
 }
 
 fn refused(table: Table, number: u8) -> Answer
@@ -178,18 +186,53 @@ fn read_setup(setup: &[u8]) -> Asked
     asked_by(target, setup[0], setup[1])
 }
 
-// The place of the addressed control, or 32, 33 or 34.
-fn address(table: Table, number: u8, target: Target) -> Addressed
-    ensures { λ r. ⌜ r ≡ addressedIn table number target ⌝ }
+// What the setup is about; zeros where it asks nothing.
+fn target_of(asked: Asked) -> Target
+    ensures { λ r. ⌜ r ≡ askedFor asked ⌝ }
+{
+    match asked {
+        Asked::Unknown => Target {
+            interface: 0,
+            unit: 0,
+            channel: 0,
+            selector: 0,
+            length: 0,
+        },
+        Asked::Set(target) => target,
+        Asked::Get(_, target) => target,
+    }
+}
+
+// 32, or 0 where the target is on the AudioControl interface.
+fn elsewhere(target: Target, number: u8) -> u8
+    ensures { λ r. ⌜ r ≡ elsewhereBy target number ⌝ }
 {
     if target.interface != number {
-        return Addressed::Refused(32);
+        return 32;
     }
-    match table::look_up(table, target.unit, target.channel, target.selector) {
-        Lookup::NoUnit => Addressed::Refused(33),
-        Lookup::NoControl => Addressed::Refused(34),
-        Lookup::At(place) => Addressed::At(place),
+    0
+}
+
+// 31 or 32, which no table decides; 0 where neither is.
+fn bar(asked: Asked, number: u8) -> u8
+    ensures { λ r. ⌜ r ≡ barredBy asked number ⌝ }
+{
+    match asked {
+        Asked::Unknown => 31,
+        Asked::Set(target) => elsewhere(target, number),
+        Asked::Get(_, target) => elsewhere(target, number),
     }
+}
+
+// The refusal where the control is not there: 31 and 32 come before.
+fn lost(asked: Asked, number: u8, refusal: u8) -> u8
+    ensures { λ r. ⌜ r ≡ lostBy asked number refusal ⌝ }
+{
+    let barred = bar(asked, number);
+    if barred != 0 {
+        return barred;
+    }
+    refusal
 }
 
 fn is_ranged(held: Sense) -> bool
@@ -290,37 +333,38 @@ fn settle(held: Sense, control: Control, wanted: u16) -> Settled
     }
 }
 
-// A Set of the control at a place: 36, 37, 38, or it is stored.
-fn set_at(table: Table, place: usize, length: u16, data: &[u8]) -> Answer
-    ensures { λ r. ⌜ r ≡ answerOf table (setAt table place length (now («data» .entry))) ⌝ }
+fn idle(number: u8, control: Control) -> Deed
+    ensures { λ r. ⌜ r ≡ idleDeed number control ⌝ }
 {
-    let mut control = table::control_at(table, place);
-    let held = table::sense_of(control.selector);
-    if is_unready(held, control) {
-        return refused(table, 36);
-    }
-    let size = table::size(held);
-    if length as usize != size {
-        return refused(table, 37);
-    }
-    if data.len() != size {
-        return refused(table, 37);
-    }
-    match settle(held, control, value_in(data)) {
-        Settled::NoSetting => refused(table, 38),
-        Settled::To(value) => {
-            control.cur = value;
-            stored(table, place, control)
-        }
+    Deed {
+        number,
+        written: 0,
+        control,
     }
 }
 
-fn set(table: Table, number: u8, target: Target, data: &[u8]) -> Answer
-    ensures { λ r. ⌜ r ≡ answerOf table (setOf table number target (now («data» .entry))) ⌝ }
+// A Set of the control: 36, 37, 38, or its new value.
+fn set_on(control: Control, length: u16, data: &[u8]) -> Deed
+    ensures { λ r. ⌜ SetOn control length (now («data» .entry)) r ⌝ }
 {
-    match address(table, number, target) {
-        Addressed::Refused(refusal) => refused(table, refusal),
-        Addressed::At(place) => set_at(table, place, target.length, data),
+    let held = table::sense_of(control.selector);
+    if is_unready(held, control) {
+        return idle(36, control);
+    }
+    let size = table::size(held);
+    if length as usize != size {
+        return idle(37, control);
+    }
+    if data.len() != size {
+        return idle(37, control);
+    }
+    match settle(held, control, value_in(data)) {
+        Settled::NoSetting => idle(38, control),
+        Settled::To(value) => {
+            let mut changed = control;
+            changed.cur = value;
+            idle(0, changed)
+        }
     }
 }
 
@@ -335,53 +379,72 @@ fn write(value: u16, size: usize, reply: &mut [u8])
     }
 }
 
-// A Get of the control at a place: 35, 36, 37, 39, or its bytes are written.
-fn get_at(table: Table, place: usize, part: Part, wanted: u16, reply: &mut [u8]) -> Answer
-    ensures { λ r. ⌜ Answered table (getAt table place part wanted (length (now (reply .entry)))) (now (reply .entry)) r (now (reply .exit)) ⌝ }
+// A Get of the control: 35, 36, 37, 39, or its bytes are written.
+fn get_on(control: Control, part: Part, wanted: u16, reply: &mut [u8]) -> Deed
+    ensures { λ r. ⌜ GetOn control part wanted (now (reply .entry)) r (now (reply .exit)) ⌝ }
 {
-    let control = table::control_at(table, place);
     let held = table::sense_of(control.selector);
     if lacks(held, part) {
-        return refused(table, 35);
+        return idle(35, control);
     }
     if is_unready(held, control) {
-        return refused(table, 36);
+        return idle(36, control);
     }
     let size = table::size(held);
     if wanted as usize != size {
-        return refused(table, 37);
+        return idle(37, control);
     }
     if reply.len() < size {
-        return refused(table, 39);
+        return idle(39, control);
     }
     write(part_of(part, control), size, reply);
-    Answer {
+    Deed {
         number: 0,
         written: size,
-        table,
+        control,
     }
 }
 
-fn get(table: Table, number: u8, part: Part, target: Target, reply: &mut [u8]) -> Answer
-    ensures { λ r. ⌜ Answered table (getOf table number part target (length (now (reply .entry)))) (now (reply .entry)) r (now (reply .exit)) ⌝ }
+// What the setup asks, of the control that it names.
+fn act(asked: Asked, number: u8, control: Control, data: &[u8], reply: &mut [u8]) -> Deed
+    ensures { λ r. ⌜ ActOn asked number control (now («data» .entry)) (now (reply .entry)) r (now (reply .exit)) ⌝ }
 {
-    match address(table, number, target) {
-        Addressed::Refused(refusal) => refused(table, refusal),
-        Addressed::At(place) => get_at(table, place, part, target.length, reply),
+    let barred = bar(asked, number);
+    if barred != 0 {
+        return idle(barred, control);
+    }
+    match asked {
+        Asked::Unknown => idle(31, control),
+        Asked::Set(target) => set_on(control, target.length, data),
+        Asked::Get(part, target) => get_on(control, part, target.length, reply),
+    }
+}
+
+// The control as the deed leaves it is stored where it stands.
+fn done(table: Table, place: usize, deed: Deed) -> Answer
+    ensures { λ r. ⌜ r ≡ deedAnswer table place deed ⌝ }
+{
+    Answer {
+        number: deed.number,
+        written: deed.written,
+        table: table::put(table, place, deed.control),
     }
 }
 
 // Answers one class request: number is that of the AudioControl interface, data what the host sends with a Set, reply the
-// lent buffer of a Get.
+// lent buffer of a Get. A function that takes the table copies it, so it goes to one that asks of it and to one that stores.
 pub fn request(table: Table, number: u8, setup: &[u8], data: &[u8], reply: &mut [u8]) -> Answer
     ensures { λ r. ⌜ Answered table (requestOf table number (now (setup .entry)) (now («data» .entry)) (length (now (reply .entry)))) (now (reply .entry)) r (now (reply .exit)) ⌝ }
 {
-    if !table::sound(table) {
-        return refused(table, 30);
-    }
-    match read_setup(setup) {
-        Asked::Unknown => refused(table, 31),
-        Asked::Set(target) => set(table, number, target, data),
-        Asked::Get(part, target) => get(table, number, part, target, reply),
+    let asked = read_setup(setup);
+    let target = target_of(asked);
+    match table::seek(table, target.unit, target.channel, target.selector) {
+        Sought::Unsound => refused(table, 30),
+        Sought::NoUnit => refused(table, lost(asked, number, 33)),
+        Sought::NoControl => refused(table, lost(asked, number, 34)),
+        Sought::At(place, control) => {
+            let deed = act(asked, number, control, data, reply);
+            done(table, place, deed)
+        }
     }
 }

@@ -3,6 +3,7 @@
 ghost use mathlib.Core.Path.{_≡_};
 ghost use mathlib.Core.Bool.{_||_};
 ghost use Rattle.ground.specs.Numbers.{byte, word};
+ghost use Rattle.ground.specs.Lists.{part};
 ghost use Rattle.scan.specs.Cutting.{endAt, reach};
 ghost use Rattle.scan.specs.Want.{isInterface, isClass, isAudio, isSetting, isMember, wants, foundFrom};
 use ground::Place;
@@ -36,6 +37,17 @@ pub fn end_of(s: &[u8], at: usize) -> usize
         return at;
     }
     at + n
+}
+
+// The descriptor at a place; empty where none stands.
+pub fn descriptor_at(s: &[u8], at: usize) -> &[u8]
+    ensures { λ r. ⌜ now r ≡ part (now (s .entry)) at (endAt (now (s .entry)) at) ⌝ }
+{
+    if s.len() <= at {
+        return &s[..0];
+    }
+    let e = end_of(s, at);
+    &s[at..e]
 }
 
 // The place up to which descriptors stand, one after another, from a place on.

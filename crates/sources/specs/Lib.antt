@@ -1,6 +1,7 @@
-pub mod Pins
-pub mod Lookup
 pub mod Rules
+pub mod Lookup
+pub mod LookupLaws
+pub mod Breaches
+pub mod OwnIds
 pub mod RuleLaws
 pub mod GraphLaws
-pub mod RunLaws

@@ -1,51 +1,40 @@
--- Lookup by ID, and the graph of sources as places of the run. Rules speak of entities by ID; code goes from place to place.
---   lookupBelow run n s  ==  the first of the places below n whose entity bears the ID s
---   lookup run s         ==  the entity of the run that bears the ID s
---   indexOf f            ==  the place that was found; past the last place where none was
---   placeOf run s        ==  the place of the run where the entity with the ID s stands
---   linkOf run s         ==  the pins of an entity with the sources s: at which places of the run those stand
---   linksOf run          ==  the pins of each place of the run
---   entityById, sourcesById run a  ==  the entity with the ID a, and its sources' IDs
---   idsOf run            ==  the IDs of the entities of the run
+-- Lookup by ID. Rules speak of entities by ID; the reader marks, once for a run, which IDs are borne and which of those may be sources.
+--   lookupBelow run n x  ==  the first of the run's first n entities that bears the ID x, by whether it has an output
+--   lookup run x     ==  the same of all its entities
+--   sourceNumber f   ==  document 01's number for a source by what the lookup found: 11 where it is unknown or has no output, 0 else
+--   markOf f         ==  what is marked: 0 nothing, 1 an entity with no output, 2 one with an output
+--   foundBy m        ==  what the mark m says
+--   directoryOf run  ==  the marks of all 256 IDs
 use Prim.Native.Nat.{ℕ}
-use mathlib.Core.List.{List, map}
+use mathlib.Core.Bool.{true, false}
+use mathlib.Core.List.{List}
 use lib.Dec.{eqb}
-use Rattle.layout.specs.declared.Entity.{Entity}
-use Rattle.layout.specs.declared.Sources.{Sources}
-use Rattle.entities.specs.declared.Run.{Run}
-use Rattle.entities.specs.Run.{mostEntities, held, nodeAt, entityAt, idAt}
-use Rattle.graph.specs.Tables.{tabulate}
-use Rattle.graph.specs.Places.{named}
-use Rattle.sources.specs.declared.Found.{Found}
-use Rattle.sources.specs.declared.Found.the-variants.{Nothing, At}
-use Rattle.sources.specs.declared.Link.{Link}
-use Rattle.sources.specs.Pins.{sourcesAt}
+use Rattle.ground.specs.Pick.{pick}
 use Rattle.ground.specs.Places.{firstIn}
+use Rattle.graph.specs.Tables.{tabulate}
+use Rattle.entities.specs.declared.Run.{Run}
+use Rattle.entities.specs.Run.{held, idAt, feedsAt}
+use Rattle.sources.specs.declared.Found.{Found}
+use Rattle.sources.specs.declared.Found.the-variants.{Nothing, Entity}
 
 unfoldable pub lookupBelow : Run → ℕ → ℕ → Found
-lookupBelow run n s = firstIn (λ i. eqb (idAt run i) s) At Nothing 0 n
+lookupBelow run n x = firstIn (λ i. eqb (idAt run i) x) (λ i. Entity (feedsAt run i)) Nothing 0 n
 
 abbrev pub lookup : Run → ℕ → Found
-lookup run s = lookupBelow run (held run) s
+lookup run x = lookupBelow run (held run) x
 
-unfoldable pub indexOf : Found → ℕ
-indexOf Nothing = mostEntities
-indexOf (At i) = i
+unfoldable pub sourceNumber : Found → ℕ
+sourceNumber Nothing = 11
+sourceNumber (Entity false) = 11
+sourceNumber (Entity true) = 0
 
-unfoldable pub placeOf : Run → ℕ → ℕ
-placeOf run s = indexOf (lookup run s)
+unfoldable pub markOf : Found → ℕ
+markOf Nothing = 0
+markOf (Entity false) = 1
+markOf (Entity true) = 2
 
-unfoldable pub linkOf : Run → Sources → Link
-linkOf run s = record { pins = s .pins; places = map (placeOf run) (s .ids) }
+unfoldable pub foundBy : ℕ → Found
+foundBy m = pick (eqb m 0) Nothing (Entity (eqb m 2))
 
-unfoldable pub linksOf : Run → List Link
-linksOf run = tabulate mostEntities (λ i. linkOf run (nodeAt run i .sources))
-
-abbrev pub entityById : Run → ℕ → Entity
-entityById run a = entityAt run (placeOf run a)
-
-abbrev pub sourcesById : Run → ℕ → List ℕ
-sourcesById run a = sourcesAt run (placeOf run a)
-
-abbrev pub idsOf : Run → List ℕ
-idsOf run = named (idAt run) (held run)
+unfoldable pub directoryOf : Run → List ℕ
+directoryOf run = tabulate 256 (λ x. markOf (lookup run x))

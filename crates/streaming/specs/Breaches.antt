@@ -20,9 +20,9 @@ use Rattle.scan.specs.Cutting.{Cutting, rest}
 use Rattle.scan.specs.CuttingLaws.{cutting-rest}
 use Rattle.scan.specs.Search.{searched}
 use Rattle.scan.specs.Want.{Class, Audio, reads-audio}
-use Rattle.streaming.specs.Terminals.{Terminal, OneEach}
+use Rattle.streaming.specs.Terminals.{Terminal, bearerIn, OneEach}
 use Rattle.streaming.specs.Rule.{AreAll, Described, StreamKept, no-endpoints, endpoints, Group, Rule14, Breaks14}
-use Rattle.streaming.specs.Tests.{describedBy, holdsClass, broken, wrongStream, breach14}
+use Rattle.streaming.specs.Tests.{describedBy, holdsClass, broken, wrongStream, firstBroken, breach14}
 use Rattle.streaming.specs.Laws.{behind-next}
 use Rattle.streaming.specs.Sentences.{reads-described}
 use Rattle.streaming.specs.Members.{membersOf, afterOf, members-split, members-inside, after-ends, members-one, class-inside, reads-held}
@@ -43,14 +43,14 @@ module _ (run : List (List ℕ)) (cluster : ℕ → Cluster) (i : List ℕ) wher
   kept-silent e (no-endpoints z h) s = h (s .one) (s .among) (s .has)
   kept-silent e (endpoints n k) s = n e
 
-  reads-kept : (ts : List Terminal) → AreAll run cluster ts → OneEach ts → (tail : List (List ℕ)) → Reads (not (pick (eqb (byte i 4) 0) (holdsClass tail) (not (describedBy ts (getD tail 0 []) (getD tail 1 []))))) (StreamKept run cluster i (membersOf tail))
+  reads-kept : (ts : List Terminal) → AreAll run cluster ts → OneEach ts → (tail : List (List ℕ)) → Reads (not (pick (eqb (byte i 4) 0) (holdsClass tail) (not (describedBy (bearerIn ts) (getD tail 0 []) (getD tail 1 []))))) (StreamKept run cluster i (membersOf tail))
   reads-kept ts all one tail = go (eqb (byte i 4) 0) (reads-eq (byte i 4) 0)
     where
       twice : (b : Bool) → {P : Type 0} → Reads b P → Reads (not (not b)) P
       twice true r = r
       twice false r = r
 
-      go : (b : Bool) → Reads b (byte i 4 ≡ 0) → Reads (not (pick b (holdsClass tail) (not (describedBy ts (getD tail 0 []) (getD tail 1 []))))) (StreamKept run cluster i (membersOf tail))
+      go : (b : Bool) → Reads b (byte i 4 ≡ 0) → Reads (not (pick b (holdsClass tail) (not (describedBy (bearerIn ts) (getD tail 0 []) (getD tail 1 []))))) (StreamKept run cluster i (membersOf tail))
       go true r =
           reads-same (reads-not _ (reads-held tail))
           (λ h. no-endpoints (r .says refl) (λ d m k. h (record { one = d; among = m; has = k })))
@@ -77,7 +77,7 @@ module _ (run : List (List ℕ)) (cluster : ℕ → Cluster) (ts : List Terminal
   abbrev pub WrongStream : List (List ℕ) → List ℕ → Type 0
   WrongStream b i = Audio 2 i × (StreamKept run cluster i (membersOf (tailOf b)) → ⊥)
 
-  reads-wrong : (b : List (List ℕ)) (i : List ℕ) → Reads (wrongStream ts ds b i) (WrongStream b i)
+  reads-wrong : (b : List (List ℕ)) (i : List ℕ) → Reads (wrongStream (bearerIn ts) ds b i) (WrongStream b i)
   unfolding wrongStream broken
   reads-wrong b i = reads-and _ _ (reads-audio 2 i) (reads-contrary _ (reads-kept run cluster i ts all one (tailOf b)))
 
@@ -143,16 +143,16 @@ module _ (run : List (List ℕ)) (cluster : ℕ → Cluster) (ts : List Terminal
 -- THE LAWS, over the cutting
 module _ (run : List (List ℕ)) (cluster : ℕ → Cluster) (ts : List Terminal) (all : AreAll run cluster ts) (one : OneEach ts) (s : List ℕ) where
   standing-kept : (breach14 ts s ≡ Nowhere) ↔ Rule14 run cluster (rest s 0)
-  unfolding breach14 searched
+  unfolding breach14 firstBroken searched
   standing-kept =
-      let r = first-nowhere (wrongStream ts (rest s 0)) (WrongStream run cluster ts all one (rest s 0)) (reads-wrong run cluster ts all one (rest s 0)) 0 (rest s 0) in
+      let r = first-nowhere (wrongStream (bearerIn ts) (rest s 0)) (WrongStream run cluster ts all one (rest s 0)) (reads-wrong run cluster ts all one (rest s 0)) 0 (rest s 0) in
       let q = rule-sound run cluster ts all one (rest s 0) in
       (λ e. q .1 (r .0 e), λ h. r .1 (q .0 h))
 
   standing-broken : (p : ℕ) → (breach14 ts s ≡ At p) ↔ Breaks14 run cluster (rest s 0) p
-  unfolding breach14 searched
+  unfolding breach14 firstBroken searched
   standing-broken p =
-      let r = first-at (wrongStream ts (rest s 0)) (WrongStream run cluster ts all one (rest s 0)) (reads-wrong run cluster ts all one (rest s 0)) 0 (rest s 0) p in
+      let r = first-at (wrongStream (bearerIn ts) (rest s 0)) (WrongStream run cluster ts all one (rest s 0)) (reads-wrong run cluster ts all one (rest s 0)) 0 (rest s 0) p in
       let q = breaks-first run cluster ts all one (rest s 0) p in
       (λ e. q .1 (r .0 e), λ h. r .1 (q .0 h))
 

@@ -1,5 +1,4 @@
 -- What the reader tests at places of the configuration is what the definitions test along the cutting.
---   bearer-first, bearer-past ==  of Terminals in two parts the first part's bears the ID where it has one that does, else the second's
 --   strays-held  ==  the search for a type 24 descriptor or the group's end tells whether the group holds one
 --   behind-next  ==  what stands behind an element of a list
 --   broken-here  ==  the test of a group at its place, during the search, is the rule's own test
@@ -26,29 +25,8 @@ use Rattle.scan.specs.Found.{found, found-none}
 use Rattle.scan.specs.declared.Want.the-variants as want
 use Rattle.groups.specs.Reading.{straysFrom}
 use Rattle.groups.specs.TotalLaws.{type-of}
-use Rattle.streaming.specs.declared.Bearer.the-variants as bearer
-use Rattle.streaming.specs.Terminals.{Terminal, bearerIn}
+use Rattle.streaming.specs.declared.Bearer.{Bearer}
 use Rattle.streaming.specs.Tests.{describedBy, describedAt, brokenAt, holdsClass, broken, wrongStream}
-
-module _ (id : ℕ) where
-  -- the first of the Terminals that bears the ID, be they cut in two
-  pub bearer-first : (ts us : List Terminal) (k c : ℕ) → bearerIn id ts ≡ bearer.Terminal k c → bearerIn id (ts ++ us) ≡ bearer.Terminal k c
-  unfolding bearerIn
-  bearer-first [] us k c e = let z : _≡_ {A = ℕ} 0 1 = cc in absurd (omega arith)
-  bearer-first (t ∷ ts) us k c e = go (eqb (t .id) id) (bearer-first ts us k c) e
-    where
-      go : (b : Bool) → (bearerIn id ts ≡ bearer.Terminal k c → bearerIn id (ts ++ us) ≡ bearer.Terminal k c) → pick b (bearer.Terminal (t .kind) (t .channels)) (bearerIn id ts) ≡ bearer.Terminal k c → pick b (bearer.Terminal (t .kind) (t .channels)) (bearerIn id (ts ++ us)) ≡ bearer.Terminal k c
-      go true ih h = h
-      go false ih h = ih h
-
-  pub bearer-past : (ts us : List Terminal) → bearerIn id ts ≡ bearer.Nothing → bearerIn id (ts ++ us) ≡ bearerIn id us
-  unfolding bearerIn
-  bearer-past [] us e = refl
-  bearer-past (t ∷ ts) us e = go (eqb (t .id) id) (bearer-past ts us) e
-    where
-      go : (b : Bool) → (bearerIn id ts ≡ bearer.Nothing → bearerIn id (ts ++ us) ≡ bearerIn id us) → pick b (bearer.Terminal (t .kind) (t .channels)) (bearerIn id ts) ≡ bearer.Nothing → pick b (bearer.Terminal (t .kind) (t .channels)) (bearerIn id (ts ++ us)) ≡ bearerIn id us
-      go true ih h = let z : _≡_ {A = ℕ} 0 1 = cc in absurd (omega arith)
-      go false ih h = ih h
 
 -- what stands first from a place on: the part up to its end, empty where nothing stands
 first-stands : (s : List ℕ) (at : ℕ) → getD (rest s at) 0 [] ≡ part s at (endAt s at)
@@ -65,8 +43,8 @@ second-stands s at = ⊎-elim
     (decided (eqb (endAt s at) at) (reads-eq _ _))
 
 -- the reader's test at a place is the test by what stands behind it
-module _ (ts : List Terminal) (s : List ℕ) where
-  described-here : (from : ℕ) → describedAt ts s from ≡ describedBy ts (getD (rest s from) 0 []) (getD (rest s from) 1 [])
+module _ (find : ℕ → Bearer) (s : List ℕ) where
+  described-here : (from : ℕ) → describedAt find s from ≡ describedBy find (getD (rest s from) 0 []) (getD (rest s from) 1 [])
   unfolding describedAt
   described-here from = rw (first-stands s from, second-stands s from) refl
 
@@ -110,12 +88,12 @@ strays-held s e l = go (foundFrom s e want.ClassOrInterface) refl
 pub behind-next : {A : Type 0} (x : List A) (d : A) (y : List A) → drop (suc (length x)) (x ++ d ∷ y) ≡ y
 behind-next x d y = rw (← (add-one (length x))) (drop-append-add x (d ∷ y) 1)
 
-module _ (ts : List Terminal) (s : List ℕ) (at e : ℕ) (g : Passed (wrongStream ts (rest s 0)) s 0 at) (f : e ≡ endAt s at) (h : e ≡ at → ⊥) where
+module _ (find : ℕ → Bearer) (s : List ℕ) (at e : ℕ) (g : Passed (wrongStream find (rest s 0)) s 0 at) (f : e ≡ endAt s at) (h : e ≡ at → ⊥) where
   rest-behind : drop (suc (length (g .behind))) (rest s 0) ≡ rest s e
   rest-behind =
       let n : rest s at ≡ part s at e ∷ rest s e = rw f (rest-more s at (λ q. h (f ∙ q))) in
       ap (drop (suc (length (g .behind)))) (g .whole ∙ ap (λ (r : List (List ℕ)). g .behind ++ r) n) ∙ behind-next (g .behind) (part s at e) (rest s e)
 
-  pub broken-here : brokenAt ts s (part s at e) e ≡ wrongStream ts (rest s 0) (g .behind) (part s at e)
+  pub broken-here : brokenAt find s (part s at e) e ≡ wrongStream find (rest s 0) (g .behind) (part s at e)
   unfolding brokenAt wrongStream broken
-  broken-here = rw (rest-behind, strays-held s e (inside s at e f h), described-here ts s e) refl
+  broken-here = rw (rest-behind, strays-held s e (inside s at e f h), described-here find s e) refl

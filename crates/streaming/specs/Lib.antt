@@ -1,10 +1,9 @@
 pub mod Terminals
 pub mod Rule
 pub mod Tests
+pub mod Table
 pub mod Laws
 pub mod Sentences
 pub mod Members
 pub mod Breaches
-pub mod Distinct
 pub mod Standing
-pub mod Examples

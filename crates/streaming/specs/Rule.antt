@@ -28,6 +28,7 @@ use Rattle.ground.specs.Lists.{total, Some}
 use Rattle.scan.specs.Want.{Interface, Class, Audio}
 use Rattle.layout.specs.declared.Cluster.{Cluster}
 use Rattle.groups.specs.Rules.{GroupEnds}
+use Rattle.edition.specs.Edition.{ownId}
 use Rattle.streaming.specs.Terminals.{Terminal}
 
 abbrev pub OpensAs : ℕ → List ℕ → Type 0
@@ -55,9 +56,9 @@ pub record TypeOne (c : ℕ) (f : List ℕ) : Type 0 where
 
 pub record SaysTerminal (cluster : ℕ → Cluster) (t : Terminal) (d : List ℕ) : Type 0 where
   pub either : (byte d 2 ≡ 2) ⊎ (byte d 2 ≡ 3)
-  pub id : t .id ≡ byte d 3
+  pub id : t .id ≡ ownId d
   pub kind : t .kind ≡ word d 4
-  pub channels : t .channels ≡ cluster (byte d 3) .channels
+  pub channels : t .channels ≡ cluster (ownId d) .channels
 
 abbrev pub IsTerminal : List (List ℕ) → (ℕ → Cluster) → Terminal → Type 0
 IsTerminal run cluster t = Some (SaysTerminal cluster t) run

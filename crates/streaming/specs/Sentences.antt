@@ -16,7 +16,7 @@ use Rattle.ground.specs.Numbers.{byte, word, triple}
 use Rattle.layout.specs.declared.Cluster.{Cluster}
 use Rattle.streaming.specs.declared.Bearer.{Bearer}
 use Rattle.streaming.specs.declared.Bearer.the-variants as bearer
-use Rattle.streaming.specs.Terminals.{Terminal, bearerIn, OneEach}
+use Rattle.streaming.specs.Terminals.{Terminal, bearerIn, terminalNumber, channelsOf, OneEach}
 use Rattle.streaming.specs.Rule.{OpensAs, General, Format, Samples, Rates, discrete, continuous, TypeOne, Described, AreAll}
 use Rattle.streaming.specs.Tests.{opensAs, isGeneral, isFormat, samplesRight, ratesRight, isTypeOne, formatRight, bearerRight, describedBy}
 
@@ -70,7 +70,7 @@ pub data Bears (id : ℕ) (ts : List Terminal) : Bearer → Type 0 where
   nothing : ((t : Terminal) → List·Memᴰ t ts → t .id ≡ id → ⊥) → Bears id ts bearer.Nothing
   to : (t : Terminal) → List·Memᴰ t ts → t .id ≡ id → Bears id ts (bearer.Terminal (t .kind) (t .channels))
 
-pub bears : (id : ℕ) (ts : List Terminal) → Bears id ts (bearerIn id ts)
+pub bears : (id : ℕ) (ts : List Terminal) → Bears id ts (bearerIn ts id)
 unfolding bearerIn
 bears id [] = nothing (λ t m e. List·Memᴰ·not-nil m)
 bears id (t ∷ ts) = go (eqb (t .id) id) (reads-eq (t .id) id) (bears id ts)
@@ -79,31 +79,40 @@ bears id (t ∷ ts) = go (eqb (t .id) id) (reads-eq (t .id) id) (bears id ts)
     later n (nothing h) = nothing (λ u m e. ⊎-elim (λ (q : u ≡ t). n (rw q at e)) (λ k. h u k e) (List·Memᴰ·cases-cons m))
     later n (to u m e) = to u (List·Memᴰ·tail m) e
 
-    go : (b : Bool) → Reads b (t .id ≡ id) → Bears id ts (bearerIn id ts) → Bears id (t ∷ ts) (pick b (bearer.Terminal (t .kind) (t .channels)) (bearerIn id ts))
+    go : (b : Bool) → Reads b (t .id ≡ id) → Bears id ts (bearerIn ts id) → Bears id (t ∷ ts) (pick b (bearer.Terminal (t .kind) (t .channels)) (bearerIn ts id))
     go true r ih = to t (List·Memᴰ·head refl) (r .says refl)
     go false r ih = later (r .denies refl) ih
 
 -- where an ID is borne once, the search finds the Terminal that bears it
-bearer-one : (ts : List Terminal) → OneEach ts → (t : Terminal) → List·Memᴰ t ts → bearerIn (t .id) ts ≡ bearer.Terminal (t .kind) (t .channels)
+bearer-one : (ts : List Terminal) → OneEach ts → (t : Terminal) → List·Memᴰ t ts → bearerIn ts (t .id) ≡ bearer.Terminal (t .kind) (t .channels)
 bearer-one ts one t m = go (bears (t .id) ts)
   where
     go : {l : Bearer} → Bears (t .id) ts l → l ≡ bearer.Terminal (t .kind) (t .channels)
     go (nothing h) = absurd (h t m refl)
     go (to u k e) = rw (one u t k m e) refl
 
-pub reads-described : (ts : List Terminal) {run : List (List ℕ)} {cluster : ℕ → Cluster} → AreAll run cluster ts → OneEach ts → (g f : List ℕ) → Reads (describedBy ts g f) (Described run cluster g f)
-unfolding describedBy bearerRight
-reads-described ts {run} {cluster} all one g f = go (bearerIn (byte g 3) ts) refl (bears (byte g 3) ts)
+-- a Terminal is not refused exactly where its type is 0x0101
+reads-number : (k c : ℕ) → Reads (eqb (terminalNumber (bearer.Terminal k c)) 0) (k ≡ 0x0101)
+unfolding terminalNumber
+reads-number k c = go (eqb k 0x0101) (reads-eq k 0x0101)
   where
-    found : (t : Terminal) → Described run cluster g f → bearerIn (byte g 3) ts ≡ bearer.Terminal (t .kind) (t .channels) → General g × ((t .kind ≡ 0x0101) × (Format f × (word g 5 ≡ 1 → TypeOne (t .channels) f)))
+    go : (b : Bool) → Reads b (k ≡ 0x0101) → Reads (eqb (pick b 0 14) 0) (k ≡ 0x0101)
+    go true r = r
+    go false r = r
+
+pub reads-described : (ts : List Terminal) {run : List (List ℕ)} {cluster : ℕ → Cluster} → AreAll run cluster ts → OneEach ts → (g f : List ℕ) → Reads (describedBy (bearerIn ts) g f) (Described run cluster g f)
+unfolding describedBy bearerRight terminalNumber channelsOf
+reads-described ts {run} {cluster} all one g f = go (bearerIn ts (byte g 3)) refl (bears (byte g 3) ts)
+  where
+    found : (t : Terminal) → Described run cluster g f → bearerIn ts (byte g 3) ≡ bearer.Terminal (t .kind) (t .channels) → General g × ((t .kind ≡ 0x0101) × (Format f × (word g 5 ≡ 1 → TypeOne (t .channels) f)))
     found t h e =
         let u = h .terminal in
-        let q : bearer.Terminal (u .kind) (u .channels) ≡ bearer.Terminal (t .kind) (t .channels) = sym (bearer-one ts one u (all u .1 (h .among))) ∙ ap (λ (i : ℕ). bearerIn i ts) (h .borne) ∙ e in
+        let q : bearer.Terminal (u .kind) (u .channels) ≡ bearer.Terminal (t .kind) (t .channels) = sym (bearer-one ts one u (all u .1 (h .among))) ∙ ap (bearerIn ts) (h .borne) ∙ e in
         let k : u .kind ≡ t .kind = cc in
         let c : u .channels ≡ t .channels = cc in
         (h .general, (sym k ∙ h .streaming, (h .format, λ o. rw (← c) (h .type-one o))))
 
-    go : (l : Bearer) → bearerIn (byte g 3) ts ≡ l → Bears (byte g 3) ts l → Reads (isGeneral g && bearerRight l g f) (Described run cluster g f)
+    go : (l : Bearer) → bearerIn ts (byte g 3) ≡ l → Bears (byte g 3) ts l → Reads (isGeneral g && bearerRight l g f) (Described run cluster g f)
     go _ e (nothing n) = record {
       says = λ h. absurd (no-bearer (isGeneral g) h);
       denies = λ h k. n (k .terminal) (all (k .terminal) .1 (k .among)) (k .borne);
@@ -113,6 +122,6 @@ reads-described ts {run} {cluster} all one g f = go (bearerIn (byte g 3) ts) ref
         no-bearer true h = true≠false (sym h)
         no-bearer false h = true≠false (sym h)
     go _ e (to t m i) =
-        reads-same (reads-and _ _ (reads-general g) (reads-and _ _ (reads-eq (t .kind) 0x0101) (reads-tagged f (word g 5) (t .channels))))
+        reads-same (reads-and _ _ (reads-general g) (reads-and _ _ (reads-number (t .kind) (t .channels)) (reads-tagged f (word g 5) (t .channels))))
         (λ h. record { general = h .0; terminal = t; among = all t .0 m; borne = i; streaming = h .1 .0; format = h .1 .1 .0; type-one = h .1 .1 .1 })
         (λ h. found t h e)

@@ -2,14 +2,16 @@
 --   opensAs k d          ==  the test of OpensAs, type 24 and subtype k
 --   isGeneral g, isFormat f, samplesRight f, ratesRight f, isTypeOne c f  ==  the tests of the sentences of Rule
 --   formatRight tag c f  ==  the test of FORMAT_TYPE f under a tag, for a Terminal of c channels
---   bearerRight b g f    ==  the test of the Terminal b: what it is for each of the two cases, none and a type with channels
---   describedBy ts g f   ==  the test of Described, by the first Terminal that bears the ID at byte 3 of GENERAL
---   describedAt ts s e   ==  the same of the two descriptors of the bytes s from place e on
+--   bearerRight b g f    ==  the test of b, what bears the ID at GENERAL's byte 3: no number refuses it, and FORMAT_TYPE is right for its
+--                            channels
+--   describedBy find g f ==  the test of Described, where find tells what bears an ID
+--   describedAt find s e ==  the same of the two descriptors of the bytes s from place e on
 --   holdsClass ds        ==  a type 24 descriptor stands among ds before the next interface descriptor
---   broken ts i tail     ==  i, with the descriptors tail behind it, opens a streaming group that breaks the rule
---   brokenAt ts s i e    ==  the same, where the descriptors behind i are those of the bytes s from place e on
---   wrongStream ts ds b i ==  the same of i, which stands behind b in the cutting ds
---   breach14 ts s        ==  nowhere, or the place of the first streaming group's interface descriptor that breaks the rule
+--   broken find i tail   ==  i, with the descriptors tail behind it, opens a streaming group that breaks the rule
+--   brokenAt find s i e  ==  the same, where the descriptors behind i are those of the bytes s from place e on
+--   wrongStream find ds b i ==  the same of i, which stands behind b in the cutting ds
+--   firstBroken find s   ==  nowhere, or the place of the first streaming group's interface descriptor that breaks the rule
+--   breach14 ts s        ==  the same by the Terminals ts: an ID is borne by the first of them that has it
 use Prim.Native.Nat.{ℕ, suc, _+_, _*_}
 use mathlib.Core.Bool.{Bool, false, not, _&&_, _||_}
 use mathlib.Core.List.{List, [], _∷_}
@@ -24,8 +26,7 @@ use Rattle.scan.specs.Search.{searched}
 use Rattle.scan.specs.Want.{isInterface, isClass, isAudio}
 use Rattle.groups.specs.Reading.{straysFrom}
 use Rattle.streaming.specs.declared.Bearer.{Bearer}
-use Rattle.streaming.specs.declared.Bearer.the-variants as bearer
-use Rattle.streaming.specs.Terminals.{Terminal, bearerIn}
+use Rattle.streaming.specs.Terminals.{Terminal, bearerIn, terminalNumber, channelsOf}
 
 unfoldable pub opensAs : ℕ → List ℕ → Bool
 opensAs k d = eqb (byte d 1) 0x24 && eqb (byte d 2) k
@@ -49,28 +50,31 @@ unfoldable pub formatRight : ℕ → ℕ → List ℕ → Bool
 formatRight tag c f = isFormat f && (not (eqb tag 1) || isTypeOne c f)
 
 unfoldable pub bearerRight : Bearer → List ℕ → List ℕ → Bool
-bearerRight bearer.Nothing g f = false
-bearerRight (bearer.Terminal k c) g f = eqb k 0x0101 && formatRight (word g 5) c f
+bearerRight b g f = eqb (terminalNumber b) 0 && formatRight (word g 5) (channelsOf b) f
 
-unfoldable pub describedBy : List Terminal → List ℕ → List ℕ → Bool
-describedBy ts g f = isGeneral g && bearerRight (bearerIn (byte g 3) ts) g f
+unfoldable pub describedBy : (ℕ → Bearer) → List ℕ → List ℕ → Bool
+describedBy find g f = isGeneral g && bearerRight (find (byte g 3)) g f
 
-unfoldable pub describedAt : List Terminal → List ℕ → ℕ → Bool
-describedAt ts s from = describedBy ts (part s from (endAt s from)) (part s (endAt s from) (endAt s (endAt s from)))
+unfoldable pub describedAt : (ℕ → Bearer) → List ℕ → ℕ → Bool
+describedAt find s from = describedBy find (part s from (endAt s from)) (part s (endAt s from) (endAt s (endAt s from)))
 
-unfoldable pub brokenAt : List Terminal → List ℕ → List ℕ → ℕ → Bool
-brokenAt ts s i from = isAudio 2 i && pick (eqb (byte i 4) 0) (straysFrom s from) (not (describedAt ts s from))
+unfoldable pub brokenAt : (ℕ → Bearer) → List ℕ → List ℕ → ℕ → Bool
+brokenAt find s i from = isAudio 2 i && pick (eqb (byte i 4) 0) (straysFrom s from) (not (describedAt find s from))
 
 unfoldable pub holdsClass : List (List ℕ) → Bool
 holdsClass [] = false
 holdsClass (d ∷ ds) = isClass d || (not (isInterface d) && holdsClass ds)
 
 -- "directly after the interface": the first and the second of what follows it
-unfoldable pub broken : List Terminal → List ℕ → List (List ℕ) → Bool
-broken ts i tail = isAudio 2 i && pick (eqb (byte i 4) 0) (holdsClass tail) (not (describedBy ts (getD tail 0 []) (getD tail 1 [])))
+unfoldable pub broken : (ℕ → Bearer) → List ℕ → List (List ℕ) → Bool
+broken find i tail =
+    isAudio 2 i && pick (eqb (byte i 4) 0) (holdsClass tail) (not (describedBy find (getD tail 0 []) (getD tail 1 [])))
 
-unfoldable pub wrongStream : List Terminal → List (List ℕ) → List (List ℕ) → List ℕ → Bool
-wrongStream ts ds b i = broken ts i (drop (suc (length b)) ds)
+unfoldable pub wrongStream : (ℕ → Bearer) → List (List ℕ) → List (List ℕ) → List ℕ → Bool
+wrongStream find ds b i = broken find i (drop (suc (length b)) ds)
+
+unfoldable pub firstBroken : (ℕ → Bearer) → List ℕ → Place
+firstBroken find s = searched (wrongStream find (rest s 0)) s 0
 
 unfoldable pub breach14 : List Terminal → List ℕ → Place
-breach14 ts s = searched (wrongStream ts (rest s 0)) s 0
+breach14 ts s = firstBroken (bearerIn ts) s

@@ -1,91 +1,85 @@
-// Streaming (document 01): rule 14 over a whole configuration, given the run of entities and the cluster at each entity's place.
-// Each public function takes every input; of the run, the first count of its 32 places are looked at.
+// Streaming (document 01). What it promises to the layer above: for every configuration, run and clusters, the place of the first streaming
+// group that breaks rule 14. Which Terminal bears which ID is written once into tables by ID; then the configuration's descriptors are
+// looked at once each.
 ghost use mathlib.Core.Path.{_≡_};
 ghost use Prim.Native.Nat.{_<_};
 ghost use mathlib.Core.List.{[], _∷_};
-ghost use lib.ListN.{take};
 ghost use Rattle.ground.specs.Numbers.{triple};
-ghost use Rattle.streaming.specs.Terminals.{bearerIn, bearerOf, terminalsIn, terminalsOf};
-ghost use Rattle.streaming.specs.Tests.{opensAs, isGeneral, isFormat, samplesRight, ratesRight, isTypeOne, formatRight, describedBy, describedAt, brokenAt, breach14};
-use entities::Node;
+ghost use Rattle.streaming.specs.Terminals.{terminalOf, terminalsOf};
+ghost use Rattle.streaming.specs.Tests.{opensAs, isGeneral, isFormat, samplesRight, ratesRight, isTypeOne, formatRight};
+ghost use Rattle.streaming.specs.Tests.{describedBy, describedAt, brokenAt, firstBroken, breach14};
+ghost use Rattle.streaming.specs.Table.{bearerAt, Entered};
 use entities::Run;
 use ground::Place;
-use groups::stretch;
 use layout::Cluster;
 use layout::Entity;
 use scan::byte_at;
+use scan::descriptor_at;
 use scan::end_of;
 use scan::word_at;
 
 // The Terminal that bears an ID, by its type and its channels; or nothing where none does.
 pub enum Bearer {
     Nothing,
-    Terminal { kind: u16, channels: u8 },
+    Terminal { kind: u16, channels: u16 },
 }
 
-// A Terminal, if the ID that it bears is this one.
-fn borne(own: u8, terminal: u16, channels: u8, id: u8) -> Bearer
-    ensures { λ r. ⌜ r ≡ bearerIn id (record { id = own; kind = terminal; channels = channels } ∷ []) ⌝ }
+// An ID as an index of the tables.
+fn wide(id: u8) -> usize
+    ensures { λ r. ⌜ (r ≡ id) × (r < 256) ⌝ }
 {
-    if own == id {
-        return Bearer::Terminal {
-            kind: terminal,
-            channels,
-        };
-    }
-    Bearer::Nothing
+    id as usize
 }
 
-// An entity with these channels, if it is the Terminal that bears the ID.
-fn bearer_of(entity: Entity, channels: u8, id: u8) -> Bearer
-    ensures { λ r. ⌜ r ≡ bearerOf id entity channels ⌝ }
+// Writes a Terminal into the tables, unless an earlier one bears its ID. A count is 0 where no Terminal bears the ID, else one more than
+// the channels.
+fn enter(kinds: &mut [u16; 256], counts: &mut [u16; 256], own: u8, terminal: u16, channels: u8)
+    ensures { λ r. ⌜ Entered (record { id = own; kind = terminal; channels = channels } ∷ []) (now (kinds .entry)) (now (counts .entry)) (now (kinds .exit)) (now (counts .exit)) ⌝ }
+{
+    let at = wide(own);
+    if counts[at] != 0 {
+        return;
+    }
+    kinds[at] = terminal;
+    counts[at] = channels as u16 + 1;
+}
+
+// Writes an entity with these channels into the tables, if it is a Terminal.
+fn enter_entity(entity: Entity, channels: u8, kinds: &mut [u16; 256], counts: &mut [u16; 256])
+    ensures { λ r. ⌜ Entered (terminalOf entity channels) (now (kinds .entry)) (now (counts .entry)) (now (kinds .exit)) (now (counts .exit)) ⌝ }
 {
     match entity {
-        Entity::Unknown => Bearer::Nothing,
+        Entity::Unknown => {}
         Entity::Input {
             id: own,
             terminal,
             ..
-        } => borne(own, terminal, channels, id),
+        } => enter(kinds, counts, own, terminal, channels),
         Entity::Output {
             id: own,
             terminal,
             ..
-        } => borne(own, terminal, channels, id),
-        Entity::Mixer { .. } => Bearer::Nothing,
-        Entity::Selector { .. } => Bearer::Nothing,
-        Entity::Printed { .. } => Bearer::Nothing,
-        Entity::Feature { .. } => Bearer::Nothing,
+        } => enter(kinds, counts, own, terminal, channels),
+        Entity::Mixer { .. } => {}
+        Entity::Selector { .. } => {}
+        Entity::Printed { .. } => {}
+        Entity::Feature { .. } => {}
     }
 }
 
-// The Terminal that bears an ID, among the first count places.
-fn bearer_among(nodes: [Node; 32], count: usize, clusters: [Cluster; 32], id: u8) -> Bearer
-    ensures { λ r. ⌜ r ≡ bearerIn id (terminalsIn (take count nodes) clusters) ⌝ }
+// The Terminal that bears an ID, by the tables.
+fn bearer_at(kinds: &[u16; 256], counts: &[u16; 256], id: u8) -> Bearer
+    ensures { λ r. ⌜ r ≡ bearerAt (now (kinds .entry)) (now (counts .entry)) id ⌝ }
 {
-    let mut i: usize = 0;
-    while i < entities::MOST_ENTITIES {
-        if count <= i {
-            return Bearer::Nothing;
-        }
-        let node = nodes[i];
-        let entity = node.entity;
-        let cluster = clusters[i];
-        let bearer = bearer_of(entity, cluster.channels, id);
-        if let Bearer::Terminal { kind, channels } = bearer {
-            return Bearer::Terminal { kind, channels };
-        }
-        i += 1;
+    let at = wide(id);
+    let count = counts[at];
+    if count == 0 {
+        return Bearer::Nothing;
     }
-    Bearer::Nothing
-}
-
-// The Terminal of the run that bears an ID.
-fn bearer_in(run: Run, clusters: [Cluster; 32], id: u8) -> Bearer
-    ensures { λ r. ⌜ r ≡ bearerIn id (terminalsOf run clusters) ⌝ }
-{
-    let nodes = run.nodes;
-    bearer_among(nodes, run.count, clusters, id)
+    Bearer::Terminal {
+        kind: kinds[at],
+        channels: count - 1,
+    }
 }
 
 // The number of three bytes at an offset, the low byte first.
@@ -157,7 +151,7 @@ fn rates_right(f: &[u8]) -> bool
 }
 
 // Type I in full, for a Terminal of these channels.
-fn is_type_one(f: &[u8], channels: u8) -> bool
+fn is_type_one(f: &[u8], channels: u16) -> bool
     ensures { λ r. ⌜ r ≡ isTypeOne channels (now (f .entry)) ⌝ }
 {
     if f.len() < 8 {
@@ -166,7 +160,7 @@ fn is_type_one(f: &[u8], channels: u8) -> bool
     if byte_at(f, 3) != 1 {
         return false;
     }
-    if byte_at(f, 4) != channels {
+    if byte_at(f, 4) as u16 != channels {
         return false;
     }
     if !samples_right(f) {
@@ -176,7 +170,7 @@ fn is_type_one(f: &[u8], channels: u8) -> bool
 }
 
 // FORMAT_TYPE under the tag; a tag other than 1 has it not read further.
-fn format_right(f: &[u8], tag: u16, channels: u8) -> bool
+fn format_right(f: &[u8], tag: u16, channels: u16) -> bool
     ensures { λ r. ⌜ r ≡ formatRight tag channels (now (f .entry)) ⌝ }
 {
     if !is_format(f) {
@@ -189,13 +183,13 @@ fn format_right(f: &[u8], tag: u16, channels: u8) -> bool
 }
 
 // Whether two descriptors are GENERAL, whose byte 3 is a Terminal of type 0x0101, and its FORMAT_TYPE.
-fn described_by(g: &[u8], f: &[u8], run: Run, clusters: [Cluster; 32]) -> bool
-    ensures { λ r. ⌜ r ≡ describedBy (terminalsOf run clusters) (now (g .entry)) (now (f .entry)) ⌝ }
+fn described_by(g: &[u8], f: &[u8], kinds: &[u16; 256], counts: &[u16; 256]) -> bool
+    ensures { λ r. ⌜ r ≡ describedBy (bearerAt (now (kinds .entry)) (now (counts .entry))) (now (g .entry)) (now (f .entry)) ⌝ }
 {
     if !is_general(g) {
         return false;
     }
-    let Bearer::Terminal { kind, channels } = bearer_in(run, clusters, byte_at(g, 3)) else {
+    let Bearer::Terminal { kind, channels } = bearer_at(kinds, counts, byte_at(g, 3)) else {
         return false;
     };
     if kind != 0x0101 {
@@ -205,22 +199,21 @@ fn described_by(g: &[u8], f: &[u8], run: Run, clusters: [Cluster; 32]) -> bool
 }
 
 // The same of the two descriptors that stand from a place on.
-fn described_at(config: &[u8], from: usize, run: Run, clusters: [Cluster; 32]) -> bool
-    ensures { λ r. ⌜ r ≡ describedAt (terminalsOf run clusters) (now (config .entry)) from ⌝ }
+fn described_at(config: &[u8], from: usize, kinds: &[u16; 256], counts: &[u16; 256]) -> bool
+    ensures { λ r. ⌜ r ≡ describedAt (bearerAt (now (kinds .entry)) (now (counts .entry))) (now (config .entry)) from ⌝ }
 {
-    let middle = end_of(config, from);
-    let end = end_of(config, middle);
+    let next = end_of(config, from);
     described_by(
-        stretch(config, from, middle),
-        stretch(config, middle, end),
-        run,
-        clusters,
+        descriptor_at(config, from),
+        descriptor_at(config, next),
+        kinds,
+        counts,
     )
 }
 
 // Whether i opens a streaming group that breaks the rule; the group's other descriptors stand from a place on.
-fn is_broken(config: &[u8], i: &[u8], from: usize, run: Run, clusters: [Cluster; 32]) -> bool
-    ensures { λ r. ⌜ r ≡ brokenAt (terminalsOf run clusters) (now (config .entry)) (now (i .entry)) from ⌝ }
+fn is_broken(config: &[u8], i: &[u8], from: usize, kinds: &[u16; 256], counts: &[u16; 256]) -> bool
+    ensures { λ r. ⌜ r ≡ brokenAt (bearerAt (now (kinds .entry)) (now (counts .entry))) (now (config .entry)) (now (i .entry)) from ⌝ }
 {
     if !scan::is_audio(i, 2) {
         return false;
@@ -228,12 +221,12 @@ fn is_broken(config: &[u8], i: &[u8], from: usize, run: Run, clusters: [Cluster;
     if byte_at(i, 4) == 0 {
         return groups::strays_from(config, from);
     }
-    !described_at(config, from, run, clusters)
+    !described_at(config, from, kinds, counts)
 }
 
-// Rule 14: the place of the first streaming group's interface descriptor that breaks it.
-pub fn check_streams(config: &[u8], run: Run, clusters: [Cluster; 32]) -> Place
-    ensures { λ r. ⌜ r ≡ breach14 (terminalsOf run clusters) (now (config .entry)) ⌝ }
+// The place of the first streaming group's interface descriptor that breaks the rule, by the tables.
+fn first_broken(config: &[u8], kinds: &[u16; 256], counts: &[u16; 256]) -> Place
+    ensures { λ r. ⌜ r ≡ firstBroken (bearerAt (now (kinds .entry)) (now (counts .entry))) (now (config .entry)) ⌝ }
 {
     let mut at: usize = 0;
     loop {
@@ -241,9 +234,27 @@ pub fn check_streams(config: &[u8], run: Run, clusters: [Cluster; 32]) -> Place
         if e == at {
             return Place::Nowhere;
         }
-        if is_broken(config, &config[at..e], e, run, clusters) {
+        if is_broken(config, &config[at..e], e, kinds, counts) {
             return Place::At(at);
         }
         at = e;
     }
+}
+
+// Rule 14: the place of the first streaming group's interface descriptor that breaks it.
+pub fn check_streams(config: &[u8], run: Run, clusters: [Cluster; 32]) -> Place
+    ensures { λ r. ⌜ r ≡ breach14 (terminalsOf (now (config .entry)) run clusters) (now (config .entry)) ⌝ }
+{
+    let mut kinds = [0u16; 256];
+    let mut counts = [0u16; 256];
+    let held = entities::count(run);
+    let mut i: usize = 0;
+    while i < held {
+        let node = run.nodes[i];
+        let cluster = clusters[i];
+        let entity = layout::read(descriptor_at(config, node.place));
+        enter_entity(entity, cluster.channels, &mut kinds, &mut counts);
+        i += 1;
+    }
+    first_broken(config, &kinds, &counts)
 }

@@ -4,3 +4,5 @@ pub mod Sound
 pub mod Meaning
 pub mod Placed
 pub mod Fresh
+pub mod Rising
+pub mod Sought

@@ -2,9 +2,12 @@
 // refusal 30, the test that every entry point makes of a table, since everything in it is public. What this crate promises
 // to the layer above: each function answers, for every table whatever, as the definitions of specs/ say.
 ghost use mathlib.Core.Path.{_≡_};
-ghost use Rattle.table.specs.Controls.{blankControl, emptyTable, at, placed, senseOf, sizeOf, answersTo};
+ghost use Prim.Native.Nat.{_≤_, _<_};
+ghost use Rattle.table.specs.Controls.{mostControls, blankControl, emptyTable, at, placed, senseOf, sizeOf, answersTo};
 ghost use Rattle.table.specs.First.{foundIn, sawUnit, missingBy, lookedUp};
-ghost use Rattle.table.specs.Sound.{narrowOf, soundYesNo, soundPin, soundRanged, soundControl, firstThere, soundOf};
+ghost use Rattle.table.specs.Sound.{narrowOf, soundYesNo, soundPin, soundRanged, soundControl, soundOf};
+ghost use Rattle.table.specs.Rising.{Keyed, keyAmong};
+ghost use Rattle.table.specs.Sought.{soughtIn};
 use setting::Range;
 use setting::Sort;
 
@@ -50,6 +53,14 @@ pub enum Lookup {
     NoUnit,
     NoControl,
     At(usize),
+}
+
+// What a request asks first: whether refusal 30 has nothing against the table, and then the same, with the control.
+pub enum Sought {
+    Unsound,
+    NoUnit,
+    NoControl,
+    At(usize, Control),
 }
 
 // A spare place.
@@ -294,17 +305,60 @@ fn sound_control(control: Control) -> bool
     }
 }
 
-// Whether this is the first place of the control that stands there: no control stands twice where each is at its first.
-fn first_there(table: Table, place: usize, control: Control) -> bool
-    ensures { λ r. ⌜ r ≡ firstThere table place control ⌝ }
+fn wide(x: u8) -> usize
+    ensures { λ r. ⌜ (r ≡ x) × (r < 256) ⌝ }
 {
-    match find(table, control.unit, control.channel, control.selector) {
-        Found::Nothing => false,
-        Found::At(first) => first == place,
-    }
+    x as usize
 }
 
-// Whether refusal 30 has nothing against the table.
+// Unit, channel and selector as one number: within a unit it rises as channel, then selector, do.
+fn key_of(control: Control) -> u32
+    ensures { λ r. ⌜ Keyed control r ⌝ }
+{
+    control.unit as u32 * 65536 + control.channel as u32 * 256 + control.selector as u32
+}
+
+// Whether the key is one of the first n.
+fn among(keys: &[u32; CONTROLS], n: usize, wanted: u32) -> bool
+    requires { ⌜ n ≤ mostControls ⌝ }
+    ensures { λ r. ⌜ r ≡ keyAmong (now (keys .entry)) n wanted ⌝ }
+{
+    let mut index = 0;
+    while index < n {
+        if keys[index] == wanted {
+            return true;
+        }
+        index += 1;
+    }
+    false
+}
+
+// As `sound`, for a table in any order: each control's key is looked for among those of all earlier places.
+fn sound_slowly(table: Table) -> bool
+    requires { ⌜ table .count ≤ mostControls ⌝ }
+    ensures { λ r. ⌜ r ≡ soundOf table ⌝ }
+{
+    let count = table.count;
+    let mut keys = [0u32; CONTROLS];
+    let mut place = 0;
+    while place < count {
+        let control = table.controls[place];
+        if !sound_control(control) {
+            return false;
+        }
+        let key = key_of(control);
+        if among(&keys, place, key) {
+            return false;
+        }
+        keys[place] = key;
+        place += 1;
+    }
+    true
+}
+
+// Whether refusal 30 has nothing against the table. One pass as long as the keys of each unit rise from place to place, as in
+// every table that the reader makes: tops has one more than each unit's last key, and a key that is not below it stands at no
+// earlier place. A function that takes the table copies it, so none is called in the loop.
 pub fn sound(table: Table) -> bool
     ensures { λ r. ⌜ r ≡ soundOf table ⌝ }
 {
@@ -312,16 +366,74 @@ pub fn sound(table: Table) -> bool
     if CONTROLS < count {
         return false;
     }
+    let mut tops = [0u32; 256];
     let mut place = 0;
     while place < count {
         let control = table.controls[place];
         if !sound_control(control) {
             return false;
         }
-        if !first_there(table, place, control) {
-            return false;
+        let own = wide(control.unit);
+        let key = key_of(control);
+        if key < tops[own] {
+            return sound_slowly(table);
         }
+        tops[own] = key + 1;
         place += 1;
     }
     true
+}
+
+// As `seek`, for a table in any order.
+fn seek_slowly(table: Table, unit: u8, channel: u8, selector: u8) -> Sought
+    requires { ⌜ table .count ≤ mostControls ⌝ }
+    ensures { λ r. ⌜ r ≡ soughtIn table unit channel selector ⌝ }
+{
+    if !sound_slowly(table) {
+        return Sought::Unsound;
+    }
+    match look_up(table, unit, channel, selector) {
+        Lookup::NoUnit => Sought::NoUnit,
+        Lookup::NoControl => Sought::NoControl,
+        Lookup::At(place) => Sought::At(place, control_at(table, place)),
+    }
+}
+
+// `sound`, then `look_up`, in one function, so that the table is not copied for each.
+pub fn seek(table: Table, unit: u8, channel: u8, selector: u8) -> Sought
+    ensures { λ r. ⌜ r ≡ soughtIn table unit channel selector ⌝ }
+{
+    let n = table.count;
+    if CONTROLS < n {
+        return Sought::Unsound;
+    }
+    let mut tops = [0u32; 256];
+    let mut place = 0;
+    while place < n {
+        let control = table.controls[place];
+        if !sound_control(control) {
+            return Sought::Unsound;
+        }
+        let own = wide(control.unit);
+        let k = key_of(control);
+        if k < tops[own] {
+            return seek_slowly(table, unit, channel, selector);
+        }
+        tops[own] = k + 1;
+        place += 1;
+    }
+    let mut seen = false;
+    let mut next = 0;
+    while next < n {
+        let here = table.controls[next];
+        if answers(here, unit, channel, selector) {
+            return Sought::At(next, here);
+        }
+        seen = saw(seen, here, unit);
+        next += 1;
+    }
+    if seen {
+        return Sought::NoControl;
+    }
+    Sought::NoUnit
 }

@@ -1,16 +1,25 @@
-// Layer 2, topology, and the reader's entry point. What it promises to the layer above: for every configuration and every lent sheet,
-// the refusal of document 01 with number and place, the sheet as it stood; or number and place 0, the AudioControl number, the counts
-// of entities and controls, the table of controls, and the entities' records in the sheet.
+// Layer 2, topology, and the reader's entry points. What it promises to the layer above: for every configuration the refusal of
+// document 01 with number and place, or what stands in it: the AudioControl number, the header, the run, a cluster on each entity's
+// output, and the table of controls; and for every lent sheet the entities' records in it, or the sheet as it stood.
 ghost use mathlib.Core.Path.{_≡_};
 ghost use lib.ListN.{length};
-ghost use Rattle.ground.specs.Refuse.{none};
-ghost use Rattle.topology.specs.Reading.{restJudged, runJudged, refusedReading, readingFrom, sheetFrom, readingOf, sheetOf};
+ghost use Rattle.topology.specs.Reading.{refusedFinding, tableJudged, surveyFinding, findingOf, refusedReading, readingOf, sheetOf};
 use cutting::Survey;
 use entities::Run;
 use ground::Place;
 use ground::Refusal;
 use layout::Cluster;
 use table::Table;
+
+// What stands in a configuration that the rules 1 to 15 do not refuse; where they do, the refusal and nothing else.
+pub struct Finding {
+    pub refusal: Refusal,
+    pub control: u8,
+    pub header: usize,
+    pub run: Run,
+    pub clusters: [Cluster; 32],
+    pub table: Table,
+}
 
 // The reader's answer. A refusal: its number and place, interface number 0, zero counts and an empty table. An acceptance: 0 for
 // number and place, the AudioControl number, how many entities and controls there are, and the table of controls.
@@ -23,53 +32,79 @@ pub struct Reading {
     pub table: Table,
 }
 
-// Rules 14, 15 and 16.
-fn judge_rest(
-    config: &[u8],
-    run: Run,
-    clusters: [Cluster; 32],
-    table: Table,
-    header: usize,
-    room: usize,
-) -> Refusal
-    ensures { λ r. ⌜ r ≡ restJudged (now (config .entry)) run clusters table header room none ⌝ }
+fn refused_finding(refusal: Refusal) -> Finding
+    ensures { λ r. ⌜ r ≡ refusedFinding refusal ⌝ }
 {
-    let streams = streaming::check_streams(config, run, clusters);
-    if let Place::At(place) = streams {
-        return Refusal { number: 14, place };
-    }
-    let count = controls::check_count(table, header);
-    if let Place::At(place) = count {
-        return Refusal { number: 15, place };
-    }
-    if !records::has_room(run, room) {
-        return Refusal {
-            number: 16,
-            place: header,
-        };
-    }
-    Refusal {
-        number: 0,
-        place: 0,
+    let spare = entities::blank();
+    Finding {
+        refusal,
+        control: 0,
+        header: 0,
+        run: Run {
+            count: 0,
+            nodes: [spare; 32],
+        },
+        clusters: [Cluster {
+            channels: 0,
+            locations: 0,
+            names: 0,
+        }; 32],
+        table: table::empty(),
     }
 }
 
-// Rules 10 to 16.
-fn judge_run(
-    config: &[u8],
-    run: Run,
-    clusters: [Cluster; 32],
-    table: Table,
-    header: usize,
-    room: usize,
-) -> Refusal
-    ensures { λ r. ⌜ r ≡ runJudged (now (config .entry)) run clusters table header room none ⌝ }
+// The table of controls of a configuration that keeps the rules 1 to 14, and rule 15.
+fn judge_table(config: &[u8], survey: Survey, clusters: [Cluster; 32]) -> Finding
+    ensures { λ r. ⌜ r ≡ tableJudged (now (config .entry)) survey clusters ⌝ }
 {
-    let connected = connections::judge(run);
-    if connected.number != 0 {
-        return connected;
+    let run = survey.run;
+    let header = survey.header;
+    let table = controls::read_controls(config, run, clusters);
+    let many = controls::check_count(table, header);
+    if let Place::At(place) = many {
+        return refused_finding(Refusal { number: 15, place });
     }
-    judge_rest(config, run, clusters, table, header, room)
+    Finding {
+        refusal: Refusal {
+            number: 0,
+            place: 0,
+        },
+        control: survey.control,
+        header,
+        run,
+        clusters,
+        table,
+    }
+}
+
+// Rules 10 to 15 of a configuration that the cutting layer has surveyed.
+fn judge_survey(config: &[u8], survey: Survey) -> Finding
+    ensures { λ r. ⌜ r ≡ surveyFinding (now (config .entry)) survey ⌝ }
+{
+    let run = survey.run;
+    let connected = connections::judge(config, run);
+    let refusal = connected.refusal;
+    if refusal.number != 0 {
+        return refused_finding(refusal);
+    }
+    let clusters = connected.clusters;
+    let streams = streaming::check_streams(config, run, clusters);
+    if let Place::At(place) = streams {
+        return refused_finding(Refusal { number: 14, place });
+    }
+    judge_table(config, survey, clusters)
+}
+
+// Judges a configuration by the rules 1 to 15: the refusal, or what was found.
+pub fn judge(config: &[u8]) -> Finding
+    ensures { λ r. ⌜ r ≡ findingOf (now (config .entry)) ⌝ }
+{
+    let survey = cutting::cut(config);
+    let refusal = survey.refusal;
+    if refusal.number != 0 {
+        return refused_finding(refusal);
+    }
+    judge_survey(config, survey)
 }
 
 fn refused(refusal: Refusal) -> Reading
@@ -85,38 +120,32 @@ fn refused(refusal: Refusal) -> Reading
     }
 }
 
-// The reading of a configuration that the cutting layer has surveyed.
-fn read_survey(config: &[u8], survey: Survey, sheet: &mut [u8]) -> Reading
-    ensures { λ r. ⌜ r ≡ readingFrom (now (config .entry)) survey (length (now (sheet .entry))) ⌝ }
-    ensures { λ r. ⌜ now (sheet .exit) ≡ sheetFrom (now (config .entry)) survey (now (sheet .entry)) ⌝ }
-{
-    let run = survey.run;
-    let clusters = clusters::clusters(run);
-    let table = controls::read_controls(config, run, clusters);
-    let refusal = judge_run(config, run, clusters, table, survey.header, sheet.len());
-    if refusal.number != 0 {
-        return refused(refusal);
-    }
-    records::show(run, clusters, sheet);
-    Reading {
-        number: 0,
-        place: 0,
-        control: survey.control,
-        entities: run.count,
-        controls: table.count,
-        table,
-    }
-}
-
-// Reads one configuration into a lent sheet.
+// Reads one configuration into a lent sheet: what is found by the rules 1 to 15, rule 16, and the records.
 pub fn read(config: &[u8], sheet: &mut [u8]) -> Reading
     ensures { λ r. ⌜ r ≡ readingOf (now (config .entry)) (length (now (sheet .entry))) ⌝ }
     ensures { λ r. ⌜ now (sheet .exit) ≡ sheetOf (now (config .entry)) (now (sheet .entry)) ⌝ }
 {
-    let survey = cutting::cut(config);
-    let refusal = survey.refusal;
+    let found = judge(config);
+    let refusal = found.refusal;
     if refusal.number != 0 {
         return refused(refusal);
     }
-    read_survey(config, survey, sheet)
+    let run = found.run;
+    let table = found.table;
+    let clusters = found.clusters;
+    if !records::has_room(run, sheet.len()) {
+        return refused(Refusal {
+            number: 16,
+            place: found.header,
+        });
+    }
+    records::show(config, run, clusters, sheet);
+    Reading {
+        number: 0,
+        place: 0,
+        control: found.control,
+        entities: run.count,
+        controls: table.count,
+        table,
+    }
 }

@@ -1,81 +1,75 @@
 -- A loop over the pins: the sum so far, and what is left to add, make the whole.
 use borrow.Author.Needs.{needs}
-use Prim.Native.Nat.{ℕ, suc, _+_, _-_, _*_, _≤_, _<_}
-use mathlib.Core.Path.{_≡_, ap, _∙_}
-use mathlib.Core.List.{List}
+use Prim.Native.Nat.{ℕ, _+_, _-_, _*_, _≤_, _<_}
+use mathlib.Core.Path.{_≡_, refl, ap, _∙_}
+use mathlib.Core.List.{List, map}
 use native.Mathlib.Omega.{arith}
 use native.Mathlib.Numerals.{add-one}
-use lib.ListN.{length, getD, take, drop, length-take, drop-of-length-le}
-use lib.Seq.{drop-cons, getD-take}
-use Rattle.layout.specs.declared.Cluster.{Cluster}
-use Rattle.layout.specs.Layout.{noCluster}
-use Rattle.clusters.specs.Edition.{clustersAt}
-use Rattle.clusters.specs.Audio.{channelsIn, Entering}
+use lib.ListN.{length, getD, drop, drop-of-length-le}
+use lib.Seq.{drop-cons}
+use mir.Val.{Fits}
+use mir.Syntax.{w64}
+use Rattle.edition.specs.Audio.{channelsIn}
+use Rattle.clusters.specs.Sweep.{channelsOn, Entering}
 use Rattle.clusters.proofs.channels_in.Statement.{statement}
 use Rattle.clusters.proofs.channels_in.Tie as tie
 
 -- The sum is that of the pins before pin k, at most 255 each.
-module _ (now : List Cluster) (places : List ℕ) (pins : ℕ) where
-  abbrev whole : List ℕ
-  whole = take pins places
+module _ (ids counts : List ℕ) where
+  abbrev entering : List ℕ → ℕ
+  entering l = channelsIn (map (channelsOn counts) l)
 
   record Gone (sum k : ℕ) : Type 0 where
-    low : k ≤ 8
+    low : k ≤ length ids
     small : sum ≤ 255 * k
-    same : channelsIn (clustersAt now whole) ≡ sum + channelsIn (clustersAt now (drop k whole))
+    same : entering ids ≡ sum + entering (drop k ids)
 
   start : Gone 0 0
   start = record { low = omega arith; small = omega arith; same = omega arith }
 
-  module _ (long : length places ≡ 8) (sum k : ℕ) (g : Gone sum k) where
-    ended : length whole ≤ k → Entering (clustersAt now whole) sum
-    unfolding channelsIn clustersAt
-    ended h =
-        let z : channelsIn (clustersAt now (drop k whole)) ≡ 0 = ap (λ (l : List ℕ). channelsIn (clustersAt now l)) (drop-of-length-le whole h) in
+  module _ (sum k : ℕ) (g : Gone sum k) where
+    last : length ids ≤ 255 → length ids ≤ k → Entering (map (channelsOn counts) ids) sum
+    unfolding channelsIn
+    last f h =
+        let z : entering (drop k ids) ≡ 0 = ap entering (drop-of-length-le ids h) in
         let s = g .same in
         record { all-channels = omega arith; few = let b = g .small in let l = g .low in omega arith }
 
-    last-pin : pins ≤ k → Entering (clustersAt now whole) sum
-    last-pin h = ended (simp length-take (omega arith))
+    module _ (h : k < length ids) (x : ℕ) (q : x ≡ getD counts (getD ids k 0) 0) (c : ℕ) (e : (c ≡ x) × (c < 256)) where
+      turn : entering (drop k ids) ≡ c + entering (drop (k + 1) ids)
+      unfolding channelsIn
+      turn = ap entering (drop-cons ids k 0 h) ∙ rw (add-one, e .0, q) refl
 
-    last-place : 8 ≤ k → Entering (clustersAt now whole) sum
-    last-place h = ended (simp length-take (omega arith))
+      fits : length ids ≤ 255 → Fits w64 (sum + c)
+      fits f = let m = g .small in let l = g .low in let b = e .1 in record { fits = omega arith }
 
-    module _ (h : k < pins) (m : k < 8) (e : ℕ) (q : e ≡ getD now (getD places k 0) noCluster .channels) where
-      turn : channelsIn (clustersAt now (drop k whole)) ≡ e + channelsIn (clustersAt now (drop (k + 1) whole))
-      unfolding channelsIn clustersAt
-      turn =
-          ap (λ (l : List ℕ). channelsIn (clustersAt now l)) (drop-cons whole k 0 (simp length-take (omega arith)))
-          ∙ rw (add-one, q) (ap (λ (s : ℕ). getD now s noCluster .channels + channelsIn (clustersAt now (drop (suc k) whole))) (getD-take pins places k 0 h))
+      on : Gone (sum + c) (k + 1)
+      on =
+          let t = turn in
+          let s = g .same in
+          let m = g .small in
+          let b = e .1 in
+          record { low = omega arith; small = omega arith; same = omega arith }
 
-      on : e < 256 → Gone (sum + e) (k + 1)
-      on b = let t = turn in let s = g .same in record { low = omega arith; small = omega arith; same = omega arith }
-
-ruleset laws = (start, last-pin, last-place, on, needs)
+ruleset laws = (start, last, fits, on, needs)
 
 abbrev Inv-loop : tie.InvT-loop
-Inv-loop now pins places sum₀ k₀ sum k = Gone now places pins sum k
+Inv-loop ids counts sum₀ k₀ sum k = Gone ids counts sum k
 
 abbrev μ-loop : tie.MeasureT-loop
-μ-loop now pins places sum₀ k₀ sum k = 8 - k
+μ-loop ids counts sum₀ k₀ sum k = length ids - k
 
 loop-holds : tie.Need-loop-holds Inv-loop μ-loop
 loop-holds c = search laws
 
-returns : tie.Need-returns Inv-loop μ-loop
-returns c = search laws
+shared-slice-read-count-of : tie.Need-shared-slice-read-count-of Inv-loop μ-loop
+shared-slice-read-count-of c = search laws
 
-mul-channels-at : tie.Need-mul-channels-at Inv-loop μ-loop
-mul-channels-at c = search laws
+count-of-requires : tie.Need-count-of-requires Inv-loop μ-loop
+count-of-requires c κs = search laws
 
-array-read-channels-at : tie.Need-array-read-channels-at Inv-loop μ-loop
-array-read-channels-at c = search laws
-
-channels-at-requires : tie.Need-channels-at-requires Inv-loop μ-loop
-channels-at-requires c κs = search laws
-
-cast-sum : tie.Need-cast-sum Inv-loop μ-loop
-cast-sum c = search laws
+wide-requires : tie.Need-wide-requires Inv-loop μ-loop
+wide-requires c κs = search laws
 
 add-sum : tie.Need-add-sum Inv-loop μ-loop
 add-sum c = search laws
@@ -89,8 +83,8 @@ loop-less c = search laws
 loop-again : tie.Need-loop-again Inv-loop μ-loop
 loop-again c = search laws
 
-returns-2 : tie.Need-returns-2 Inv-loop μ-loop
-returns-2 c = search laws
+returns : tie.Need-returns Inv-loop μ-loop
+returns c = search laws
 
 pub channels-in-spec : {M : Type 1} → statement M
 channels-in-spec =
@@ -99,13 +93,11 @@ channels-in-spec =
     Inv-loop
     μ-loop
     loop-holds
-    returns
-    mul-channels-at
-    array-read-channels-at
-    channels-at-requires
-    cast-sum
+    shared-slice-read-count-of
+    count-of-requires
+    wide-requires
     add-sum
     add-k
     loop-less
     loop-again
-    returns-2)
+    returns)

@@ -1,4 +1,4 @@
--- A search for the first place that breaks its test: no place before the one come to does.
+-- A search for the first entity that breaks its rule: none before the one come to does. The rules look at channels alone.
 use borrow.Author.Needs.{needs}
 use Prim.Native.Nat.{ℕ, _+_, _-_, _≤_, _<_}
 use mathlib.Core.Path.{_≡_, ap, _∙_}
@@ -7,82 +7,73 @@ use mathlib.Core.List.{List}
 use native.Mathlib.Omega.{arith}
 use lib.ListN.{getD}
 use Rattle.ground.specs.declared.Place.the-variants.{Nowhere, At}
-use Rattle.layout.specs.declared.Cluster.{Cluster}
-use Rattle.layout.specs.declared.Entity.{Entity}
+use Rattle.ground.specs.Places.{firstIn, first-same, Come, come-none, come-here, come-more, come-over}
 use Rattle.entities.specs.declared.Node.{Node}
 use Rattle.entities.specs.declared.Run.{Run}
-use Rattle.entities.specs.Run.{held, nodeAt, entityAt, placeAt}
-use Rattle.sources.specs.declared.Link.{Link}
-use Rattle.sources.specs.Pins.{blankLink, linked}
-use Rattle.sources.specs.Lookup.{linksOf}
-use Rattle.ground.specs.Places.{Come, come-none, come-here, come-more, come-over}
-use Rattle.clusters.specs.Edition.{clustersAt, clustersOf, keepsAt, breach13}
-use Rattle.clusters.specs.Audio.{keeps, audio}
+use Rattle.entities.specs.Run.{blankNode, held, nodeAt, placeAt}
+use Rattle.clusters.specs.declared.Given.{Given}
+use Rattle.clusters.specs.Sweep.{clusterOn, channelsOn, keepsBy, breach13}
+use Rattle.clusters.specs.SweepLaws.{keeps-channels}
 use Rattle.clusters.proofs.check_clusters.Statement.{statement}
 use Rattle.clusters.proofs.check_clusters.Tie as tie
 
--- No entity before place i breaks the rule.
-module _ (run : Run) where
-  abbrev Passed : ℕ → Type 0
-  Passed i = Come (λ j. not (keepsAt audio run j)) (λ j. At (placeAt run j)) Nowhere (held run) i
+abbrev zeros : Node
+zeros = record { place = 0; first = 0; pins = 0; id = 0; feeds = false }
 
-  start : Passed 0
-  start = come-none _ (λ j. At (placeAt run j)) Nowhere (held run)
+module _ (s : List ℕ) (run : Run) where
+  abbrev wrong : List ℕ → ℕ → Bool
+  wrong counts j = not (keepsBy s (nodeAt run j) (channelsOn counts))
 
-  module _ (n : ℕ) (m : n ≡ held run) (i : ℕ) (g : Passed i) where
-    over : n ≤ i → Nowhere ≡ breach13 audio run
-    unfolding breach13
-    over h = come-over _ (λ j. At (placeAt run j)) Nowhere (held run) i g (omega arith)
+  abbrev Passed : List ℕ → ℕ → Type 0
+  Passed counts i = Come (wrong counts) (λ j. At (placeAt run j)) Nowhere (held run) i
 
-    module _ (h : i < n) (links : List Link) (k : links ≡ linksOf run) (now : List Cluster) (o : now ≡ clustersOf audio run) (l : Link) (p : l ≡ getD links i blankLink) (x : Entity) (q : x ≡ entityAt run i) (b : Bool) (f : b ≡ keeps x (clustersAt now (linked l))) where
-      e : not b ≡ not (keepsAt audio run i)
-      unfolding keepsAt
-      e =
-          ap not (f ∙ ap (λ (y : Entity). keeps y (clustersAt now (linked l))) q
-          ∙ ap (λ (y : List Cluster). keeps (entityAt run i) (clustersAt y (linked l))) o
-          ∙ ap (λ (y : Link). keeps (entityAt run i) (clustersAt (clustersOf audio run) (linked y))) (p ∙ ap (λ (y : List Link). getD y i blankLink) k))
+  start : (counts : List ℕ) → Passed counts 0
+  start counts = come-none _ (λ j. At (placeAt run j)) Nowhere (held run)
 
-      here : not b ≡ true → (d : Node) → d ≡ nodeAt run i → At (d .place) ≡ breach13 audio run
-      unfolding breach13
-      here y d w = ap (λ (z : Node). At (z .place)) w ∙ come-here _ (λ j. At (placeAt run j)) Nowhere (held run) i g (omega arith) (not b) e y
+  by-channels : (given : Given)
+      → firstIn (wrong (given .channels)) (λ j. At (placeAt run j)) Nowhere 0 (held run) ≡ breach13 s run (clusterOn given)
+  unfolding breach13
+  by-channels given =
+      first-same _ _ (λ j. At (placeAt run j)) Nowhere (held run)
+      (λ j l. ap not (keeps-channels s (nodeAt run j) (given .channels) (given .locations) (given .names)))
 
-      on : not b ≡ false → Passed (i + 1)
-      on y = come-more _ (λ j. At (placeAt run j)) Nowhere (held run) i g (omega arith) (not b) e y
+  module _ (n : ℕ) (m : n ≡ held run) (i : ℕ) where
+    over : (given : Given) → Passed (given .channels) i → n ≤ i → Nowhere ≡ breach13 s run (clusterOn given)
+    over given g h = come-over _ (λ j. At (placeAt run j)) Nowhere (held run) i g (omega arith) ∙ by-channels given
+
+    module _ (h : i < n) (b : Bool) where
+      here : (given : Given) → Passed (given .channels) i → b ≡ keepsBy s (getD (run .nodes) i zeros) (channelsOn (given .channels))
+          → not b ≡ true → At (getD (run .nodes) i zeros .place) ≡ breach13 s run (clusterOn given)
+      unfolding blankNode
+      here given g f y = come-here _ (λ j. At (placeAt run j)) Nowhere (held run) i g (omega arith) (not b) (ap not f) y ∙ by-channels given
+
+      on : (counts : List ℕ) → Passed counts i → b ≡ keepsBy s (getD (run .nodes) i zeros) (channelsOn counts) → not b ≡ false
+          → Passed counts (i + 1)
+      unfolding blankNode
+      on counts g f y = come-more _ (λ j. At (placeAt run j)) Nowhere (held run) i g (omega arith) (not b) (ap not f) y
 
 ruleset laws = (start, over, here, on, needs)
 
 abbrev Inv-loop : tie.InvT-loop
-Inv-loop run n links now i₀ i = Passed run i
+Inv-loop config run n counts i₀ i = Passed config run counts i
 
 abbrev μ-loop : tie.MeasureT-loop
-μ-loop run n links now i₀ i = n - i
+μ-loop config run n counts i₀ i = n - i
 
 count-requires : tie.Need-count-requires Inv-loop μ-loop
 count-requires c κs = search laws
 
-links-requires : tie.Need-links-requires Inv-loop μ-loop
-links-requires c κs = search laws
-
-clusters-requires : tie.Need-clusters-requires Inv-loop μ-loop
-clusters-requires c κs = search laws
-
 loop-holds : tie.Need-loop-holds Inv-loop μ-loop
 loop-holds c = search laws
 
-mul-link : tie.Need-mul-link Inv-loop μ-loop
-mul-link c = search laws
+mul-node : tie.Need-mul-node Inv-loop μ-loop
+mul-node c = search laws
 
-array-copy-out-link : tie.Need-array-copy-out-link Inv-loop μ-loop
-array-copy-out-link c = search laws
-
-entity-requires : tie.Need-entity-requires Inv-loop μ-loop
-entity-requires c κs = search laws
+element-copy-out-node : tie.Need-element-copy-out-node Inv-loop μ-loop
+element-copy-out-node c = search laws
 
 kept-requires : tie.Need-kept-requires Inv-loop μ-loop
 kept-requires c κs = search laws
-
-node-requires : tie.Need-node-requires Inv-loop μ-loop
-node-requires c κs = search laws
 
 returns : tie.Need-returns Inv-loop μ-loop
 returns c = search laws
@@ -106,14 +97,10 @@ check-clusters-spec =
     Inv-loop
     μ-loop
     count-requires
-    links-requires
-    clusters-requires
     loop-holds
-    mul-link
-    array-copy-out-link
-    entity-requires
+    mul-node
+    element-copy-out-node
     kept-requires
-    node-requires
     returns
     add-i
     loop-less

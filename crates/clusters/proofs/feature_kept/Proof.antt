@@ -1,22 +1,23 @@
--- The length, by the source's channels.
+-- The length, from the channels that enter by the one pin.
 use borrow.Author.Needs.{needs}
 use Prim.Native.Nat.{ℕ}
 use mathlib.Core.Path.{_≡_, ap, _∙_}
-use mathlib.Core.List.{List}
+use mathlib.Core.List.{List, map}
 use lib.Dec.{eqb}
-use Rattle.layout.specs.declared.Cluster.{Cluster}
-use Rattle.clusters.specs.Audio.{firstOf, featureLength, featureKept}
+use Rattle.edition.specs.Audio.{featureLength, featureKept}
+use Rattle.clusters.specs.Sweep.{channelsOn, firstBy}
 use Rattle.clusters.proofs.feature_kept.Statement.{statement}
 use Rattle.clusters.proofs.feature_kept.Tie as tie
 
-by-length : (n l : ℕ) (cs : List Cluster) (k : Cluster) (m : ℕ) → k ≡ firstOf cs → m ≡ featureLength (k .channels) n → eqb l m ≡ featureKept n l cs
-unfolding featureKept
-by-length n l cs k m e f = ap (eqb l) (f ∙ ap (λ (x : Cluster). featureLength (x .channels) n) e)
+by-length : (ids counts : List ℕ) (n l c m : ℕ) → c ≡ firstBy (channelsOn counts) ids .channels
+    → m ≡ featureLength c n → eqb l m ≡ featureKept n l (map (channelsOn counts) ids)
+unfolding featureKept firstBy
+by-length ids counts n l c m e f = ap (eqb l) (f ∙ ap (λ (k : ℕ). featureLength k n) e)
 
 ruleset laws = (by-length, needs)
 
-first-entering-requires : tie.Need-first-entering-requires
-first-entering-requires c κs = search laws
+first-count-requires : tie.Need-first-count-requires
+first-count-requires c κs = search laws
 
 feature-length-requires : tie.Need-feature-length-requires
 feature-length-requires c κs = search laws
@@ -25,4 +26,4 @@ returns : tie.Need-returns
 returns c = search laws
 
 pub feature-kept-spec : {M : Type 1} → statement M
-feature-kept-spec = tie.close (tie.spec first-entering-requires feature-length-requires returns)
+feature-kept-spec = tie.close (tie.spec first-count-requires feature-length-requires returns)

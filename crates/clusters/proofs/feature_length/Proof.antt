@@ -6,7 +6,7 @@ use native.Mathlib.Nat.{mul-le-mul}
 use native.Mathlib.Omega.{arith}
 use mir.Val.{Fits}
 use mir.Syntax.{w64}
-use Rattle.clusters.specs.Audio.{featureLength}
+use Rattle.edition.specs.Audio.{featureLength}
 use Rattle.clusters.proofs.feature_length.Statement.{statement}
 use Rattle.clusters.proofs.feature_length.Tie as tie
 

@@ -1,44 +1,70 @@
--- One law for each kind.
+-- One law for each kind: what enters by pin 1, or the cluster that it declares.
 use borrow.Author.Needs.{needs}
 use Prim.Native.Nat.{ℕ}
-use mathlib.Core.Path.{_≡_, sym, ap}
+use mathlib.Core.Path.{_≡_, sym, ap, _∙_}
+use mathlib.Core.List.{List, map}
 use Rattle.layout.specs.declared.Cluster.{Cluster}
 use Rattle.layout.specs.declared.Entity.{Entity}
 use Rattle.layout.specs.declared.Entity.the-variants.{Unknown, Input, Output, Mixer, Selector, Printed, Feature}
-use Rattle.clusters.specs.Audio.{giveOut}
+use Rattle.layout.specs.Layout.{entityOf}
+use Rattle.entities.specs.declared.Node.{Node}
+use Rattle.entities.specs.Run.{sourcesOf}
+use Rattle.edition.specs.Audio.{firstOf, giveOut}
+use Rattle.clusters.specs.Sweep.{bytesOf, firstBy, givesBy}
 use Rattle.clusters.proofs.give_out.Statement.{statement}
 use Rattle.clusters.proofs.give_out.Tie as tie
 
-module _ (e : Entity) (k : Cluster) where
-  unknown : e ≡ Unknown → k ≡ giveOut e k
-  unfolding giveOut
-  unknown h = sym (ap (λ (x : Entity). giveOut x k) h)
+module _ (s : List ℕ) (n : Node) (cl : ℕ → Cluster) (d : List ℕ) (p : d ≡ bytesOf s n) (e : Entity) (q : e ≡ entityOf d) where
+  of : {x : Entity} → e ≡ x → giveOut x (map cl (sourcesOf s n)) ≡ givesBy s n cl
+  unfolding givesBy
+  of h = ap (λ (y : Entity). giveOut y (map cl (sourcesOf s n))) (sym h ∙ q ∙ ap entityOf p)
 
-  input : (i t : ℕ) (c : Cluster) → e ≡ Input i t c → c ≡ giveOut e k
+  input : {i t : ℕ} {c : Cluster} → e ≡ Input i t c → c ≡ givesBy s n cl
   unfolding giveOut
-  input i t c h = sym (ap (λ (x : Entity). giveOut x k) h)
+  input h = of h
 
-  output : (i t s : ℕ) → e ≡ Output i t s → k ≡ giveOut e k
+  mixer : {i p : ℕ} {c : Cluster} → e ≡ Mixer i p c → c ≡ givesBy s n cl
   unfolding giveOut
-  output i t s h = sym (ap (λ (x : Entity). giveOut x k) h)
+  mixer h = of h
 
-  mixer : (i p : ℕ) (c : Cluster) (l : ℕ) → e ≡ Mixer i p c l → c ≡ giveOut e k
-  unfolding giveOut
-  mixer i p c l h = sym (ap (λ (x : Entity). giveOut x k) h)
+  module _ (ids : List ℕ) (t : ids ≡ sourcesOf s n) (f : Cluster) (g : f ≡ firstBy cl ids) where
+    first : f ≡ firstOf (map cl (sourcesOf s n))
+    unfolding firstBy
+    first = g ∙ ap (λ (l : List ℕ). firstOf (map cl l)) t
 
-  selector : (i p : ℕ) → e ≡ Selector i p → k ≡ giveOut e k
-  unfolding giveOut
-  selector i p h = sym (ap (λ (x : Entity). giveOut x k) h)
+    unknown : e ≡ Unknown → f ≡ givesBy s n cl
+    unfolding giveOut
+    unknown h = first ∙ of h
 
-  printed : (i p : ℕ) → e ≡ Printed i p → k ≡ giveOut e k
-  unfolding giveOut
-  printed i p h = sym (ap (λ (x : Entity). giveOut x k) h)
+    output : {i t s′ : ℕ} → e ≡ Output i t s′ → f ≡ givesBy s n cl
+    unfolding giveOut
+    output h = first ∙ of h
 
-  feature : (i s n l : ℕ) → e ≡ Feature i s n l → k ≡ giveOut e k
-  unfolding giveOut
-  feature i s n l h = sym (ap (λ (x : Entity). giveOut x k) h)
+    selector : {i p : ℕ} → e ≡ Selector i p → f ≡ givesBy s n cl
+    unfolding giveOut
+    selector h = first ∙ of h
+
+    printed : {i p : ℕ} → e ≡ Printed i p → f ≡ givesBy s n cl
+    unfolding giveOut
+    printed h = first ∙ of h
+
+    feature : {i s′ k : ℕ} → e ≡ Feature i s′ k → f ≡ givesBy s n cl
+    unfolding giveOut
+    feature h = first ∙ of h
 
 ruleset laws = (unknown, input, output, mixer, selector, printed, feature, needs)
+
+sources-requires : tie.Need-sources-requires
+sources-requires c κs = search laws
+
+first-entering-requires : tie.Need-first-entering-requires
+first-entering-requires c κs = search laws
+
+descriptor-at-requires : tie.Need-descriptor-at-requires
+descriptor-at-requires c κs = search laws
+
+read-requires : tie.Need-read-requires
+read-requires c κs = search laws
 
 enum-told : tie.Need-enum-told
 enum-told c = search laws
@@ -86,6 +112,10 @@ pub give-out-spec : {M : Type 1} → statement M
 give-out-spec =
     tie.close
     (tie.spec
+    sources-requires
+    first-entering-requires
+    descriptor-at-requires
+    read-requires
     enum-told
     enum-known-entity
     enum-told-2

@@ -1,50 +1,76 @@
 -- One law for each kind, from what its own test answers.
 use borrow.Author.Needs.{needs}
-use Prim.Native.Nat.{ℕ}
+use Prim.Native.Nat.{ℕ, _<_, _≤_}
 use mathlib.Core.Path.{_≡_, sym, ap, _∙_}
 use mathlib.Core.Bool.{Bool, true}
-use mathlib.Core.List.{List}
+use mathlib.Core.List.{List, map}
+use native.Mathlib.Omega.{arith}
+use lib.ListN.{length, length-take}
 use Rattle.layout.specs.declared.Cluster.{Cluster}
 use Rattle.layout.specs.declared.Entity.{Entity}
 use Rattle.layout.specs.declared.Entity.the-variants.{Unknown, Input, Output, Mixer, Selector, Printed, Feature}
+use Rattle.layout.specs.Layout.{entityOf}
 use Rattle.channels.specs.Declared.{clusterKept}
-use Rattle.clusters.specs.Audio.{alikeIn, mixerKept, featureKept, keeps}
+use Rattle.entities.specs.declared.Node.{Node}
+use Rattle.entities.specs.Run.{sourcesOf}
+use Rattle.edition.specs.Audio.{alikeIn, mixerKept, featureKept, keeps}
+use Rattle.clusters.specs.Sweep.{bytesOf, channelsOn, keepsBy}
 use Rattle.clusters.proofs.kept.Statement.{statement}
 use Rattle.clusters.proofs.kept.Tie as tie
 
-module _ (e : Entity) (cs : List Cluster) where
-  abbrev of : {x : Entity} → e ≡ x → keeps x cs ≡ keeps e cs
-  of h = sym (ap (λ (y : Entity). keeps y cs) h)
+-- a byte says how many pins there are
+few : (s : List ℕ) (n : Node) → n .pins < 256 → (ids : List ℕ) → ids ≡ sourcesOf s n → length ids ≤ 255
+few s n h ids e = rw e (simp length-take (omega arith))
 
-  unknown : e ≡ Unknown → true ≡ keeps e cs
+module _ (s : List ℕ) (n : Node) (counts d : List ℕ) (p : d ≡ bytesOf s n)
+    (ids : List ℕ) (t : ids ≡ sourcesOf s n) (e : Entity) (q : e ≡ entityOf d) where
+  of : {x : Entity} → e ≡ x → keeps x (length d) (map (channelsOn counts) ids) ≡ keepsBy s n (channelsOn counts)
+  unfolding keepsBy
+  of h =
+      ap (λ (y : Entity). keeps y (length d) (map (channelsOn counts) ids)) (sym h ∙ q)
+      ∙ ap (λ (b : List ℕ). keeps (entityOf b) (length b) (map (channelsOn counts) ids)) p
+      ∙ ap (λ (l : List ℕ). keeps (entityOf (bytesOf s n)) (length (bytesOf s n)) (map (channelsOn counts) l)) t
+
+  unknown : e ≡ Unknown → true ≡ keepsBy s n (channelsOn counts)
   unfolding keeps
   unknown h = of h
 
-  input : (i t : ℕ) (c : Cluster) → e ≡ Input i t c → (b : Bool) → b ≡ clusterKept c → b ≡ keeps e cs
+  input : {i t : ℕ} {c : Cluster} → e ≡ Input i t c → (b : Bool) → b ≡ clusterKept c → b ≡ keepsBy s n (channelsOn counts)
   unfolding keeps
-  input i t c h b d = d ∙ of h
+  input h b a = a ∙ of h
 
-  output : (i t s : ℕ) → e ≡ Output i t s → true ≡ keeps e cs
+  output : {i t s′ : ℕ} → e ≡ Output i t s′ → true ≡ keepsBy s n (channelsOn counts)
   unfolding keeps
-  output i t s h = of h
+  output h = of h
 
-  mixer : (i p : ℕ) (c : Cluster) (l : ℕ) → e ≡ Mixer i p c l → (b : Bool) → b ≡ mixerKept p c l cs → b ≡ keeps e cs
+  mixer : {i p : ℕ} {c : Cluster} → e ≡ Mixer i p c → (b : Bool)
+      → b ≡ mixerKept p c (length d) (map (channelsOn counts) ids) → b ≡ keepsBy s n (channelsOn counts)
   unfolding keeps
-  mixer i p c l h b d = d ∙ of h
+  mixer h b a = a ∙ of h
 
-  selector : (i p : ℕ) → e ≡ Selector i p → (b : Bool) → b ≡ alikeIn cs → b ≡ keeps e cs
+  selector : {i p : ℕ} → e ≡ Selector i p → (b : Bool) → b ≡ alikeIn (map (channelsOn counts) ids) → b ≡ keepsBy s n (channelsOn counts)
   unfolding keeps
-  selector i p h b d = d ∙ of h
+  selector h b a = a ∙ of h
 
-  printed : (i p : ℕ) → e ≡ Printed i p → (b : Bool) → b ≡ alikeIn cs → b ≡ keeps e cs
+  printed : {i p : ℕ} → e ≡ Printed i p → (b : Bool) → b ≡ alikeIn (map (channelsOn counts) ids) → b ≡ keepsBy s n (channelsOn counts)
   unfolding keeps
-  printed i p h b d = d ∙ of h
+  printed h b a = a ∙ of h
 
-  feature : (i s n l : ℕ) → e ≡ Feature i s n l → (b : Bool) → b ≡ featureKept n l cs → b ≡ keeps e cs
+  feature : {i s′ k : ℕ} → e ≡ Feature i s′ k → (b : Bool)
+      → b ≡ featureKept k (length d) (map (channelsOn counts) ids) → b ≡ keepsBy s n (channelsOn counts)
   unfolding keeps
-  feature i s n l h b d = d ∙ of h
+  feature h b a = a ∙ of h
 
-ruleset laws = (unknown, input, output, mixer, selector, printed, feature, needs)
+ruleset laws = (few, unknown, input, output, mixer, selector, printed, feature, needs)
+
+descriptor-at-requires : tie.Need-descriptor-at-requires
+descriptor-at-requires c κs = search laws
+
+sources-requires : tie.Need-sources-requires
+sources-requires c κs = search laws
+
+read-requires : tie.Need-read-requires
+read-requires c κs = search laws
 
 enum-told : tie.Need-enum-told
 enum-told c = search laws
@@ -107,6 +133,9 @@ pub kept-spec : {M : Type 1} → statement M
 kept-spec =
     tie.close
     (tie.spec
+    descriptor-at-requires
+    sources-requires
+    read-requires
     enum-told
     enum-known-entity
     cluster-kept-requires

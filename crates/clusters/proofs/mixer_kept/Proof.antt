@@ -8,7 +8,8 @@ use lib.Dec.{eqb}
 use borrow.Author.Tests.{not-true, not-false}
 use Rattle.layout.specs.declared.Cluster.{Cluster}
 use Rattle.channels.specs.Declared.{clusterKept}
-use Rattle.clusters.specs.Audio.{channelsIn, Entering, mixerLength, mixerKept}
+use Rattle.edition.specs.Audio.{channelsIn, mixerLength, mixerKept}
+use Rattle.clusters.specs.Sweep.{Entering}
 use Rattle.clusters.proofs.mixer_kept.Statement.{statement}
 use Rattle.clusters.proofs.mixer_kept.Tie as tie
 
@@ -31,9 +32,6 @@ cluster-kept-requires c κs = search laws
 returns : tie.Need-returns
 returns c = search laws
 
-cast-channels-in : tie.Need-cast-channels-in
-cast-channels-in c = search laws
-
 channels-in-requires : tie.Need-channels-in-requires
 channels-in-requires c κs = search laws
 
@@ -46,10 +44,4 @@ returns-2 c = search laws
 pub mixer-kept-spec : {M : Type 1} → statement M
 mixer-kept-spec =
     tie.close
-    (tie.spec
-    cluster-kept-requires
-    returns
-    cast-channels-in
-    channels-in-requires
-    mixer-length-requires
-    returns-2)
+    (tie.spec cluster-kept-requires returns channels-in-requires mixer-length-requires returns-2)

@@ -6,31 +6,33 @@ use native.Mathlib.Nat.{mul-le-mul, div-mul-le-self}
 use native.Mathlib.Omega.{arith}
 use mir.Val.{Fits}
 use mir.Syntax.{w64}
-use Rattle.clusters.specs.Audio.{mixerLength}
+use Rattle.edition.specs.Audio.{mixerLength}
 use Rattle.clusters.proofs.mixer_length.Statement.{statement}
 use Rattle.clusters.proofs.mixer_length.Tie as tie
 
-module _ (c i : ℕ) (h : c < 256) (k : i ≤ 2040) where
-  small : i * c ≤ 2040 * 255
-  small = let b : c ≤ 255 = omega arith in mul-le-mul k b
+module _ (c i : ℕ) (h : c < 256) (few : i ≤ 65025) where
+  small : i * c ≤ 65025 * 255
+  small = let b : c ≤ 255 = omega arith in mul-le-mul few b
 
   product-fits : Fits w64 (i * c)
-  product-fits = let s : i * c ≤ 520200 = small in record { fits = omega arith }
+  product-fits = let s : i * c ≤ 16581375 = small in record { fits = omega arith }
 
-  seven-fits : Fits w64 (i * c + 7)
-  seven-fits = let s : i * c ≤ 520200 = small in record { fits = omega arith }
+  -- .. and a little more, which rounds up
+  module _ (k : ℕ) (near : k ≤ 7) where
+    more-fits : Fits w64 (i * c + k)
+    more-fits = let s : i * c ≤ 16581375 = small in record { fits = omega arith }
 
-  sum-fits : (p : ℕ) → p < 256 → Fits w64 (10 + p + (i * c + 7) / 8)
-  sum-fits p l =
-      let s : i * c ≤ 520200 = small in
-      let d : (i * c + 7) / 8 * 8 ≤ i * c + 7 = div-mul-le-self (i * c + 7) 8 in
-      record { fits = omega arith }
+    sum-fits : (p : ℕ) → p < 256 → Fits w64 (10 + p + (i * c + k) / 8)
+    sum-fits p l =
+        let s : i * c ≤ 16581375 = small in
+        let d : (i * c + k) / 8 * 8 ≤ i * c + k = div-mul-le-self (i * c + k) 8 in
+        record { fits = omega arith }
 
 made : (p c i : ℕ) → 10 + p + (i * c + 7) / 8 ≡ mixerLength p c i
 unfolding mixerLength
 made p c i = refl
 
-ruleset laws = (product-fits, seven-fits, sum-fits, made, needs)
+ruleset laws = (product-fits, more-fits, sum-fits, made, needs)
 
 mul-controls : tie.Need-mul-controls
 mul-controls c = search laws

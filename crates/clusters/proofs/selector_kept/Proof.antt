@@ -1,24 +1,23 @@
 -- All pins have as many channels as pin 1.
 use borrow.Author.Needs.{needs}
+use Prim.Native.Nat.{ℕ}
 use mathlib.Core.Path.{_≡_, ap, _∙_}
 use mathlib.Core.Bool.{Bool}
-use mathlib.Core.List.{List}
-use Rattle.layout.specs.declared.Cluster.{Cluster}
-use Rattle.clusters.specs.Audio.{firstOf, alike, alikeIn}
+use mathlib.Core.List.{List, map}
+use Rattle.edition.specs.Audio.{alike, alikeIn}
+use Rattle.clusters.specs.Sweep.{channelsOn, firstBy}
 use Rattle.clusters.proofs.selector_kept.Statement.{statement}
 use Rattle.clusters.proofs.selector_kept.Tie as tie
 
-as-first : (cs : List Cluster) (k : Cluster) (b : Bool) → k ≡ firstOf cs → b ≡ alike (k .channels) cs → b ≡ alikeIn cs
-unfolding alikeIn
-as-first cs k b e f = f ∙ ap (λ (x : Cluster). alike (x .channels) cs) e
+as-first : (ids counts : List ℕ) (c : ℕ) (b : Bool) → c ≡ firstBy (channelsOn counts) ids .channels
+    → b ≡ alike c (map (channelsOn counts) ids) → b ≡ alikeIn (map (channelsOn counts) ids)
+unfolding alikeIn firstBy
+as-first ids counts c b e f = f ∙ ap (λ (k : ℕ). alike k (map (channelsOn counts) ids)) e
 
 ruleset laws = (as-first, needs)
 
-first-entering-requires : tie.Need-first-entering-requires
-first-entering-requires c κs = search laws
-
-cast-all-have : tie.Need-cast-all-have
-cast-all-have c = search laws
+first-count-requires : tie.Need-first-count-requires
+first-count-requires c κs = search laws
 
 all-have-requires : tie.Need-all-have-requires
 all-have-requires c κs = search laws
@@ -27,5 +26,4 @@ returns : tie.Need-returns
 returns c = search laws
 
 pub selector-kept-spec : {M : Type 1} → statement M
-selector-kept-spec =
-    tie.close (tie.spec first-entering-requires cast-all-have all-have-requires returns)
+selector-kept-spec = tie.close (tie.spec first-count-requires all-have-requires returns)

@@ -7,10 +7,10 @@ use mathlib.Core.List.{List, [], _∷_}
 use lib.Dec.{eqb}
 use borrow.Author.Tests.{eq-eqb, ne-eqb, not-true, not-false}
 use Rattle.ground.specs.Pick.{pick}
-use Rattle.table.specs.declared.Control.{Control}
 use Rattle.table.specs.declared.Table.{Table}
 use Rattle.controls.specs.Controls.{unitControl, bitSet, bitCarries, bitControls}
 use Rattle.controls.specs.Growth.{added, grown}
+use Rattle.controls.specs.Notes.{controlFrom}
 use Rattle.controls.proofs.add_bit.Statement.{statement}
 use Rattle.controls.proofs.add_bit.Tie as tie
 
@@ -28,7 +28,7 @@ module _ (t : Table) (m : List ℕ) (u k b : ℕ) where
     unfolding grown
     unset n = sym (ap (grown t) (carries false (sym e ∙ not-true a n) false (ne-eqb b 5 h)))
 
-    is-set : not a ≡ false → (x : Control) (r : Table) → x ≡ unitControl u k (b + 1) → r ≡ added t x → r ≡ grown t (bitControls m u k b)
+    is-set : not a ≡ false → (x : ℕ) (r : Table) → controlFrom x ≡ unitControl u k (b + 1) → r ≡ added t (controlFrom x) → r ≡ grown t (bitControls m u k b)
     unfolding grown
     is-set n x r f g = g ∙ ap (added t) f ∙ sym (ap (grown t) (carries true (sym e ∙ not-false a n) false (ne-eqb b 5 h)))
 
@@ -43,11 +43,11 @@ has-bit-requires c κs = search laws
 returns-2 : tie.Need-returns-2
 returns-2 c = search laws
 
-add-unit-control : tie.Need-add-unit-control
-add-unit-control c = search laws
+add-note-of : tie.Need-add-note-of
+add-note-of c = search laws
 
-unit-control-requires : tie.Need-unit-control-requires
-unit-control-requires c κs = search laws
+note-of-requires : tie.Need-note-of-requires
+note-of-requires c κs = search laws
 
 add-requires : tie.Need-add-requires
 add-requires c κs = search laws
@@ -62,7 +62,7 @@ add-bit-spec =
     returns
     has-bit-requires
     returns-2
-    add-unit-control
-    unit-control-requires
+    add-note-of
+    note-of-requires
     add-requires
     returns-3)

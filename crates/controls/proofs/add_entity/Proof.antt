@@ -1,56 +1,66 @@
 -- One law for each kind of entity.
 use borrow.Author.Needs.{needs}
-use Prim.Native.Nat.{ℕ}
+use Prim.Native.Nat.{ℕ, _≤_, _<_}
 use mathlib.Core.Path.{_≡_, sym, ap, _∙_}
 use mathlib.Core.List.{List}
-use Rattle.ground.specs.Lists.{part}
-use Rattle.scan.specs.Cutting.{endAt}
+use native.Mathlib.Omega.{arith}
+use lib.ListN.{length}
 use Rattle.layout.specs.declared.Cluster.{Cluster}
 use Rattle.layout.specs.declared.Entity.{Entity}
 use Rattle.layout.specs.declared.Entity.the-variants.{Unknown, Input, Output, Mixer, Selector, Printed, Feature}
-use Rattle.entities.specs.declared.Node.{Node}
-use Rattle.table.specs.declared.Control.{Control}
+use Rattle.layout.specs.Layout.{entityOf}
 use Rattle.table.specs.declared.Table.{Table}
-use Rattle.controls.specs.Controls.{selectorControl, featureControls, entityControls, nodeControls}
+use Rattle.controls.specs.Controls.{selectorControl, featureControls, entityControls}
 use Rattle.controls.specs.Growth.{added, grown}
+use Rattle.controls.specs.Notes.{controlFrom, Room, room-more}
+use Rattle.controls.specs.Counts.{entity-few}
 use Rattle.controls.proofs.add_entity.Statement.{statement}
 use Rattle.controls.proofs.add_entity.Tie as tie
 
-module _ (t : Table) (s : List ℕ) (n : Node) (c : ℕ) where
-  by-kind : (e : Entity) → n .entity ≡ e → grown t (nodeControls s n c) ≡ grown t (entityControls e (part s (n .place) (endAt s (n .place))) c)
-  unfolding nodeControls
-  by-kind e h = ap (λ (x : Entity). grown t (entityControls x (part s (n .place) (endAt s (n .place))) c)) h
+module _ (t : Table) (d : List ℕ) (c : ℕ) (e : Entity) (read : e ≡ entityOf d) where
+  by-kind : (k : Entity) → e ≡ k → grown t (entityControls (entityOf d) d c) ≡ grown t (entityControls k d c)
+  by-kind k h = ap (λ (x : Entity). grown t (entityControls x d c)) (sym read ∙ h)
 
-  at-unknown : n .entity ≡ Unknown → t ≡ grown t (nodeControls s n c)
+  at-unknown : e ≡ Unknown → t ≡ grown t (entityControls (entityOf d) d c)
   unfolding entityControls grown
   at-unknown h = sym (by-kind Unknown h)
 
-  at-input : (i k : ℕ) (own : Cluster) → n .entity ≡ Input i k own → t ≡ grown t (nodeControls s n c)
+  at-input : (i k : ℕ) (own : Cluster) → e ≡ Input i k own → t ≡ grown t (entityControls (entityOf d) d c)
   unfolding entityControls grown
   at-input i k own h = sym (by-kind (Input i k own) h)
 
-  at-output : (i k f : ℕ) → n .entity ≡ Output i k f → t ≡ grown t (nodeControls s n c)
+  at-output : (i k f : ℕ) → e ≡ Output i k f → t ≡ grown t (entityControls (entityOf d) d c)
   unfolding entityControls grown
   at-output i k f h = sym (by-kind (Output i k f) h)
 
-  at-mixer : (i p l : ℕ) (own : Cluster) → n .entity ≡ Mixer i p own l → t ≡ grown t (nodeControls s n c)
+  at-mixer : (i p : ℕ) (own : Cluster) → e ≡ Mixer i p own → t ≡ grown t (entityControls (entityOf d) d c)
   unfolding entityControls grown
-  at-mixer i p l own h = sym (by-kind (Mixer i p own l) h)
+  at-mixer i p own h = sym (by-kind (Mixer i p own) h)
 
   module _ (r : Table) where
-    at-selector : (i p : ℕ) → n .entity ≡ Selector i p → (x : Control) → x ≡ selectorControl i p → r ≡ added t x → r ≡ grown t (nodeControls s n c)
+    at-selector : (i p : ℕ) → e ≡ Selector i p → (x : ℕ) → controlFrom x ≡ selectorControl i p → r ≡ added t (controlFrom x) → r ≡ grown t (entityControls (entityOf d) d c)
     unfolding entityControls grown
     at-selector i p h x f g = g ∙ ap (added t) f ∙ sym (by-kind (Selector i p) h)
 
-    at-printed : (i p : ℕ) → n .entity ≡ Printed i p → (x : Control) → x ≡ selectorControl i p → r ≡ added t x → r ≡ grown t (nodeControls s n c)
+    at-printed : (i p : ℕ) → e ≡ Printed i p → (x : ℕ) → controlFrom x ≡ selectorControl i p → r ≡ added t (controlFrom x) → r ≡ grown t (entityControls (entityOf d) d c)
     unfolding entityControls grown
     at-printed i p h x f g = g ∙ ap (added t) f ∙ sym (by-kind (Printed i p) h)
 
-    at-feature : (i f z l : ℕ) → n .entity ≡ Feature i f z l → (e : ℕ) (d : List ℕ) → e ≡ endAt s (n .place) → d ≡ part s (n .place) e → r ≡ grown t (featureControls i z c d) → r ≡ grown t (nodeControls s n c)
+    at-feature : (i f n : ℕ) → e ≡ Feature i f n → r ≡ grown t (featureControls i n c d) → r ≡ grown t (entityControls (entityOf d) d c)
     unfolding entityControls
-    at-feature i f z l h e d o q g = g ∙ ap (λ (x : List ℕ). grown t (featureControls i z c x)) (q ∙ ap (part s (n .place)) o) ∙ sym (by-kind (Feature i f z l) h)
+    at-feature i f n h g = g ∙ sym (by-kind (Feature i f n) h)
 
-ruleset laws = (at-unknown, at-input, at-output, at-mixer, at-selector, at-printed, at-feature, needs)
+-- ten at most for each channel, and ten for master
+few : (d : List ℕ) (c : ℕ) → c < 256 → length (entityControls (entityOf d) d c) ≤ 2560
+few d c h = let k = entity-few (entityOf d) d c in omega arith
+
+room : (t : Table) → Room t 900000 → Room t 1000000
+room t r = room-more t 900000 1000000 r (omega arith)
+
+ruleset laws = (at-unknown, at-input, at-output, at-mixer, at-selector, at-printed, at-feature, few, room, needs)
+
+read-requires : tie.Need-read-requires
+read-requires c κs = search laws
 
 enum-told : tie.Need-enum-told
 enum-told c = search laws
@@ -67,8 +77,8 @@ enum-told-4 c = search laws
 enum-known-entity : tie.Need-enum-known-entity
 enum-known-entity c = search laws
 
-selector-control-requires : tie.Need-selector-control-requires
-selector-control-requires c κs = search laws
+note-of-requires : tie.Need-note-of-requires
+note-of-requires c κs = search laws
 
 add-requires : tie.Need-add-requires
 add-requires c κs = search laws
@@ -76,20 +86,14 @@ add-requires c κs = search laws
 enum-known-entity-2 : tie.Need-enum-known-entity-2
 enum-known-entity-2 c = search laws
 
-selector-control-requires-2 : tie.Need-selector-control-requires-2
-selector-control-requires-2 c κs = search laws
+note-of-requires-2 : tie.Need-note-of-requires-2
+note-of-requires-2 c κs = search laws
 
 add-requires-2 : tie.Need-add-requires-2
 add-requires-2 c κs = search laws
 
 enum-known-entity-3 : tie.Need-enum-known-entity-3
 enum-known-entity-3 c = search laws
-
-end-of-requires : tie.Need-end-of-requires
-end-of-requires c κs = search laws
-
-stretch-requires : tie.Need-stretch-requires
-stretch-requires c κs = search laws
 
 add-unit-requires : tie.Need-add-unit-requires
 add-unit-requires c κs = search laws
@@ -119,19 +123,18 @@ pub add-entity-spec : {M : Type 1} → statement M
 add-entity-spec =
     tie.close
     (tie.spec
+    read-requires
     enum-told
     enum-told-2
     enum-told-3
     enum-told-4
     enum-known-entity
-    selector-control-requires
+    note-of-requires
     add-requires
     enum-known-entity-2
-    selector-control-requires-2
+    note-of-requires-2
     add-requires-2
     enum-known-entity-3
-    end-of-requires
-    stretch-requires
     add-unit-requires
     returns
     returns-2

@@ -1,88 +1,63 @@
--- The controls of the channels before `channel` are in the table, at most ten for each.
+-- The controls of the channels before `channel` are noted, at most ten for each.
 use borrow.Author.Needs.{needs}
 use Prim.Native.Nat.{ℕ, suc, _+_, _*_, _-_, _≤_, _<_}
 use mathlib.Core.Path.{_≡_, sym, ap, _∙_}
 use mathlib.Core.List.{List}
 use native.Mathlib.Omega.{arith}
-use native.Mathlib.Nat.{mul-le-mul}
-use lib.ListN.{length}
-use mir.Val.{Fits}
-use mir.Syntax.{w64}
-use Rattle.ground.specs.Lists.{part}
 use Rattle.table.specs.declared.Table.{Table}
 use Rattle.controls.specs.Controls.{maskOf, maskControls, channelsFrom, featureControls}
-use Rattle.controls.specs.Growth.{grown, grown-append, grown-count}
+use Rattle.controls.specs.Growth.{grown, grown-append}
+use Rattle.controls.specs.Notes.{tableBy, Room, room-more, room-grown}
 use Rattle.controls.specs.Counts.{mask-few}
 use Rattle.controls.proofs.add_unit.Statement.{statement}
 use Rattle.controls.proofs.add_unit.Tie as tie
-
-module _ (k n c : ℕ) (h : k ≤ c) (l : c < 256) (m : n < 256) where
-  product-few : k * n ≤ 255 * 255
-  product-few = let a : k ≤ 255 = omega arith in let b : n ≤ 255 = omega arith in mul-le-mul {n₂ = 255} {m₂ = 255} a b
-
-  offset-fits : Fits w64 (k * n)
-  offset-fits = let p = product-few in record { fits = omega arith }
-
-  start-fits : Fits w64 (6 + k * n)
-  start-fits = let p = product-few in record { fits = omega arith }
-
-  end-fits : Fits w64 (6 + k * n + n)
-  end-fits = let p = product-few in record { fits = omega arith }
 
 module _ (d : List ℕ) (u n c : ℕ) (t : Table) where
   record Come (held : Table) (k : ℕ) : Type 0 where
     low : k ≤ c + 1
     same : grown t (featureControls u n c d) ≡ grown held (channelsFrom (c + 1 - k) k u n d)
-    few : held .count ≤ t .count + 10 * k
+    room : Room held (900000 + 10 * k)
 
-  start : Come t 0
+  start : Room t 900000 → Come t 0
   unfolding featureControls
-  start = let q : suc c ≡ c + 1 - 0 = omega arith in record { low = omega arith; same = ap (λ (j : ℕ). grown t (channelsFrom j 0 u n d)) q; few = omega arith }
+  start r = let q : suc c ≡ c + 1 - 0 = omega arith in record { low = omega arith; same = ap (λ (j : ℕ). grown t (channelsFrom j 0 u n d)) q; room = r }
 
   module _ (held : Table) (k : ℕ) (g : Come held k) where
-    room : t .count < 900000 → k ≤ c → c < 256 → held .count < 990000
-    room h l m = let f = g .few in omega arith
+    room-next : k ≤ c → c < 256 → Room held 990000
+    room-next l m = room-more held (900000 + 10 * k) 990000 (g .room) (omega arith)
 
-    on : (mask : List ℕ) (next : Table) → k ≤ c → mask ≡ part d (6 + k * n) (6 + k * n + n) → next ≡ grown held (maskControls mask u k) → Come next (k + 1)
+    on : (mask : List ℕ) (next : Table) → k ≤ c → mask ≡ maskOf d n k → next ≡ grown held (maskControls mask u k) → Come next (k + 1)
     unfolding channelsFrom
     on mask next h e f =
         let q : c + 1 - k ≡ suc (c + 1 - (k + 1)) = omega arith in
-        let w = g .few in
-        let ten = mask-few mask u k in
+        let z : 900000 + 10 * k + 10 ≡ 900000 + 10 * (k + 1) = omega arith in
         let r : next ≡ grown held (maskControls (maskOf d n k) u k) = f ∙ ap (λ (x : List ℕ). grown held (maskControls x u k)) e in
-        let z : next .count ≡ held .count + length (maskControls mask u k) = ap (λ (x : Table). x .count) f ∙ grown-count held (maskControls mask u k) in
         record {
           low = omega arith;
           same = g .same ∙ ap (λ (j : ℕ). grown held (channelsFrom j k u n d)) q ∙ grown-append held (maskControls (maskOf d n k) u k) (channelsFrom (c + 1 - (k + 1)) (k + 1) u n d) ∙ ap (λ (x : Table). grown x (channelsFrom (c + 1 - (k + 1)) (k + 1) u n d)) (sym r);
-          few = omega arith;
+          room = rw (f, ← z) (room-grown held (maskControls mask u k) (900000 + 10 * k) 10 (g .room) (mask-few mask u k));
         }
 
     over : c < k → held ≡ grown t (featureControls u n c d)
     unfolding channelsFrom grown
     over h = let z : c + 1 - k ≡ 0 = omega arith in sym (g .same ∙ ap (λ (j : ℕ). grown held (channelsFrom j k u n d)) z)
 
-ruleset laws = (offset-fits, start-fits, end-fits, start, room, on, over, needs)
+ruleset laws = (start, room-next, on, over, needs)
 
 abbrev Inv-loop : tie.InvT-loop
-Inv-loop d unit size channels held₀ channel₀ held channel = Come d unit size channels held₀ held channel
+Inv-loop notes₀ count d unit size channels made₀ channel₀ notes made channel = Come d unit size channels (tableBy notes₀ count) (tableBy notes made) channel
 
 abbrev μ-loop : tie.MeasureT-loop
-μ-loop d unit size channels held₀ channel₀ held channel = channels + 1 - channel
+μ-loop notes₀ count d unit size channels made₀ channel₀ notes made channel = channels + 1 - channel
 
 loop-holds : tie.Need-loop-holds Inv-loop μ-loop
 loop-holds c = search laws
 
-mul-at : tie.Need-mul-at Inv-loop μ-loop
-mul-at c = search laws
+cast-mask-of : tie.Need-cast-mask-of Inv-loop μ-loop
+cast-mask-of c = search laws
 
-add-at : tie.Need-add-at Inv-loop μ-loop
-add-at c = search laws
-
-add-stretch : tie.Need-add-stretch Inv-loop μ-loop
-add-stretch c = search laws
-
-stretch-requires : tie.Need-stretch-requires Inv-loop μ-loop
-stretch-requires c κs = search laws
+mask-of-requires : tie.Need-mask-of-requires Inv-loop μ-loop
+mask-of-requires c κs = search laws
 
 cast-add-mask : tie.Need-cast-add-mask Inv-loop μ-loop
 cast-add-mask c = search laws
@@ -109,10 +84,8 @@ add-unit-spec =
     Inv-loop
     μ-loop
     loop-holds
-    mul-at
-    add-at
-    add-stretch
-    stretch-requires
+    cast-mask-of
+    mask-of-requires
     cast-add-mask
     add-mask-requires
     add-channel

@@ -11,9 +11,10 @@ use Rattle.ground.specs.Pick.{yes, no}
 use Rattle.ground.specs.Numbers.{byte}
 use Rattle.ground.specs.Lists.{part}
 use Rattle.ground.specs.Refuse.{none}
-use Rattle.scan.specs.Cutting.{rest}
+use Rattle.edition.specs.Audio.{audio}
 use Rattle.entities.specs.declared.Run.{Run}
-use Rattle.entities.specs.Run.{runIn}
+use Rattle.entities.specs.declared.Walk.{Walk}
+use Rattle.entities.specs.Run.{runIn, walkOf}
 use Rattle.groups.specs.declared.Frame.{Frame}
 use Rattle.cutting.specs.declared.Survey.{Survey}
 use Rattle.ground.specs.Refuse.{chain-none}
@@ -26,25 +27,32 @@ module _ (c : List ℕ) (f : Frame) (s : List ℕ) (e : s ≡ part c 0 (f .end))
   front : s ≡ take (f .end) c
   front = let z : f .end - 0 ≡ f .end = omega arith in e ∙ ap (λ (i : ℕ). take i c) z
 
-  module _ (run : Run) (g : run ≡ runIn (f .run) (rest s (f .run))) where
-    run-told : run ≡ runIn (f .run) (runOf c f)
-    unfolding runOf
-    run-told = g ∙ ap (λ (x : List ℕ). runIn (f .run) (rest x (f .run))) front
+  module _ (walk : Walk) (g : walk ≡ walkOf s (f .run)) where
+    walk-told : walk ≡ walkOf (take (f .end) c) (f .run)
+    walk-told = g ∙ ap (λ (x : List ℕ). walkOf x (f .run)) front
 
-    count-told : run .count ≡ length (runOf c f)
+    run-told : walk .run ≡ runIn audio (f .run) (runOf c f)
+    unfolding runOf walkOf
+    run-told = ap (λ (w : Walk). w .run) walk-told
+
+    count-told : walk .run .count ≡ length (runOf c f)
     unfolding runIn
     count-told = ap (λ (r : Run). r .count) run-told
 
-    module _ (v : Refusal) (h : v ≡ runRefused s (f .run) (run .count) (f .header)) where
+    wrong-told : walk .wrong ≡ breach9 c f
+    unfolding breach9 walkOf
+    wrong-told = ap (λ (w : Walk). w .wrong) walk-told
+
+    module _ (v : Refusal) (h : v ≡ runRefused (walk .run .count) (walk .wrong) (f .header)) where
       judged-told : v ≡ runJudged c f none
-      unfolding runRefused runJudged breach8 breach9
-      judged-told = h ∙ rw (count-told, front) refl
+      unfolding runRefused runJudged breach8
+      judged-told = h ∙ rw (count-told, wrong-told) refl
 
       turned-away : (v .number ≡ 0 → ⊥) → (r : Survey) → r ≡ refusedSurvey v → r ≡ runSurvey c f
       unfolding runSurvey
       turned-away n r k = k ∙ ap refusedSurvey judged-told ∙ sym (no _ _ (ne-eqb _ _ (λ q. n (ap (λ (x : Refusal). x .number) judged-told ∙ q))))
 
-      taken : v .number ≡ 0 → (b : ℕ) → b ≡ byte c (f .control + 2) → record { refusal = v; control = b; header = f .header; run = run } ≡ runSurvey c f
+      taken : v .number ≡ 0 → (b : ℕ) → b ≡ byte c (f .control + 2) → record { refusal = v; control = b; header = f .header; run = walk .run } ≡ runSurvey c f
       unfolding runSurvey surveyed
       taken z b k =
           let n : v ≡ none = judged-told ∙ chain-none (runJudged c f) (run-chain c f) (sym (ap (λ (x : Refusal). x .number) judged-told) ∙ z) in

@@ -1,4 +1,4 @@
--- The blank node is written out.
+-- By its definition.
 use mathlib.Core.Path.{refl}
 use Rattle.entities.specs.Run.{blankNode}
 use Rattle.entities.proofs.blank.Statement.{statement}

@@ -1,42 +1,85 @@
--- The loop stands behind descriptors that are listed or open no such group; what is unlisted is what is unlisted from there on.
+-- The loop stands behind descriptors that open no such group, or one whose number is listed; the known numbers are those that stand before.
 use borrow.Author.Needs.{needs}
 use Prim.Native.Nat.{ℕ, _-_}
-use mathlib.Core.Path.{_≡_, refl, sym, ap, _∙_}
-use mathlib.Core.Bool.{Bool, true, false}
-use mathlib.Core.List.{List, _∷_}
-use lib.ListN.{length}
-use Rattle.ground.specs.Lists.{part, any}
+use mathlib.Core.Path.{_≡_, refl, sym, _∙_}
+use mathlib.Core.Bool.{Bool, true, false, not, _&&_, _||_}
+use mathlib.Core.List.{List}
+use lib.ListN.{length, getD, replicate}
+use borrow.Author.Tests.{eq-eqb, ne-eqb}
+use Rattle.ground.specs.Pick.{true≠false}
+use Rattle.ground.specs.Numbers.{byte}
+use Rattle.ground.specs.Lists.{part}
+use Rattle.ground.specs.First.{first-none-any, first-at-any}
 use Rattle.scan.specs.Cutting.{endAt, rest}
-use Rattle.scan.specs.Search.{ordered, inside, falls}
-use Rattle.groups.specs.Reading.{unlisted}
-use Rattle.scan.specs.CuttingLaws.{rest-none, rest-more}
+use Rattle.scan.specs.Search.{searched, Passed, start, stop, hit, miss, ordered, inside, falls}
+use Rattle.scan.specs.Want.{isMember, wants}
+use Rattle.scan.specs.declared.Want.the-variants as want
+use Rattle.groups.specs.Before.{standsBefore, or-false, or-true, before-none, before-more, before-all}
+use Rattle.groups.specs.Marks.{Holds, holds-none, holds-same, holds-more, isGrouped, unlistedBy, Met, other, member, Members}
 use Rattle.groups.proofs.any_unlisted.Statement.{statement}
 use Rattle.groups.proofs.any_unlisted.Tie as tie
 
-module _ (l s : List ℕ) (at e : ℕ) (same : any (unlisted l) (rest s 0) ≡ any (unlisted l) (rest s at)) (f : e ≡ endAt s at) where
-  none-left : e ≡ at → false ≡ any (unlisted l) (rest s 0)
-  unfolding any
-  none-left h = sym (same ∙ ap (any (unlisted l)) (rest-none s at (sym f ∙ h)))
+abbrev test : List Bool → List (List ℕ) → List ℕ → Bool
+test marks b d = unlistedBy marks d
 
-  module _ (h : e ≡ at → ⊥) (r : Bool) (t : r ≡ unlisted l (part s at e)) where
-    next : rest s at ≡ part s at e ∷ rest s e
-    next = rw f (rest-more s at (λ q. h (f ∙ q)))
+-- a group of number k stands before a place
+abbrev stands : List ℕ → ℕ → ℕ → Bool
+stands s at k = standsBefore s at (want.Member k)
 
-    one : r ≡ true → true ≡ any (unlisted l) (rest s 0)
-    unfolding any
-    one y = sym (same ∙ ap (any (unlisted l)) next ∙ rw (sym t ∙ y) refl)
+record Going (s : List ℕ) (marks known : List Bool) (at : ℕ) : Type 0 where
+  pub passed : Passed (test marks) s 0 at
+  pub holds : Holds (stands s at) known
 
-    on : r ≡ false → any (unlisted l) (rest s 0) ≡ any (unlisted l) (rest s e)
-    unfolding any
-    on y = same ∙ ap (any (unlisted l)) next ∙ rw (sym t ∙ y) refl
+begin : (s : List ℕ) (marks known : List Bool) → known ≡ replicate 256 false → Going s marks known 0
+begin s marks known e = rw e (record { passed = start (test marks) s 0; holds = holds-none (λ k. before-none (want.Member k) s) })
 
-ruleset laws = (none-left, one, on, ordered, inside, falls, needs)
+module _ (s : List ℕ) (marks known : List Bool) (at e : ℕ) (g : Going s marks known at) (f : e ≡ endAt s at) where
+  over : e ≡ at → Members (rest s 0) marks known false
+  unfolding searched wants
+  over h = record {
+    told = sym (first-none-any (unlistedBy marks) 0 (rest s 0) (sym (stop (test marks) s 0 at e (g .passed) f h)));
+    marked = λ n. holds-same (g .holds) (λ k. before-all (want.Member k) s (test marks) at e (g .passed) f h);
+  }
+
+  module _ (h : e ≡ at → ⊥) (known′ : List Bool) (r : Bool) (m : Met (part s at e) marks known known′ r) where
+    told : r ≡ unlistedBy marks (part s at e)
+    unfolding unlistedBy
+    told = go m
+      where
+        go : Met (part s at e) marks known known′ r → r ≡ (isGrouped (part s at e) && not (getD marks (byte (part s at e) 2) false))
+        go (other a b c) = rw a b
+        go (member a l b c) = rw a b
+
+    unlisted-here : r ≡ true → Members (rest s 0) marks known′ true
+    unfolding searched
+    unlisted-here y = record {
+      told = sym (first-at-any (unlistedBy marks) 0 (rest s 0) at (sym (hit (test marks) s 0 at e (g .passed) f h (sym told ∙ y))));
+      marked = λ n. absurd (true≠false n);
+    }
+
+    stands-more : (k : ℕ) → stands s e k ≡ (stands s at k || isMember k (part s at e))
+    unfolding wants
+    stands-more k = before-more (want.Member k) s (test marks) at e (g .passed) f h
+
+    next : Met (part s at e) marks known known′ r → Holds (stands s e) known′
+    unfolding isMember
+    next (other a b c) = rw c (holds-same (g .holds) (λ k. rw (stands-more k, a) (or-false (stands s at k))))
+    next (member a l b c) =
+        rw c
+        (holds-more (byte (part s at e) 2) (g .holds) l
+        (rw (stands-more (byte (part s at e) 2), a, eq-eqb (byte (part s at e) 2) (byte (part s at e) 2) refl) (or-true (stands s at (byte (part s at e) 2))))
+        (λ k q. rw (stands-more k, a, ne-eqb (byte (part s at e) 2) k (λ p. q (sym p))) (or-false (stands s at k))))
+
+    listed-here : r ≡ false → Going s marks known′ e
+    listed-here y = record { passed = miss (test marks) s 0 at e (g .passed) f h (sym told ∙ y); holds = next m }
+
+ruleset laws = (begin, over, unlisted-here, listed-here, ordered, inside, falls, needs)
 
 abbrev Inv-loop : tie.InvT-loop
-Inv-loop config listed at₀ at = any (unlisted listed) (rest config 0) ≡ any (unlisted listed) (rest config at)
+Inv-loop config listed known₀ at₀ known at = Going config listed known at
 
 abbrev μ-loop : tie.MeasureT-loop
-μ-loop config listed at₀ at = length config - at
+μ-loop config listed known₀ at₀ known at = length config - at
 
 loop-holds : tie.Need-loop-holds Inv-loop μ-loop
 loop-holds c = search laws

@@ -1,61 +1,53 @@
--- The loop stands behind numbers that are known; all are known exactly where all of the rest are.
+-- The loop stands behind numbers that are marked; all are marked exactly where all of the rest are.
 use borrow.Author.Needs.{needs}
+use borrow.Author.Tests.{not-true, not-false}
 use Prim.Native.Nat.{ℕ, _+_, _-_, _≤_, _<_}
 use mathlib.Core.Path.{_≡_, refl, sym, ap, _∙_}
-use mathlib.Core.Bool.{true, false}
+use mathlib.Core.Bool.{Bool, true, false, not}
 use mathlib.Core.List.{List}
 use native.Mathlib.Numerals.{add-one}
 use lib.ListN.{length, getD, drop, drop-of-length-le}
 use lib.Seq.{drop-cons}
-use Rattle.ground.specs.declared.Place.{Place}
-use Rattle.ground.specs.declared.Place.the-variants.{Nowhere, At}
-use Rattle.scan.specs.Cutting.{rest}
-use Rattle.scan.specs.Want.{wants, foundFrom}
-use Rattle.scan.specs.Found.{found-any, found-none}
-use Rattle.scan.specs.declared.Want.the-variants as want
-use Rattle.groups.specs.Reading.{allKnown}
+use Rattle.groups.specs.Marks.{allMarked}
 use Rattle.groups.proofs.are_known.Statement.{statement}
 use Rattle.groups.proofs.are_known.Tie as tie
 
-module _ (s l : List ℕ) (i : ℕ) (same : allKnown (rest s 0) l ≡ allKnown (rest s 0) (drop i l)) where
-  module _ (h : i < length l) (r : Place) (e : r ≡ foundFrom s 0 (want.Member (getD l i 0))) where
-    unknown : r ≡ Nowhere → false ≡ allKnown (rest s 0) l
-    unfolding allKnown wants
-    unknown y = sym (same ∙ ap (allKnown (rest s 0)) (drop-cons l i 0 h) ∙ rw (found-none (want.Member (getD l i 0)) s 0 (sym e ∙ y)) refl)
+module _ (l : List ℕ) (marks : List Bool) (i : ℕ) (same : allMarked marks l ≡ allMarked marks (drop i l)) where
+  module _ (h : i < length l) (x : ℕ) (w : (x ≡ getD l i 0) × (x < 256)) where
+    unmarked : not (getD marks x false) ≡ true → false ≡ allMarked marks l
+    unfolding allMarked
+    unmarked y = sym (same ∙ ap (allMarked marks) (drop-cons l i 0 h) ∙ rw (← (w .0), not-true (getD marks x false) y) refl)
 
-    known : (q : ℕ) → r ≡ At q → allKnown (rest s 0) l ≡ allKnown (rest s 0) (drop (i + 1) l)
-    unfolding allKnown wants
-    known q y = same ∙ ap (allKnown (rest s 0)) (drop-cons l i 0 h) ∙ rw (found-any (want.Member (getD l i 0)) s 0 q (sym e ∙ y), add-one) refl
+    marked : not (getD marks x false) ≡ false → allMarked marks l ≡ allMarked marks (drop (i + 1) l)
+    unfolding allMarked
+    marked y = same ∙ ap (allMarked marks) (drop-cons l i 0 h) ∙ rw (← (w .0), not-false (getD marks x false) y, add-one) refl
 
-  all-known : length l ≤ i → true ≡ allKnown (rest s 0) l
-  unfolding allKnown
-  all-known h = sym (same ∙ ap (allKnown (rest s 0)) (drop-of-length-le l h))
+  all : length l ≤ i → true ≡ allMarked marks l
+  unfolding allMarked
+  all h = sym (same ∙ ap (allMarked marks) (drop-of-length-le l h))
 
-ruleset laws = (unknown, known, all-known, needs)
+ruleset laws = (unmarked, marked, all, needs)
 
 abbrev Inv-loop : tie.InvT-loop
-Inv-loop config listed i₀ i = allKnown (rest config 0) listed ≡ allKnown (rest config 0) (drop i listed)
+Inv-loop listed known i₀ i = allMarked known listed ≡ allMarked known (drop i listed)
 
 abbrev μ-loop : tie.MeasureT-loop
-μ-loop config listed i₀ i = length listed - i
+μ-loop listed known i₀ i = length listed - i
 
 loop-holds : tie.Need-loop-holds Inv-loop μ-loop
 loop-holds c = search laws
 
-shared-slice-read-t8 : tie.Need-shared-slice-read-t8 Inv-loop μ-loop
-shared-slice-read-t8 c = search laws
+shared-slice-read-wide : tie.Need-shared-slice-read-wide Inv-loop μ-loop
+shared-slice-read-wide c = search laws
 
-find-requires : tie.Need-find-requires Inv-loop μ-loop
-find-requires c κs = search laws
+wide-requires : tie.Need-wide-requires Inv-loop μ-loop
+wide-requires c κs = search laws
 
-enum-told : tie.Need-enum-told Inv-loop μ-loop
-enum-told c = search laws
+element-copy-out-if1 : tie.Need-element-copy-out-if1 Inv-loop μ-loop
+element-copy-out-if1 c = search laws
 
 returns : tie.Need-returns Inv-loop μ-loop
 returns c = search laws
-
-enum-told-2 : tie.Need-enum-told-2 Inv-loop μ-loop
-enum-told-2 c = search laws
 
 add-i : tie.Need-add-i Inv-loop μ-loop
 add-i c = search laws
@@ -76,11 +68,10 @@ are-known-spec =
     Inv-loop
     μ-loop
     loop-holds
-    shared-slice-read-t8
-    find-requires
-    enum-told
+    shared-slice-read-wide
+    wide-requires
+    element-copy-out-if1
     returns
-    enum-told-2
     add-i
     loop-less
     loop-again

@@ -22,8 +22,8 @@ module _ (d : List ℕ) (n : ℕ) (e : n ≡ byte d 5) where
   too-short : length d < 7 → Unknown ≡ featureOf d
   too-short h = sym (feature-wrong d (λ q l. omega arith))
 
-  right : (i s l : ℕ) → 1 ≤ n → n ≤ 4 → 7 ≤ length d → i ≡ byte d 3 → s ≡ byte d 4 → l ≡ byte d 0 → Feature i s n l ≡ featureOf d
-  right i s l a b h f g k = rw (f, g, k, e) (sym (feature-right d (omega arith, omega arith) h))
+  right : (i s : ℕ) → 1 ≤ n → n ≤ 4 → 7 ≤ length d → i ≡ byte d 3 → s ≡ byte d 4 → Feature i s n ≡ featureOf d
+  right i s a b h f g = rw (f, g, e) (sym (feature-right d (omega arith, omega arith) h))
 
 ruleset laws = (no-size, too-large, too-short, right, needs)
 
@@ -45,9 +45,6 @@ byte-at-requires-2 c κs = search laws
 byte-at-requires-3 : tie.Need-byte-at-requires-3
 byte-at-requires-3 c κs = search laws
 
-byte-at-requires-4 : tie.Need-byte-at-requires-4
-byte-at-requires-4 c κs = search laws
-
 returns-4 : tie.Need-returns-4
 returns-4 c = search laws
 
@@ -61,5 +58,4 @@ read-feature-spec =
     returns-3
     byte-at-requires-2
     byte-at-requires-3
-    byte-at-requires-4
     returns-4)

@@ -27,8 +27,8 @@ module _ (d : List ℕ) (p : ℕ) (e : p ≡ byte d 4) (b : Bool) (t : b ≡ wit
     too-short : length d < 10 + p → Unknown ≡ mixerOf d
     too-short l = sym (mixer-wrong d (λ q m. omega arith))
 
-    right : (i n : ℕ) (k : Cluster) → 10 + p ≤ length d → i ≡ byte d 3 → k ≡ clusterAt d (5 + p) → n ≡ byte d 0 → Mixer i p k n ≡ mixerOf d
-    right i n k l f g m = rw (f, g, m, e) (sym (mixer-right d (rw e at pins-right) (rw e at l)))
+    right : (i : ℕ) (k : Cluster) → 10 + p ≤ length d → i ≡ byte d 3 → k ≡ clusterAt d (5 + p) → Mixer i p k ≡ mixerOf d
+    right i k l f g = rw (f, g, e) (sym (mixer-right d (rw e at pins-right) (rw e at l)))
 
 ruleset laws = (pins-wrong, pins-right, too-short, right, needs)
 
@@ -62,9 +62,6 @@ cluster-at-requires c κs = search laws
 byte-at-requires-2 : tie.Need-byte-at-requires-2
 byte-at-requires-2 c κs = search laws
 
-byte-at-requires-3 : tie.Need-byte-at-requires-3
-byte-at-requires-3 c κs = search laws
-
 returns-3 : tie.Need-returns-3
 returns-3 c = search laws
 
@@ -82,5 +79,4 @@ read-mixer-spec =
     add-cluster-at
     cluster-at-requires
     byte-at-requires-2
-    byte-at-requires-3
     returns-3)

@@ -1,66 +1,100 @@
--- A search for the first place that is not settled: each place before the one come to is.
+-- The entities are looked at one by one, up to the first whose ID no entity of the order bears.
 use borrow.Author.Needs.{needs}
-use Prim.Native.Nat.{ℕ, _+_, _-_, _≤_, _<_}
-use mathlib.Core.Path.{_≡_, ap, _∙_}
+use borrow.Author.Tests.{not-false}
+use Prim.Native.Nat.{ℕ, _+_, _-_, _<_, _≤_}
+use mathlib.Core.Path.{_≡_, sym, ap, _∙_}
 use mathlib.Core.List.{List}
-use lib.ListN.{getD}
+use mathlib.Core.Logic.{⊎-elim}
 use mathlib.Core.Bool.{Bool, true, false, not}
 use native.Mathlib.Omega.{arith}
+use native.Mathlib.Nat.{min-le-right, eq-or-lt-of-le}
+use lib.ListN.{getD}
+use Rattle.ground.specs.declared.Place.{Place}
 use Rattle.ground.specs.declared.Place.the-variants.{Nowhere, At}
-use Rattle.entities.specs.declared.Node.{Node}
+use Rattle.ground.specs.Places.{firstIn, first-none, first-some}
+use Rattle.graph.specs.Members.{mem}
+use Rattle.graph.specs.Tables.{getD-tabulate}
 use Rattle.entities.specs.declared.Run.{Run}
-use Rattle.entities.specs.Run.{held, nodeAt, placeAt}
-use Rattle.ground.specs.Places.{Come, come-none, come-here, come-more, come-over}
-use Rattle.ranks.specs.Rules.{settledIn, breach12}
+use Rattle.entities.specs.Run.{held, idAt, placeAt, mostEntities, blankNode}
+use Rattle.ranks.specs.Breach.{idsOf, borneIn, breach12}
+use Rattle.ranks.specs.Spare.{zeros}
 use Rattle.ranks.proofs.check_ranks.Statement.{statement}
 use Rattle.ranks.proofs.check_ranks.Tie as tie
 
--- No entity before place i breaks the rule.
-module _ (run : Run) where
-  abbrev Passed : ℕ → Type 0
-  Passed i = Come (λ j. not (getD (settledIn run) j false)) (λ j. At (placeAt run j)) Nowhere (held run) i
+module _ (run : Run) (n : ℕ) (marks : List Bool) where
+  -- the IDs of the entities before index i are marked
+  record Gone (i : ℕ) : Type 0 where
+    whole : n ≡ held run
+    few : n ≤ 32
+    seen : (j : ℕ) → j < i → (idAt run j < 256) × (getD marks (idAt run j) false ≡ true)
 
-  start : Passed 0
-  start = come-none _ (λ j. At (placeAt run j)) Nowhere (held run)
+  start : n ≡ held run → Gone 0
+  start e = let h = min-le-right (run .count) mostEntities in record { whole = e; few = omega arith; seen = λ j l. absurd (omega arith) }
 
-  module _ (n : ℕ) (m : n ≡ held run) (i : ℕ) (g : Passed i) where
-    over : n ≤ i → Nowhere ≡ breach12 run
-    unfolding breach12
-    over h = come-over _ (λ j. At (placeAt run j)) Nowhere (held run) i g (omega arith)
+  module _ (order : Run) (told : marks ≡ borneIn order) where
+    abbrev out : ℕ → Bool
+    out i = not (mem (idAt run i) (idsOf order))
 
-    module _ (h : i < n) (now : List Bool) (k : now ≡ settledIn run) (b : Bool) (f : b ≡ getD now i false) where
-      e : not b ≡ not (getD (settledIn run) i false)
-      e = ap not (f ∙ ap (λ (l : List Bool). getD l i false) k)
+    abbrev at : ℕ → Place
+    at i = At (placeAt run i)
 
-      here : not b ≡ true → (d : Node) → d ≡ nodeAt run i → At (d .place) ≡ breach12 run
+    tested : (j : ℕ) → idAt run j < 256 → out j ≡ not (getD marks (idAt run j) false)
+    unfolding borneIn
+    tested j l =
+        ap not (sym (getD-tabulate 256 (λ x. mem x (idsOf order)) (idAt run j) false l))
+        ∙ ap (λ (m : List Bool). not (getD m (idAt run j) false)) (sym told)
+
+    module _ (i : ℕ) (g : Gone i) where
+      passed : (j : ℕ) → j < i → out j ≡ false
+      passed j l = tested j (g .seen j l .0) ∙ ap not (g .seen j l .1)
+
+      over : n ≤ i → Nowhere ≡ breach12 run order
       unfolding breach12
-      here y d q = ap (λ (x : Node). At (x .place)) q ∙ come-here _ (λ j. At (placeAt run j)) Nowhere (held run) i g (omega arith) (not b) e y
+      over h = sym (ap (firstIn out at Nowhere 0) (sym (g .whole)) ∙ first-none out at Nowhere n (λ j l. passed j (omega arith)))
 
-      on : not b ≡ false → Passed (i + 1)
-      on y = come-more _ (λ j. At (placeAt run j)) Nowhere (held run) i g (omega arith) (not b) e y
+      here : i < n → (x : ℕ) → (x ≡ getD (run .nodes) i zeros .id) × (x < 256) → not (getD marks x false) ≡ true
+          → At (getD (run .nodes) i zeros .place) ≡ breach12 run order
+      unfolding breach12 blankNode
+      here l x v e =
+          let s : idAt run i < 256 = (let a = v .0 in let b = v .1 in omega arith) in
+          let p : out i ≡ true = tested i s ∙ ap (λ (y : ℕ). not (getD marks y false)) (sym (v .0)) ∙ e in
+          sym (ap (firstIn out at Nowhere 0) (sym (g .whole)) ∙ first-some out at Nowhere n i (record { inside = l; passes = p; none-before = passed }))
+
+  on : (i : ℕ) → Gone i → i < n → (x : ℕ) → (x ≡ getD (run .nodes) i zeros .id) × (x < 256) → not (getD marks x false) ≡ false → Gone (i + 1)
+  unfolding blankNode
+  on i g l x v e = record { whole = g .whole; few = g .few; seen = λ j m. ⊎-elim (λ q. rw q last) (λ k. g .seen j k) (eq-or-lt-of-le (let k : j ≤ i = omega arith in k)) }
+    where
+      last : (idAt run i < 256) × (getD marks (idAt run i) false ≡ true)
+      last = (rw (← (v .0)) (v .1), rw (← (v .0)) (not-false (getD marks x false) e))
 
 ruleset laws = (start, over, here, on, needs)
 
 abbrev Inv-loop : tie.InvT-loop
-Inv-loop run n now i₀ i = Passed run i
+Inv-loop run n marks i₀ i = Gone run n marks i
 
 abbrev μ-loop : tie.MeasureT-loop
-μ-loop run n now i₀ i = n - i
+μ-loop run n marks i₀ i = n - i
 
 count-requires : tie.Need-count-requires Inv-loop μ-loop
 count-requires c κs = search laws
 
-settled-requires : tie.Need-settled-requires Inv-loop μ-loop
-settled-requires c κs = search laws
+borne-requires : tie.Need-borne-requires Inv-loop μ-loop
+borne-requires c κs = search laws
 
 loop-holds : tie.Need-loop-holds Inv-loop μ-loop
 loop-holds c = search laws
 
-is-settled-requires : tie.Need-is-settled-requires Inv-loop μ-loop
-is-settled-requires c κs = search laws
+mul-node : tie.Need-mul-node Inv-loop μ-loop
+mul-node c = search laws
 
-node-requires : tie.Need-node-requires Inv-loop μ-loop
-node-requires c κs = search laws
+element-copy-out-node : tie.Need-element-copy-out-node Inv-loop μ-loop
+element-copy-out-node c = search laws
+
+wide-requires : tie.Need-wide-requires Inv-loop μ-loop
+wide-requires c κs = search laws
+
+array-read-if1 : tie.Need-array-read-if1 Inv-loop μ-loop
+array-read-if1 c = search laws
 
 returns : tie.Need-returns Inv-loop μ-loop
 returns c = search laws
@@ -84,10 +118,12 @@ check-ranks-spec =
     Inv-loop
     μ-loop
     count-requires
-    settled-requires
+    borne-requires
     loop-holds
-    is-settled-requires
-    node-requires
+    mul-node
+    element-copy-out-node
+    wide-requires
+    array-read-if1
     returns
     add-i
     loop-less

@@ -5,11 +5,11 @@ use mathlib.Core.Path.{_≡_, refl}
 use lib.Dec.{leb}
 use Rattle.entities.specs.declared.Run.{Run}
 use Rattle.entities.specs.Run.{held}
-use Rattle.records.specs.Records.{roomFor}
+use Rattle.records.specs.Records.{recordSize, roomFor}
 use Rattle.records.proofs.has_room.Statement.{statement}
 use Rattle.records.proofs.has_room.Tie as tie
 
-same : (run : Run) (n room : ℕ) → n ≡ held run → leb (n * 16) room ≡ roomFor run room
+same : (run : Run) (n room : ℕ) → n ≡ held run → leb (n * recordSize) room ≡ roomFor run room
 unfolding roomFor
 same run n room e = rw e refl
 

@@ -1,60 +1,83 @@
--- Two stretches of eight bytes, one behind the other, are the record's sixteen.
+-- Two stretches of bytes, one behind the other, are the record's. No more source IDs stand there than the entity's pins, which are a byte.
 use borrow.Author.Needs.{needs}
-use Prim.Native.Nat.{ℕ, _+_, _≤_}
-use mathlib.Core.Path.{_≡_, sym, ap, _∙_}
+use Prim.Native.Nat.{ℕ, _+_, _≤_, _<_}
+use mathlib.Core.Path.{_≡_, refl, sym, ap, _∙_}
 use mathlib.Core.List.{List, _++_, append-assoc}
 use native.Mathlib.Omega.{arith}
-use lib.ListN.{length, take, drop, length-append}
-use lib.Seq.{length-paste-head, take-paste, drop-paste, paste, take-all, drop-drop}
+use lib.ListN.{length, take, drop, length-append, length-take}
+use lib.Seq.{take-paste, drop-paste, paste, take-all, drop-drop}
+use mir.Val.{Fits}
+use mir.Syntax.{w8}
+use Rattle.ground.specs.Lists.{part, pad, pad-length}
+use Rattle.scan.specs.Cutting.{endAt}
 use Rattle.layout.specs.declared.Cluster.{Cluster}
+use Rattle.layout.specs.Layout.{mostPins, entityOf, kindOf}
 use Rattle.entities.specs.declared.Node.{Node}
-use Rattle.records.specs.Records.{headOf, recordOf}
+use Rattle.entities.specs.Run.{sourcesOf}
+use Rattle.records.specs.Records.{headSize, recordSize, frontOf, headOf, recordOf}
 use Rattle.records.proofs.put_record.Statement.{statement}
 use Rattle.records.proofs.put_record.Tie as tie
 
-both : (d : List ℕ) (at : ℕ) (b c : List ℕ) → at + 16 ≤ length d → length b ≡ 8 → length c ≡ 8 → paste (paste d at b 8) (at + 8) c 8 ≡ paste d at (b ++ c) 16
-both d at b c room l m =
-    let front : length (take at d ++ take 8 b) ≡ at + 8 = length-paste-head d at b 8 (omega arith) (omega arith) in
-    let e : at + 8 + 8 ≡ at + 16 = omega arith in
-    let n : length (b ++ c) ≤ 16 = rw length-append (omega arith) in
-    ap (λ (x : List ℕ). x ++ take 8 c ++ drop (at + 8 + 8) (paste d at b 8)) (take-paste d at b 8 (omega arith) (omega arith))
-    ∙ ap (λ (x : List ℕ). take at d ++ take 8 b ++ take 8 c ++ x) (sym (drop-drop 8 (at + 8) (paste d at b 8)) ∙ ap (drop 8) (drop-paste d at b 8 (omega arith) (omega arith)) ∙ drop-drop 8 (at + 8) d ∙ ap (λ (i : ℕ). drop i d) e)
-    ∙ ap (λ (x : List ℕ). x ++ drop (at + 16) d) (append-assoc (take at d) (take 8 b) (take 8 c) ∙ ap (λ (x : List ℕ). take at d ++ x) (ap (λ (x : List ℕ). x ++ take 8 c) (take-all 8 b (omega arith)) ∙ ap (λ (x : List ℕ). b ++ x) (take-all 8 c (omega arith)) ∙ sym (take-all 16 (b ++ c) n)))
+both : (d b c : List ℕ) (at p q : ℕ) → at + (p + q) ≤ length d → length b ≡ p → length c ≡ q → paste (paste d at b p) (at + p) c q ≡ paste d at (b ++ c) (p + q)
+both d b c at p q room l m =
+    let e : at + p + q ≡ at + (p + q) = omega arith in
+    let n : length (b ++ c) ≤ p + q = rw length-append (omega arith) in
+    ap (λ (x : List ℕ). x ++ take q c ++ drop (at + p + q) (paste d at b p)) (take-paste d at b p (omega arith) (omega arith))
+    ∙ ap (λ (x : List ℕ). take at d ++ take p b ++ take q c ++ x) (sym (drop-drop q (at + p) (paste d at b p)) ∙ ap (drop q) (drop-paste d at b p (omega arith) (omega arith)) ∙ drop-drop q (at + p) d ∙ ap (λ (i : ℕ). drop i d) e)
+    ∙ ap (λ (x : List ℕ). x ++ drop (at + (p + q)) d) (append-assoc (take at d) (take p b) (take q c) ∙ ap (λ (x : List ℕ). take at d ++ x) (ap (λ (x : List ℕ). x ++ take q c) (take-all p b (omega arith)) ∙ ap (λ (x : List ℕ). b ++ x) (take-all q c (omega arith)) ∙ sym (take-all (p + q) (b ++ c) n)))
 
-record-told : (d x y : List ℕ) (at : ℕ) (n : Node) (c : Cluster) (h : List ℕ) → at + 16 ≤ length d → length (n .sources .ids) ≡ 8 → h ≡ headOf n c → x ≡ paste d at h 8 → y ≡ paste x (at + 8) (n .sources .ids) 8 → (y ≡ paste d at (recordOf n c) 16) × (length (recordOf n c) ≡ 16)
-unfolding recordOf headOf
-record-told d x y at n c h room l e f g =
-    let eight : length h ≡ 8 = ap length e in
-    (g ∙ ap (λ (z : List ℕ). paste z (at + 8) (n .sources .ids) 8) f ∙ both d at h (n .sources .ids) room eight l ∙ ap (λ (z : List ℕ). paste d at (z ++ n .sources .ids) 16) e, rw length-append (omega arith))
+module _ (s : List ℕ) (n : Node) (l : List ℕ) (e : l ≡ sourcesOf s n) where
+  pins-fit : n .pins < 256 → Fits w8 (length l)
+  pins-fit h = let a : length l ≡ length (sourcesOf s n) = ap length e in let b = length-take (n .pins) (drop (n .first) s) in record { fits = omega arith }
 
-eight : (c : tie.Start) → length (c .args .node .sources .ids) ≡ 8
-eight c = search needs
+  record-told : (d x y : List ℕ) (at k : ℕ) (c : Cluster) → at + recordSize ≤ length d → k ≡ kindOf (entityOf (part s (n .place) (endAt s (n .place))))
+      → x ≡ paste d at (frontOf (n .id) k (length l) c) headSize → y ≡ paste x (at + headSize) (pad 0 mostPins l) mostPins → y ≡ paste d at (recordOf s n c) recordSize
+  unfolding recordOf headOf
+  record-told d x y at k c room f g h =
+      h
+      ∙ ap (λ (z : List ℕ). paste z (at + headSize) (pad 0 mostPins l) mostPins) g
+      ∙ both d (frontOf (n .id) k (length l) c) (pad 0 mostPins l) at headSize mostPins room refl (pad-length 0 mostPins l)
+      ∙ rw (e, f) refl
 
-ruleset laws = (record-told, needs)
+ruleset laws = (pins-fit, record-told, needs)
 
-head-of-requires : tie.Need-head-of-requires
-head-of-requires c κs = search laws
+kind-at-requires : tie.Need-kind-at-requires
+kind-at-requires c κs = search laws
 
-copy-in-requires : tie.Need-copy-in-requires
-copy-in-requires c κs = search laws
+sources-requires : tie.Need-sources-requires
+sources-requires c κs = search laws
 
-add-copy-in : tie.Need-add-copy-in
-add-copy-in c = search laws
+cast-put-head : tie.Need-cast-put-head
+cast-put-head c = search laws
 
-copy-in-requires-2 : tie.Need-copy-in-requires-2
-copy-in-requires-2 c κs = search laws
+put-head-requires : tie.Need-put-head-requires
+put-head-requires c κs = search laws
+
+add-put-bytes : tie.Need-add-put-bytes
+add-put-bytes c = search laws
+
+cast-put-bytes : tie.Need-cast-put-bytes
+cast-put-bytes c = search laws
+
+put-bytes-requires : tie.Need-put-bytes-requires
+put-bytes-requires c κs = search laws
 
 same-length : tie.Need-same-length
 same-length c = search laws
 
 returns : tie.Need-returns
-returns c =
-    let b = c .before .before in
-    let a = b .before .before .before .before in
-    let s = a .before .before .before .before .before .before in
-    record-told _ _ _ (s .args .at) (s .args .node) (s .args .cluster) _ (s .pre) (eight s) (a .before .head-of .ensures) (a .copy-in .ensures) (b .copy-in2 .ensures)
+returns c = search laws
 
 pub put-record-spec : {M : Type 1} → statement M
 put-record-spec =
     tie.close
-    (tie.spec head-of-requires copy-in-requires add-copy-in copy-in-requires-2 same-length returns)
+    (tie.spec
+    kind-at-requires
+    sources-requires
+    cast-put-head
+    put-head-requires
+    add-put-bytes
+    cast-put-bytes
+    put-bytes-requires
+    same-length
+    returns)

@@ -1,109 +1,146 @@
--- 30, then what the setup asks; a Set writes nothing, so it leaves the reply, and a Get hands on what it wrote.
+-- One law for each answer of the search: 30, a refusal of what is not there, or what is done at the control's place.
 use borrow.Author.Needs.{needs}
 use Prim.Native.Nat.{ℕ}
 use mathlib.Core.Path.{_≡_, refl, sym, ap, _∙_}
-use mathlib.Core.List.{List, []}
-use mathlib.Core.Bool.{Bool, true, false, not, _||_}
-use borrow.Author.Tests.{not-true, not-false}
-use Rattle.ground.specs.Pick.{pick, yes, no}
-use Rattle.table.specs.declared.Table.{Table}
-use Rattle.table.specs.Sound.{soundOf}
-use Rattle.request.specs.declared.Answer.{Answer}
-use Rattle.request.specs.declared.Target.{Target}
-use Rattle.request.specs.declared.Part.{Part}
-use Rattle.request.specs.declared.Asked.{Asked}
-use Rattle.request.specs.declared.Asked.the-variants as asks
-use Rattle.request.specs.Outcome.{Outcome, answerOf, bytesOf, laid, Answered}
-use Rattle.request.specs.Outcome.Outcome.{refused}
-use lib.Dec.{eqb}
+use mathlib.Core.List.{List}
+use mathlib.Core.Bool.{true, false}
+use native.Mathlib.Omega.{arith}
 use lib.ListN.{length}
-use Rattle.table.specs.declared.Sense.{Sense}
-use Rattle.table.specs.Controls.{at, senseOf, sizeOf}
-use Rattle.request.specs.declared.Settled.{Settled}
-use Rattle.request.specs.declared.Settled.the-variants.{NoSetting, To}
-use Rattle.request.specs.declared.Addressed.{Addressed}
-use Rattle.request.specs.declared.Addressed.the-variants.{Refused, At}
-use Rattle.request.specs.Request.{addressedIn, unready, valueIn, settledOf, setTo, setBy, setFrom, askedOf, setOf, getOf, answerAsked, requestOf}
+use Rattle.ground.specs.Pick.{yes, no}
+use Rattle.table.specs.declared.Control.{Control}
+use Rattle.table.specs.declared.Table.{Table}
+use Rattle.table.specs.declared.Lookup.{Lookup}
+use Rattle.table.specs.declared.Lookup.the-variants as lookup
+use Rattle.table.specs.declared.Sought.{Sought}
+use Rattle.table.specs.declared.Sought.the-variants as sought
+use Rattle.table.specs.Controls.{at}
+use Rattle.table.specs.First.{lookedUp}
+use Rattle.table.specs.Sound.{soundOf}
+use Rattle.table.specs.Sought.{soughtIn, Standing, against, no-unit, no-control, stands, standing}
+use Rattle.request.specs.declared.Answer.{Answer}
+use Rattle.request.specs.declared.Deed.{Deed}
+use Rattle.request.specs.declared.Target.{Target}
+use Rattle.request.specs.declared.Asked.{Asked}
+use Rattle.request.specs.Outcome.{Outcome, Answered}
+use Rattle.request.specs.Outcome.Outcome.{refused}
+use Rattle.request.specs.Request.{placeOf, askedOf, answerAsked, requestOf}
+use Rattle.request.specs.Deed.{deedAnswer, askedFor, lostBy, ActOn}
 use Rattle.request.proofs.Outcomes.{refusal, refuses-all, hands-all-on}
+use Rattle.request.proofs.Barred.{lost-asked}
 use Rattle.request.proofs.request.Statement.{statement}
 use Rattle.request.proofs.request.Tie as tie
 
--- a Set writes nothing
-silent : (x : Bool) (o q : Outcome) → bytesOf o ≡ [] → bytesOf q ≡ [] → bytesOf (pick x o q) ≡ []
-silent true o q e f = e
-silent false o q e f = f
+-- what each answer of the search says
+record Stands (t : Table) (u ch s p : ℕ) (c : Control) : Type 0 where
+  sound : soundOf t ≡ true
+  found : lookedUp t u ch s ≡ lookup.At p
+  control : c ≡ at t p
 
-set-to-silent : (t : Table) (p : ℕ) (s : Settled) → bytesOf (setTo t p s) ≡ []
-unfolding setTo
-set-to-silent t p NoSetting = refl
-set-to-silent t p (To x) = refl
+module _ (t : Table) (u ch s : ℕ) where
+  is-unsound : {r : Sought} → Standing t u ch s r → r ≡ sought.Unsound → soundOf t ≡ false
+  is-unsound (against h) e = h
+  is-unsound (no-unit h f) e = absurd (let z : _≡_ {A = ℕ} 0 1 = cc in omega arith)
+  is-unsound (no-control h f) e = absurd (let z : _≡_ {A = ℕ} 0 1 = cc in omega arith)
+  is-unsound (stands h f) e = absurd (let z : _≡_ {A = ℕ} 0 1 = cc in omega arith)
 
-set-by-silent : (t : Table) (p : ℕ) (k : Sense) (n : ℕ) (d : List ℕ) → bytesOf (setBy t p k n d) ≡ []
-unfolding setBy
-set-by-silent t p k n d =
-    silent (unready k (at t p)) (refused 36) _ refl
-    (silent (not (eqb n (sizeOf k)) || not (eqb (length d) (sizeOf k))) (refused 37) _ refl
-    (set-to-silent t p (settledOf k (at t p) (valueIn d))))
+  is-no-unit : {r : Sought} → Standing t u ch s r → r ≡ sought.NoUnit → (soundOf t ≡ true) × (lookedUp t u ch s ≡ lookup.NoUnit)
+  is-no-unit (against h) e = absurd (let z : _≡_ {A = ℕ} 0 1 = cc in omega arith)
+  is-no-unit (no-unit h f) e = (h, f)
+  is-no-unit (no-control h f) e = absurd (let z : _≡_ {A = ℕ} 0 1 = cc in omega arith)
+  is-no-unit (stands h f) e = absurd (let z : _≡_ {A = ℕ} 0 1 = cc in omega arith)
 
-set-silent : (t : Table) (a : Addressed) (n : ℕ) (d : List ℕ) → bytesOf (setFrom t a n d) ≡ []
-unfolding setFrom
-set-silent t (Refused m) n d = refl
-set-silent t (At p) n d = set-by-silent t p (senseOf (at t p .selector)) n d
+  is-no-control : {r : Sought} → Standing t u ch s r → r ≡ sought.NoControl → (soundOf t ≡ true) × (lookedUp t u ch s ≡ lookup.NoControl)
+  is-no-control (against h) e = absurd (let z : _≡_ {A = ℕ} 0 1 = cc in omega arith)
+  is-no-control (no-unit h f) e = absurd (let z : _≡_ {A = ℕ} 0 1 = cc in omega arith)
+  is-no-control (no-control h f) e = (h, f)
+  is-no-control (stands h f) e = absurd (let z : _≡_ {A = ℕ} 0 1 = cc in omega arith)
 
--- one law for each way out
-module _ (t : Table) (n : ℕ) (s d : List ℕ) (room : ℕ) (b : List ℕ) (r : Answer) (a : Bool) (e : a ≡ soundOf t) where
-  no-table : not a ≡ true → r ≡ refusal t 30 → Answered t (requestOf t n s d room) b r b
+  is-there : {r : Sought} (p : ℕ) (c : Control) → Standing t u ch s r → r ≡ sought.At p c → Stands t u ch s p c
+  is-there p c (against h) e = absurd (let z : _≡_ {A = ℕ} 0 1 = cc in omega arith)
+  is-there p c (no-unit h f) e = absurd (let z : _≡_ {A = ℕ} 0 1 = cc in omega arith)
+  is-there p c (no-control h f) e = absurd (let z : _≡_ {A = ℕ} 0 1 = cc in omega arith)
+  is-there p c (stands {p = q} h f) e =
+      let i : q ≡ p = cc in
+      let j : at t q ≡ c = cc in
+      record { sound = h; found = f ∙ ap lookup.At i; control = sym j ∙ ap (at t) i }
+
+module _ (t : Table) (n : ℕ) (s d b : List ℕ) (r : Answer) (k : Asked) (f : k ≡ askedOf s) (g : Target) (j : g ≡ askedFor k) (o : Sought)
+    (e : o ≡ soughtIn t (g .unit) (g .channel) (g .selector)) where
+  asked : soundOf t ≡ true → requestOf t n s d (length b) ≡ answerAsked t n k d (length b)
   unfolding requestOf
-  no-table h = refuses-all 30 (no _ _ (sym e ∙ not-true a h))
+  asked h = yes _ _ h ∙ ap (λ (x : Asked). answerAsked t n x d (length b)) (sym f)
 
-  module _ (sound : not a ≡ false) (k : Asked) (f : k ≡ askedOf s) where
-    unknown : k ≡ asks.Unknown → r ≡ refusal t 31 → Answered t (requestOf t n s d room) b r b
-    unfolding requestOf answerAsked
-    unknown h = refuses-all 31 (yes _ _ (sym e ∙ not-false a sound) ∙ ap (λ (x : Asked). answerAsked t n x d room) (sym f ∙ h))
+  seen : (q : Sought) → o ≡ q → Standing t (askedFor k .unit) (askedFor k .channel) (askedFor k .selector) q
+  seen q h = rw (← h, e, j) (standing t (askedFor k .unit) (askedFor k .channel) (askedFor k .selector))
 
-    setting : (g : Target) → k ≡ asks.Set g → r ≡ answerOf t (setOf t n g d) → Answered t (requestOf t n s d room) b r b
-    unfolding requestOf answerAsked
-    setting g h i =
-        hands-all-on (setOf t n g d) (yes _ _ (sym e ∙ not-false a sound) ∙ ap (λ (x : Asked). answerAsked t n x d room) (sym f ∙ h))
-        (record { result = i; lent = ap (λ (x : List ℕ). laid x b) (sym (set-silent t (addressedIn t n g) (g .length) d)) })
+  unsound : o ≡ sought.Unsound → r ≡ refusal t 30 → Answered t (requestOf t n s d (length b)) b r b
+  unfolding requestOf
+  unsound h = refuses-all 30 (no _ _ (is-unsound t _ _ _ (seen sought.Unsound h) refl))
 
-    getting : (part : Part) (g : Target) (after : List ℕ) → k ≡ asks.Get part g → Answered t (getOf t n part g room) b r after
-        → Answered t (requestOf t n s d room) b r after
-    unfolding requestOf answerAsked
-    getting part g after h =
-        hands-all-on (getOf t n part g room) (yes _ _ (sym e ∙ not-false a sound) ∙ ap (λ (x : Asked). answerAsked t n x d room) (sym f ∙ h))
+  lost-unit : o ≡ sought.NoUnit → (x : ℕ) → x ≡ lostBy k n 33 → r ≡ refusal t x → Answered t (requestOf t n s d (length b)) b r b
+  unfolding placeOf
+  lost-unit h x q =
+      let w = is-no-unit t _ _ _ (seen sought.NoUnit h) refl in
+      refuses-all x (asked (w .0) ∙ lost-asked t n d (length b) lookup.NoUnit 33 refl k (w .1) x q)
 
-ruleset laws = (no-table, unknown, setting, getting, needs)
+  lost-control : o ≡ sought.NoControl → (x : ℕ) → x ≡ lostBy k n 34 → r ≡ refusal t x → Answered t (requestOf t n s d (length b)) b r b
+  unfolding placeOf
+  lost-control h x q =
+      let w = is-no-control t _ _ _ (seen sought.NoControl h) refl in
+      refuses-all x (asked (w .0) ∙ lost-asked t n d (length b) lookup.NoControl 34 refl k (w .1) x q)
 
-sound-requires : tie.Need-sound-requires
-sound-requires c κs = search needs
+  there : (p : ℕ) (c : Control) → o ≡ sought.At p c → (v : Deed) (after : List ℕ) → ActOn k n c d b v after → r ≡ deedAnswer t p v
+      → Answered t (requestOf t n s d (length b)) b r after
+  there p c h v after a q =
+      let w = is-there t _ _ _ p c (seen (sought.At p c) h) refl in
+      hands-all-on (answerAsked t n k d (length b)) (asked (w .sound)) (rw q (a .does t p (w .control) (w .found)))
+
+ruleset laws = (unsound, lost-unit, lost-control, there, needs)
+
+read-setup-requires : tie.Need-read-setup-requires
+read-setup-requires c κs = search laws
+
+target-of-requires : tie.Need-target-of-requires
+target-of-requires c κs = search laws
+
+seek-requires : tie.Need-seek-requires
+seek-requires c κs = search laws
+
+enum-told : tie.Need-enum-told
+enum-told c = search laws
 
 refused-requires : tie.Need-refused-requires
-refused-requires c κs = search needs
+refused-requires c κs = search laws
+
+enum-told-2 : tie.Need-enum-told-2
+enum-told-2 c = search laws
+
+lost-requires : tie.Need-lost-requires
+lost-requires c κs = search laws
+
+refused-requires-2 : tie.Need-refused-requires-2
+refused-requires-2 c κs = search laws
+
+enum-told-3 : tie.Need-enum-told-3
+enum-told-3 c = search laws
+
+lost-requires-2 : tie.Need-lost-requires-2
+lost-requires-2 c κs = search laws
+
+refused-requires-3 : tie.Need-refused-requires-3
+refused-requires-3 c κs = search laws
+
+enum-known-place : tie.Need-enum-known-place
+enum-known-place c = search laws
+
+act-requires : tie.Need-act-requires
+act-requires c κs = search laws
+
+done-requires : tie.Need-done-requires
+done-requires c κs = search laws
 
 returns : tie.Need-returns
 returns c = search laws
-
-read-setup-requires : tie.Need-read-setup-requires
-read-setup-requires c κs = search needs
-
-enum-told : tie.Need-enum-told
-enum-told c = search needs
-
-refused-requires-2 : tie.Need-refused-requires-2
-refused-requires-2 c κs = search needs
-
-enum-known-target : tie.Need-enum-known-target
-enum-known-target c = search needs
-
-set-requires : tie.Need-set-requires
-set-requires c κs = search needs
-
-enum-known-part : tie.Need-enum-known-part
-enum-known-part c = search needs
-
-get-requires : tie.Need-get-requires
-get-requires c κs = search needs
 
 returns-2 : tie.Need-returns-2
 returns-2 c = search laws
@@ -112,7 +149,7 @@ returns-3 : tie.Need-returns-3
 returns-3 c = search laws
 
 same-length : tie.Need-same-length
-same-length c = search needs
+same-length c = search laws
 
 returns-4 : tie.Need-returns-4
 returns-4 c = search laws
@@ -121,16 +158,21 @@ pub request-spec : {M : Type 1} → statement M
 request-spec =
     tie.close
     (tie.spec
-    sound-requires
-    refused-requires
-    returns
     read-setup-requires
+    target-of-requires
+    seek-requires
     enum-told
+    refused-requires
+    enum-told-2
+    lost-requires
     refused-requires-2
-    enum-known-target
-    set-requires
-    enum-known-part
-    get-requires
+    enum-told-3
+    lost-requires-2
+    refused-requires-3
+    enum-known-place
+    act-requires
+    done-requires
+    returns
     returns-2
     returns-3
     same-length

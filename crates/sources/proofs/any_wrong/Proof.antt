@@ -1,76 +1,63 @@
--- A loop over the pins: what is left to look at decides as the whole does, until a wrong source or the last pin.
+-- A loop over the source IDs: what is left to look at decides as the whole does, until a wrong one or the end.
 use borrow.Author.Needs.{needs}
-use Prim.Native.Nat.{ℕ, suc, _+_, _-_, _≤_, _<_}
+use Prim.Native.Nat.{ℕ, _+_, _-_, _≤_, _<_}
 use mathlib.Core.Path.{_≡_, refl, sym, ap, _∙_}
 use mathlib.Core.Bool.{Bool, true, false, _||_}
 use mathlib.Core.List.{List}
-use native.Mathlib.Omega.{arith}
 use native.Mathlib.Numerals.{add-one}
-use lib.ListN.{length, getD, take, drop, length-take, drop-of-length-le}
-use lib.Seq.{drop-cons, getD-take}
+use lib.ListN.{length, getD, drop, drop-of-length-le}
+use lib.Seq.{drop-cons}
 use Rattle.ground.specs.Lists.{any}
-use Rattle.entities.specs.declared.Run.{Run}
-use Rattle.sources.specs.Rules.{wrongSource}
+use Rattle.sources.specs.Breaches.{wrongBy}
 use Rattle.sources.proofs.any_wrong.Statement.{statement}
 use Rattle.sources.proofs.any_wrong.Tie as tie
 
--- The sources before pin k are right; whether one is wrong is whether one from there on is.
-module _ (run : Run) (ids : List ℕ) (pins : ℕ) where
+-- The source IDs before index k are right; whether one is wrong is whether one from there on is.
+module _ (marks ids : List ℕ) where
   abbrev t : ℕ → Bool
-  t = wrongSource run
+  t = wrongBy marks
 
   abbrev Passed : ℕ → Type 0
-  Passed k = any t (take pins ids) ≡ any t (drop k (take pins ids))
+  Passed k = any t ids ≡ any t (drop k ids)
 
   start : Passed 0
   start = refl
 
-  module _ (long : length ids ≡ 8) (k : ℕ) (g : Passed k) where
-    ended : length (take pins ids) ≤ k → false ≡ any t (take pins ids)
+  module _ (k : ℕ) (g : Passed k) where
+    over : length ids ≤ k → false ≡ any t ids
     unfolding any
-    ended h = sym (g ∙ ap (any t) (drop-of-length-le (take pins ids) h))
+    over h = sym (g ∙ ap (any t) (drop-of-length-le ids h))
 
-    last-pin : pins ≤ k → false ≡ any t (take pins ids)
-    last-pin h = ended (simp length-take (omega arith))
-
-    last-place : 8 ≤ k → false ≡ any t (take pins ids)
-    last-place h = ended (simp length-take (omega arith))
-
-    module _ (h : k < pins) (m : k < 8) (b : Bool) (e : b ≡ t (getD ids k 0)) where
-      turn : any t (take pins ids) ≡ b || any t (drop (k + 1) (take pins ids))
+    module _ (h : k < length ids) (b : Bool) (e : b ≡ t (getD ids k 0)) where
+      turn : any t ids ≡ b || any t (drop (k + 1) ids)
       unfolding any
-      turn =
-          g ∙ ap (any t) (drop-cons (take pins ids) k 0 (simp length-take (omega arith)))
-          ∙ rw (add-one, e) (ap (λ (s : ℕ). t s || any t (drop (suc k) (take pins ids))) (getD-take pins ids k 0 h))
+      turn = g ∙ rw (add-one, e) (ap (any t) (drop-cons ids k 0 h))
 
-      wrong : b ≡ true → true ≡ any t (take pins ids)
+      wrong : b ≡ true → true ≡ any t ids
       wrong y = sym (turn ∙ rw y refl)
 
       right : b ≡ false → Passed (k + 1)
       right y = turn ∙ rw y refl
 
-ruleset laws = (start, last-pin, last-place, wrong, right, needs)
+ruleset laws = (start, over, wrong, right, needs)
 
 abbrev Inv-loop : tie.InvT-loop
-Inv-loop run pins ids k₀ k = Passed run ids pins k
+Inv-loop marks ids k₀ k = Passed marks ids k
 
 abbrev μ-loop : tie.MeasureT-loop
-μ-loop run pins ids k₀ k = 8 - k
+μ-loop marks ids k₀ k = length ids - k
 
 loop-holds : tie.Need-loop-holds Inv-loop μ-loop
 loop-holds c = search laws
 
-returns : tie.Need-returns Inv-loop μ-loop
-returns c = search laws
-
-array-read-wrong-source : tie.Need-array-read-wrong-source Inv-loop μ-loop
-array-read-wrong-source c = search laws
+shared-slice-read-wrong-source : tie.Need-shared-slice-read-wrong-source Inv-loop μ-loop
+shared-slice-read-wrong-source c = search laws
 
 wrong-source-requires : tie.Need-wrong-source-requires Inv-loop μ-loop
 wrong-source-requires c κs = search laws
 
-returns-2 : tie.Need-returns-2 Inv-loop μ-loop
-returns-2 c = search laws
+returns : tie.Need-returns Inv-loop μ-loop
+returns c = search laws
 
 add-k : tie.Need-add-k Inv-loop μ-loop
 add-k c = search laws
@@ -81,8 +68,8 @@ loop-less c = search laws
 loop-again : tie.Need-loop-again Inv-loop μ-loop
 loop-again c = search laws
 
-returns-3 : tie.Need-returns-3 Inv-loop μ-loop
-returns-3 c = search laws
+returns-2 : tie.Need-returns-2 Inv-loop μ-loop
+returns-2 c = search laws
 
 pub any-wrong-spec : {M : Type 1} → statement M
 any-wrong-spec =
@@ -91,11 +78,10 @@ any-wrong-spec =
     Inv-loop
     μ-loop
     loop-holds
-    returns
-    array-read-wrong-source
+    shared-slice-read-wrong-source
     wrong-source-requires
-    returns-2
+    returns
     add-k
     loop-less
     loop-again
-    returns-3)
+    returns-2)

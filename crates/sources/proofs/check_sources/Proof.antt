@@ -1,63 +1,89 @@
--- A search for the first place that breaks rule 11: no place before the one come to does.
+-- A search for the first entity that breaks rule 11: no entity before the one come to does. The marks are those of the run, and the
+-- configuration's bytes are below 256, so that a wrong source by the marks is one of the run.
 use borrow.Author.Needs.{needs}
 use Prim.Native.Nat.{ℕ, _+_, _-_, _≤_, _<_}
-use mathlib.Core.Path.{_≡_, ap, _∙_}
+use mathlib.Core.Path.{_≡_, _∙_, subst}
 use mathlib.Core.Bool.{Bool, true, false}
+use mathlib.Core.List.{List, Memᴰ·append-right}
 use native.Mathlib.Omega.{arith}
+use lib.ListN.{getD, take, take-append-drop}
 use Rattle.ground.specs.declared.Place.the-variants.{Nowhere, At}
-use Rattle.entities.specs.declared.Node.{Node}
-use Rattle.entities.specs.declared.Run.{Run}
-use Rattle.entities.specs.Run.{held, nodeAt, placeAt}
+use Rattle.ground.specs.Lists.{any}
 use Rattle.ground.specs.Places.{Come, come-none, come-here, come-more, come-over}
-use Rattle.sources.specs.Rules.{wrongSources, breach11}
+use Rattle.graph.specs.Members.{_∈_, along, in-take, member-index}
+use Rattle.entities.specs.declared.Run.{Run}
+use Rattle.entities.specs.Run.{blankNode, held, nodeAt, placeAt, sourcesAt}
+use Rattle.sources.specs.Lookup.{directoryOf}
+use Rattle.sources.specs.LookupLaws.{any-wrong-by}
+use Rattle.sources.specs.Breaches.{wrongSource, wrongBy, breach11}
 use Rattle.sources.proofs.check_sources.Statement.{statement}
 use Rattle.sources.proofs.check_sources.Tie as tie
 
--- No entity before place i breaks the rule.
-module _ (run : Run) where
-  abbrev Passed : ℕ → Type 0
-  Passed i = Come (λ j. wrongSources run (nodeAt run j .sources)) (λ j. At (placeAt run j)) Nowhere (held run) i
+module _ (s : List ℕ) (run : Run) where
+  abbrev wrong : ℕ → Bool
+  wrong j = any (wrongSource run) (sourcesAt s run j)
 
-  start : Passed 0
-  start = come-none _ (λ j. At (placeAt run j)) Nowhere (held run)
+  record Passed (marks : List ℕ) (i : ℕ) : Type 0 where
+    come : Come wrong (λ j. At (placeAt run j)) Nowhere (held run) i
+    bytes : (k : ℕ) → getD s k 0 < 256
+    told : marks ≡ directoryOf run
 
-  module _ (n : ℕ) (m : n ≡ held run) (i : ℕ) (g : Passed i) where
-    over : n ≤ i → Nowhere ≡ breach11 run
+  start : (marks : List ℕ) → marks ≡ directoryOf run → ((k : ℕ) → getD s k 0 < 256) → Passed marks 0
+  start marks e h = record { come = come-none wrong (λ j. At (placeAt run j)) Nowhere (held run); bytes = h; told = e }
+
+  module _ (n : ℕ) (m : n ≡ held run) (marks : List ℕ) (i : ℕ) (g : Passed marks i) where
+    over : n ≤ i → Nowhere ≡ breach11 s run
     unfolding breach11
-    over h = come-over _ (λ j. At (placeAt run j)) Nowhere (held run) i g (omega arith)
+    over h = come-over wrong (λ j. At (placeAt run j)) Nowhere (held run) i (g .come) (omega arith)
 
-    module _ (h : i < n) (d : Node) (q : d ≡ nodeAt run i) (b : Bool) (f : b ≡ wrongSources run (d .sources)) where
-      e : b ≡ wrongSources run (nodeAt run i .sources)
-      e = f ∙ ap (λ (x : Node). wrongSources run (x .sources)) q
+    module _ (h : i < n) (ids : List ℕ) (q : ids ≡ sourcesAt s run i) (b : Bool) (f : b ≡ any (wrongBy marks) ids) where
+      e : b ≡ wrong i
+      e = f ∙ rw (g .told, q) (any-wrong-by run (sourcesAt s run i) byte)
+        where
+          byte : (x : ℕ) → x ∈ sourcesAt s run i → x < 256
+          byte x a =
+              let start = nodeAt run i .first in
+              let k = member-index (along (take-append-drop start s) (Memᴰ·append-right (take start s) (in-take (nodeAt run i .pins) a))) in
+              subst (λ (y : ℕ). y < 256) (k .2) (g .bytes (k .0))
 
-      here : b ≡ true → At (d .place) ≡ breach11 run
+      here : b ≡ true → At (placeAt run i) ≡ breach11 s run
       unfolding breach11
-      here y = ap (λ (x : Node). At (x .place)) q ∙ come-here _ (λ j. At (placeAt run j)) Nowhere (held run) i g (omega arith) b e y
+      here y = come-here wrong (λ j. At (placeAt run j)) Nowhere (held run) i (g .come) (omega arith) b e y
 
-      on : b ≡ false → Passed (i + 1)
-      on y = come-more _ (λ j. At (placeAt run j)) Nowhere (held run) i g (omega arith) b e y
+      on : b ≡ false → Passed marks (i + 1)
+      on y = record { come = come-more wrong (λ j. At (placeAt run j)) Nowhere (held run) i (g .come) (omega arith) b e y; bytes = g .bytes; told = g .told }
 
 ruleset laws = (start, over, here, on, needs)
 
 abbrev Inv-loop : tie.InvT-loop
-Inv-loop run n i₀ i = Passed run i
+Inv-loop config run n marks i₀ i = Passed config run marks i
 
 abbrev μ-loop : tie.MeasureT-loop
-μ-loop run n i₀ i = n - i
+μ-loop config run n marks i₀ i = n - i
 
 count-requires : tie.Need-count-requires Inv-loop μ-loop
 count-requires c κs = search laws
 
+directory-requires : tie.Need-directory-requires Inv-loop μ-loop
+directory-requires c κs = search laws
+
 loop-holds : tie.Need-loop-holds Inv-loop μ-loop
-loop-holds c = search laws
+loop-holds c = start _ _ _ (search laws) (λ k. omega (arith, c .before .before .shared-slice-known .given k))
 
-node-requires : tie.Need-node-requires Inv-loop μ-loop
-node-requires c κs = search laws
+mul-user : tie.Need-mul-user Inv-loop μ-loop
+mul-user c = search laws
 
-wrong-sources-requires : tie.Need-wrong-sources-requires Inv-loop μ-loop
-wrong-sources-requires c κs = search laws
+element-copy-out-user : tie.Need-element-copy-out-user Inv-loop μ-loop
+element-copy-out-user c = search laws
+
+sources-requires : tie.Need-sources-requires Inv-loop μ-loop
+sources-requires c κs = search laws
+
+any-wrong-requires : tie.Need-any-wrong-requires Inv-loop μ-loop
+any-wrong-requires c κs = search laws
 
 returns : tie.Need-returns Inv-loop μ-loop
+unfolding blankNode
 returns c = search laws
 
 add-i : tie.Need-add-i Inv-loop μ-loop
@@ -67,6 +93,7 @@ loop-less : tie.Need-loop-less Inv-loop μ-loop
 loop-less c = search laws
 
 loop-again : tie.Need-loop-again Inv-loop μ-loop
+unfolding blankNode
 loop-again c = search laws
 
 returns-2 : tie.Need-returns-2 Inv-loop μ-loop
@@ -79,9 +106,12 @@ check-sources-spec =
     Inv-loop
     μ-loop
     count-requires
+    directory-requires
     loop-holds
-    node-requires
-    wrong-sources-requires
+    mul-user
+    element-copy-out-user
+    sources-requires
+    any-wrong-requires
     returns
     add-i
     loop-less

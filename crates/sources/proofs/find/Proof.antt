@@ -1,27 +1,39 @@
--- The lookup among all the places that are looked at.
+-- By the mark: 0 is nothing, any other an entity.
 use borrow.Author.Needs.{needs}
-use Prim.Native.Nat.{ℕ}
-use mathlib.Core.Path.{_≡_, ap, _∙_}
-use Rattle.entities.specs.declared.Run.{Run}
-use Rattle.entities.specs.Run.{held}
-use Rattle.sources.specs.declared.Found.{Found}
-use Rattle.sources.specs.Lookup.{lookupBelow, lookup}
+use Prim.Native.Nat.{ℕ, _<_}
+use mathlib.Core.Path.{_≡_, sym}
+use mathlib.Core.List.{List}
+use lib.Dec.{eqb}
+use lib.ListN.{getD}
+use borrow.Author.Tests.{eq-eqb, ne-eqb}
+use Rattle.ground.specs.Pick.{yes, no}
+use Rattle.sources.specs.declared.Found.the-variants.{Nothing, Entity}
+use Rattle.sources.specs.Lookup.{foundBy}
 use Rattle.sources.proofs.find.Statement.{statement}
 use Rattle.sources.proofs.find.Tie as tie
 
-in-held : (run : Run) (n s : ℕ) (r : Found) → n ≡ held run → r ≡ lookupBelow run n s → r ≡ lookup run s
-in-held run n s r e f = f ∙ ap (λ (k : ℕ). lookupBelow run k s) e
+module _ (marks : List ℕ) (x id : ℕ) (w : (x ≡ id) × (x < 256)) where
+  unborne : getD marks x 0 ≡ 0 → Nothing ≡ foundBy (getD marks id 0)
+  unfolding foundBy
+  unborne e = sym (yes _ _ (eq-eqb (getD marks id 0) 0 (rw (w .0) at e)))
 
-ruleset laws = (in-held, needs)
+  borne : (getD marks x 0 ≡ 0 → ⊥) → Entity (eqb (getD marks x 0) 2) ≡ foundBy (getD marks id 0)
+  unfolding foundBy
+  borne f = rw (w .0) (sym (no _ _ (ne-eqb (getD marks id 0) 0 (rw (w .0) at f))))
 
-count-requires : tie.Need-count-requires
-count-requires c κs = search laws
+ruleset laws = (unborne, borne, needs)
 
-find-below-requires : tie.Need-find-below-requires
-find-below-requires c κs = search laws
+wide-requires : tie.Need-wide-requires
+wide-requires c κs = search laws
+
+element-copy-out-mark : tie.Need-element-copy-out-mark
+element-copy-out-mark c = search laws
 
 returns : tie.Need-returns
 returns c = search laws
 
+returns-2 : tie.Need-returns-2
+returns-2 c = search laws
+
 pub find-spec : {M : Type 1} → statement M
-find-spec = tie.close (tie.spec count-requires find-below-requires returns)
+find-spec = tie.close (tie.spec wide-requires element-copy-out-mark returns returns-2)

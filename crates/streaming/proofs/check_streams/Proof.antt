@@ -1,74 +1,90 @@
--- A search along the cutting; what stands behind a descriptor in it are the descriptors from its end on.
+-- The tables hold the Terminals of the entities before i; at the run's end they tell what its Terminals do.
 use borrow.Author.Needs.{needs}
-use Prim.Native.Nat.{ℕ, _-_}
-use mathlib.Core.Path.{_≡_, sym, _∙_}
-use mathlib.Core.Bool.{Bool, true, false}
+use Prim.Native.Nat.{ℕ, _+_, _-_, _≤_, _<_}
+use mathlib.Core.Path.{_≡_, refl, sym, ap, _∙_}
 use mathlib.Core.List.{List}
-use lib.ListN.{length}
-use Rattle.ground.specs.declared.Place.the-variants.{Nowhere, At}
+use lib.ListN.{length, getD}
+use native.Mathlib.Omega.{arith}
+use Rattle.ground.specs.declared.Place.{Place}
 use Rattle.ground.specs.Lists.{part}
-use Rattle.scan.specs.Cutting.{endAt, rest}
-use Rattle.scan.specs.Search.{Passed, start, stop, hit, miss, ordered, inside, falls}
-use Rattle.streaming.specs.Terminals.{Terminal, terminalsOf}
-use Rattle.streaming.specs.Tests.{brokenAt, wrongStream, breach14}
-use Rattle.streaming.specs.Laws.{broken-here}
+use Rattle.scan.specs.Cutting.{endAt}
+use Rattle.layout.specs.declared.Cluster.{Cluster}
+use Rattle.layout.specs.declared.Entity.{Entity}
+use Rattle.layout.specs.Layout.{entityOf, noCluster}
+use Rattle.entities.specs.declared.Node.{Node}
+use Rattle.entities.specs.declared.Run.{Run}
+use Rattle.entities.specs.Run.{held, blankNode}
+use Rattle.streaming.specs.declared.Bearer.{Bearer}
+use Rattle.streaming.specs.Terminals.{terminalOf, terminalsOf}
+use Rattle.streaming.specs.Tests.{firstBroken, breach14}
+use Rattle.streaming.specs.Table.{bearerAt, Entered, Filling, filling-start, filling-on, filled}
 use Rattle.streaming.proofs.check_streams.Statement.{statement}
 use Rattle.streaming.proofs.check_streams.Tie as tie
 
-module _ (ts : List Terminal) (s : List ℕ) where
-  abbrev wrong : List (List ℕ) → List ℕ → Bool
-  wrong = wrongStream ts (rest s 0)
+module _ (s : List ℕ) (run : Run) (cs : List Cluster) (kinds counts : List ℕ) (i n : ℕ) (h : n ≡ held run) (g : Filling s run cs kinds counts i) where
+  on : i < n → (d : List ℕ) → d ≡ part s (getD (run .nodes) i blankNode .place) (endAt s (getD (run .nodes) i blankNode .place)) → (e : Entity) → e ≡ entityOf d → (kinds′ counts′ : List ℕ) → Entered (terminalOf e (getD cs i noCluster .channels)) kinds counts kinds′ counts′ → Filling s run cs kinds′ counts′ (i + 1)
+  on l d p e q kinds′ counts′ f =
+      let m : i < held run = omega arith in
+      let z : e ≡ entityOf (part s (getD (run .nodes) i blankNode .place) (endAt s (getD (run .nodes) i blankNode .place))) = q ∙ ap entityOf p in
+      filling-on s run cs kinds counts i g m (rw z at f)
 
-  module _ (at e : ℕ) (g : Passed wrong s 0 at) (f : e ≡ endAt s at) where
-    over : e ≡ at → Nowhere ≡ breach14 ts s
-    unfolding breach14
-    over h = stop wrong s 0 at e g f h
+  over : n ≤ i → (r : Place) → r ≡ firstBroken (bearerAt kinds counts) s → r ≡ breach14 (terminalsOf s run cs) s
+  unfolding breach14
+  over l r e = let m : held run ≤ i = omega arith in e ∙ ap (λ (find : ℕ → Bearer). firstBroken find s) (filled s run cs kinds counts i g m)
 
-    module _ (h : e ≡ at → ⊥) (r : Bool) (t : r ≡ brokenAt ts s (part s at e) e) where
-      found : r ≡ true → At at ≡ breach14 ts s
-      unfolding breach14
-      found y = hit wrong s 0 at e g f h (sym (broken-here ts s at e g f h) ∙ sym t ∙ y)
+  below : i < n → i < 32
+  below l = let m : held run ≤ 32 = omega arith in omega arith
 
-      on : r ≡ false → Passed wrong s 0 e
-      on y = miss wrong s 0 at e g f h (sym (broken-here ts s at e g f h) ∙ sym t ∙ y)
-
-ruleset laws = (start, over, found, on, ordered, inside, falls, needs)
+ruleset laws = (filling-start, on, over, below, needs)
 
 abbrev Inv-loop : tie.InvT-loop
-Inv-loop config run clusters at₀ at = Passed (wrongStream (terminalsOf run clusters) (rest config 0)) config 0 at
+Inv-loop config run clusters kinds₀ counts₀ held i₀ kinds counts i = Filling config run clusters kinds counts i
 
 abbrev μ-loop : tie.MeasureT-loop
-μ-loop config run clusters at₀ at = length config - at
+μ-loop config run clusters kinds₀ counts₀ held i₀ kinds counts i = held - i
+
+count-requires : tie.Need-count-requires Inv-loop μ-loop
+count-requires c κs = search laws
 
 loop-holds : tie.Need-loop-holds Inv-loop μ-loop
 loop-holds c = search laws
 
-end-of-requires : tie.Need-end-of-requires Inv-loop μ-loop
-end-of-requires c κs = search laws
+mul-node : tie.Need-mul-node Inv-loop μ-loop
+mul-node c = search laws
 
-returns : tie.Need-returns Inv-loop μ-loop
-returns c = search laws
+element-copy-out-node : tie.Need-element-copy-out-node Inv-loop μ-loop
+element-copy-out-node c = search laws
 
-sub-is-broken : tie.Need-sub-is-broken Inv-loop μ-loop
-sub-is-broken c = search laws
+mul-cluster : tie.Need-mul-cluster Inv-loop μ-loop
+mul-cluster c = search laws
 
-part-is-broken-start : tie.Need-part-is-broken-start Inv-loop μ-loop
-part-is-broken-start c = search laws
+array-copy-out-cluster : tie.Need-array-copy-out-cluster Inv-loop μ-loop
+array-copy-out-cluster c = search laws
 
-part-is-broken-end : tie.Need-part-is-broken-end Inv-loop μ-loop
-part-is-broken-end c = search laws
+descriptor-at-requires : tie.Need-descriptor-at-requires Inv-loop μ-loop
+descriptor-at-requires c κs = search laws
 
-is-broken-requires : tie.Need-is-broken-requires Inv-loop μ-loop
-is-broken-requires c κs = search laws
+read-requires : tie.Need-read-requires Inv-loop μ-loop
+read-requires c κs = search laws
 
-returns-2 : tie.Need-returns-2 Inv-loop μ-loop
-returns-2 c = search laws
+enter-entity-requires : tie.Need-enter-entity-requires Inv-loop μ-loop
+enter-entity-requires c κs = search laws
+
+add-i : tie.Need-add-i Inv-loop μ-loop
+add-i c = search laws
 
 loop-less : tie.Need-loop-less Inv-loop μ-loop
 loop-less c = search laws
 
 loop-again : tie.Need-loop-again Inv-loop μ-loop
-loop-again c = search laws
+unfolding blankNode
+loop-again c = search (on)
+
+first-broken-requires : tie.Need-first-broken-requires Inv-loop μ-loop
+first-broken-requires c κs = search laws
+
+returns : tie.Need-returns Inv-loop μ-loop
+returns c = search laws
 
 pub check-streams-spec : {M : Type 1} → statement M
 check-streams-spec =
@@ -76,13 +92,17 @@ check-streams-spec =
     (tie.spec
     Inv-loop
     μ-loop
+    count-requires
     loop-holds
-    end-of-requires
-    returns
-    sub-is-broken
-    part-is-broken-start
-    part-is-broken-end
-    is-broken-requires
-    returns-2
+    mul-node
+    element-copy-out-node
+    mul-cluster
+    array-copy-out-cluster
+    descriptor-at-requires
+    read-requires
+    enter-entity-requires
+    add-i
     loop-less
-    loop-again)
+    loop-again
+    first-broken-requires
+    returns)

@@ -1,4 +1,4 @@
--- The two descriptors are the parts up to the next two ends.
+-- The two descriptors are the one that stands at the place and the one at its end.
 use borrow.Author.Needs.{needs}
 use Prim.Native.Nat.{ℕ}
 use mathlib.Core.Path.{_≡_, refl}
@@ -6,28 +6,25 @@ use mathlib.Core.Bool.{Bool}
 use mathlib.Core.List.{List}
 use Rattle.ground.specs.Lists.{part}
 use Rattle.scan.specs.Cutting.{endAt}
-use Rattle.streaming.specs.Terminals.{Terminal}
+use Rattle.streaming.specs.declared.Bearer.{Bearer}
 use Rattle.streaming.specs.Tests.{describedBy, describedAt}
 use Rattle.streaming.proofs.described_at.Statement.{statement}
 use Rattle.streaming.proofs.described_at.Tie as tie
 
-both : (ts : List Terminal) (s g f : List ℕ) (from a e : ℕ) (r : Bool) → a ≡ endAt s from → e ≡ endAt s a → g ≡ part s from a → f ≡ part s a e → r ≡ describedBy ts g f → r ≡ describedAt ts s from
+both : (find : ℕ → Bearer) (s g f : List ℕ) (from a : ℕ) (r : Bool) → a ≡ endAt s from → g ≡ part s from (endAt s from) → f ≡ part s a (endAt s a) → r ≡ describedBy find g f → r ≡ describedAt find s from
 unfolding describedAt
-both ts s g f from a e r p q h k m = rw (m, h, k, q, p) refl
+both find s g f from a r p h k m = rw (m, h, k, p) refl
 
 ruleset laws = (both, needs)
 
 end-of-requires : tie.Need-end-of-requires
 end-of-requires c κs = search laws
 
-end-of-requires-2 : tie.Need-end-of-requires-2
-end-of-requires-2 c κs = search laws
+descriptor-at-requires : tie.Need-descriptor-at-requires
+descriptor-at-requires c κs = search laws
 
-stretch-requires : tie.Need-stretch-requires
-stretch-requires c κs = search laws
-
-stretch-requires-2 : tie.Need-stretch-requires-2
-stretch-requires-2 c κs = search laws
+descriptor-at-requires-2 : tie.Need-descriptor-at-requires-2
+descriptor-at-requires-2 c κs = search laws
 
 described-by-requires : tie.Need-described-by-requires
 described-by-requires c κs = search laws
@@ -40,8 +37,7 @@ described-at-spec =
     tie.close
     (tie.spec
     end-of-requires
-    end-of-requires-2
-    stretch-requires
-    stretch-requires-2
+    descriptor-at-requires
+    descriptor-at-requires-2
     described-by-requires
     returns)

@@ -8,22 +8,22 @@ use borrow.Author.Tests.{eq-eqb, ne-eqb, not-true, not-false}
 use Rattle.ground.specs.Numbers.{byte}
 use Rattle.scan.specs.Want.{isAudio}
 use Rattle.groups.specs.Reading.{straysFrom}
-use Rattle.streaming.specs.Terminals.{Terminal}
+use Rattle.streaming.specs.declared.Bearer.{Bearer}
 use Rattle.streaming.specs.Tests.{describedAt, brokenAt}
 use Rattle.streaming.proofs.is_broken.Statement.{statement}
 use Rattle.streaming.proofs.is_broken.Tie as tie
 
-module _ (ts : List Terminal) (s i : List ℕ) (from : ℕ) (a : Bool) (e : a ≡ isAudio 2 i) where
-  no-stream : not a ≡ true → false ≡ brokenAt ts s i from
+module _ (find : ℕ → Bearer) (s i : List ℕ) (from : ℕ) (a : Bool) (e : a ≡ isAudio 2 i) where
+  no-stream : not a ≡ true → false ≡ brokenAt find s i from
   unfolding brokenAt
   no-stream h = simp (sym e ∙ not-true a h)
 
   module _ (h : not a ≡ false) (x : ℕ) (k : x ≡ byte i 4) (r : Bool) where
-    by-strays : x ≡ 0 → r ≡ straysFrom s from → r ≡ brokenAt ts s i from
+    by-strays : x ≡ 0 → r ≡ straysFrom s from → r ≡ brokenAt find s i from
     unfolding brokenAt
     by-strays l q = simp (sym e ∙ not-false a h, eq-eqb (byte i 4) 0 (sym k ∙ l), q)
 
-    by-described : (x ≡ 0 → ⊥) → r ≡ describedAt ts s from → not r ≡ brokenAt ts s i from
+    by-described : (x ≡ 0 → ⊥) → r ≡ describedAt find s from → not r ≡ brokenAt find s i from
     unfolding brokenAt
     by-described l q = simp (sym e ∙ not-false a h, ne-eqb (byte i 4) 0 (λ z. l (k ∙ z)), q)
 

@@ -49,6 +49,9 @@ returns-2 c = search laws
 byte-at-requires-2 : tie.Need-byte-at-requires-2
 byte-at-requires-2 c κs = search laws
 
+cast-if3 : tie.Need-cast-if3
+cast-if3 c = search laws
+
 returns-3 : tie.Need-returns-3
 returns-3 c = search laws
 
@@ -72,6 +75,7 @@ is-type-one-spec =
     byte-at-requires
     returns-2
     byte-at-requires-2
+    cast-if3
     returns-3
     samples-right-requires
     returns-4

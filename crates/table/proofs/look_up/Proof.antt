@@ -1,84 +1,28 @@
 -- The search has come to a place, and what is left of it, with what was seen, is the whole search.
 use borrow.Author.Needs.{needs}
-use Prim.Native.Nat.{ℕ, suc, _+_, _-_, _≤_, _<_}
-use mathlib.Core.Path.{_≡_, refl, sym, ap, _∙_}
-use native.Mathlib.Numerals.{add-one}
-use mathlib.Core.Bool.{Bool, true, false, _||_, or-false, or-assoc}
-use native.Mathlib.Nat.{sub-zero}
+use Prim.Native.Nat.{ℕ, _-_, _≤_}
+use mathlib.Core.Path.{_≡_}
+use mathlib.Core.Bool.{Bool}
 use native.Mathlib.Omega.{arith}
-use lib.Dec.{eqb}
 use Rattle.table.specs.declared.Table.{Table}
-use Rattle.table.specs.declared.Found.{Found}
-use Rattle.table.specs.declared.Found.the-variants.{Nothing, At}
 use Rattle.table.specs.declared.Lookup.{Lookup}
-use Rattle.table.specs.declared.Lookup.the-variants as lookup
-use Rattle.table.specs.Controls.{mostControls, at, answersTo}
-use Rattle.ground.specs.Pick.{pick}
-use Rattle.ground.specs.Places.{firstIn, Come, come-none, come-here, come-more, come-over, somewhere}
-use Rattle.table.specs.First.{places, foundIn, unitIn, sawUnit, missingBy, lookupBy, lookedUp}
+use Rattle.table.specs.Controls.{mostControls}
+use Rattle.table.specs.First.{missingBy, lookedUp}
+use Rattle.table.specs.Sought.{Looking, looking-start, looking-over, looking-here, looking-on}
 use Rattle.table.proofs.look_up.Statement.{statement}
 use Rattle.table.proofs.look_up.Tie as tie
 
-some-or : (b x : Bool) → pick b true x ≡ (b || x)
-some-or true x = refl
-some-or false x = refl
+module _ (t : Table) (u ch s : ℕ) (seen : Bool) (p : ℕ) (g : Looking t u ch s seen p) where
+  none-left : t .count ≤ p → (r : Lookup) → r ≡ missingBy seen → r ≡ lookedUp t u ch s
+  none-left h = looking-over t u ch s seen p g (omega arith)
 
-module _ (t : Table) (u ch s : ℕ) where
-  abbrev wanted : ℕ → Bool
-  wanted p = answersTo u ch s (at t p)
+  no-place : mostControls ≤ p → (r : Lookup) → r ≡ missingBy seen → r ≡ lookedUp t u ch s
+  no-place h = looking-over t u ch s seen p g (omega arith)
 
-  abbrev owned : ℕ → Bool
-  owned p = eqb (at t p .unit) u
-
-  -- whether a place from p on is the unit's
-  abbrev later : ℕ → Bool
-  later p = firstIn owned (λ i. true) false p (places t - p)
-
-  record Here (seen : Bool) (p : ℕ) : Type 0 where
-    come : Come wanted At Nothing (places t) p
-    some : unitIn t u ≡ (seen || later p)
-
-  start : Here false 0
-  unfolding unitIn somewhere
-  start = record { come = come-none wanted At Nothing (places t); some = rw sub-zero }
-
-  later-over : (p : ℕ) → places t ≤ p → later p ≡ false
-  unfolding firstIn
-  later-over p h = let z : places t - p ≡ 0 = omega arith in rw z
-
-  later-on : (p : ℕ) → p < places t → later p ≡ (owned p || later (p + 1))
-  unfolding firstIn
-  later-on p h = let q : places t - p ≡ suc (places t - suc p) = omega arith in rw (q, add-one) (some-or (owned p) _)
-
-  module _ (seen : Bool) (p : ℕ) (g : Here seen p) where
-    over : places t ≤ p → (r : Lookup) → r ≡ missingBy seen → r ≡ lookedUp t u ch s
-    unfolding lookedUp foundIn
-    over h r e =
-        let a : Nothing ≡ foundIn t u ch s = come-over wanted At Nothing (places t) p (g .come) h in
-        let b : unitIn t u ≡ seen = g .some ∙ ap (λ (x : Bool). seen || x) (later-over p h) ∙ or-false seen in
-        rw (← a, b) e
-
-    none-left : t .count ≤ p → (r : Lookup) → r ≡ missingBy seen → r ≡ lookedUp t u ch s
-    none-left h = over (omega arith)
-
-    no-place : mostControls ≤ p → (r : Lookup) → r ≡ missingBy seen → r ≡ lookedUp t u ch s
-    no-place h = over (omega arith)
-
-    module _ (h : p < mostControls) (k : p < t .count) (b : Bool) (e : b ≡ wanted p) where
-      here : b ≡ true → lookup.At p ≡ lookedUp t u ch s
-      unfolding lookedUp foundIn
-      here f = ap (λ (x : Found). lookupBy x (unitIn t u)) (come-here wanted At Nothing (places t) p (g .come) (omega arith) b e f)
-
-      on : b ≡ false → (c : Bool) → c ≡ sawUnit seen u (at t p) → Here c (p + 1)
-      on f c i = record {
-        come = come-more wanted At Nothing (places t) p (g .come) (omega arith) b e f;
-        some = g .some ∙ ap (λ (x : Bool). seen || x) (later-on p (omega arith)) ∙ sym (or-assoc seen (owned p) (later (p + 1))) ∙ ap (λ (x : Bool). x || later (p + 1)) (sym i);
-      }
-
-ruleset laws = (start, none-left, no-place, here, on, needs)
+ruleset laws = (looking-start, none-left, no-place, looking-here, looking-on, needs)
 
 abbrev Inv-loop : tie.InvT-loop
-Inv-loop unit channel selector table count seen₀ place₀ seen place = Here table unit channel selector seen place
+Inv-loop unit channel selector table count seen₀ place₀ seen place = Looking table unit channel selector seen place
 
 abbrev μ-loop : tie.MeasureT-loop
 μ-loop unit channel selector table count seen₀ place₀ seen place = mostControls - place

@@ -1,71 +1,27 @@
--- The test has come to a place, and what is left of it is the whole test.
+-- The pass has come to a place: the controls before it are right, and each unit's top is above their keys, so that none stands twice.
 use borrow.Author.Needs.{needs}
-use Prim.Native.Nat.{ℕ, _+_, _-_, _≤_, _<_}
-use mathlib.Core.Path.{_≡_, refl, sym, _∙_}
-use mathlib.Core.Bool.{Bool, true, false, not}
-use native.Mathlib.Omega.{arith}
-use borrow.Author.Tests.{le-leb, lt-leb, not-true, not-false}
+use Prim.Native.Nat.{_-_, _<_}
+use mathlib.Core.Path.{_≡_}
+use mathlib.Core.Bool.{false}
+use borrow.Author.Tests.{lt-leb}
+use Rattle.table.specs.Controls.{mostControls}
 use Rattle.table.specs.declared.Table.{Table}
-use Rattle.table.specs.Controls.{mostControls, at}
-use Rattle.ground.specs.Places.{firstIn, Come, come-none, come-here, come-more, come-over, everywhere}
-use Rattle.table.specs.Sound.{soundControl, firstThere, soundPlace, soundOf}
+use Rattle.table.specs.Sound.{soundOf}
+use Rattle.table.specs.Rising.{Rising, rising-start, rising-few, rising-inside, rising-unsound, rising-on, rising-over}
 use Rattle.table.proofs.sound.Statement.{statement}
 use Rattle.table.proofs.sound.Tie as tie
 
-module _ (t : Table) where
-  abbrev bad : ℕ → Bool
-  bad p = not (soundPlace t p)
+too-many : (t : Table) → mostControls < t .count → false ≡ soundOf t
+unfolding soundOf
+too-many t h = simp (lt-leb _ _ h)
 
-  record Here (p : ℕ) : Type 0 where
-    few : t .count ≤ mostControls
-    come : Come bad (λ i. false) true (t .count) p
-
-  too-many : mostControls < t .count → false ≡ soundOf t
-  unfolding soundOf
-  too-many h = simp (lt-leb _ _ h)
-
-  start : t .count ≤ mostControls → Here 0
-  start h = record { few = h; come = come-none bad (λ i. false) true (t .count) }
-
-  -- with few enough controls the test is the search
-  is-search : t .count ≤ mostControls → (r : Bool) → r ≡ firstIn bad (λ i. false) true 0 (t .count) → r ≡ soundOf t
-  unfolding soundOf everywhere
-  is-search h r e = e ∙ rw (le-leb _ _ h)
-
-  module _ (p : ℕ) (g : Here p) where
-    over : t .count ≤ p → true ≡ soundOf t
-    over h = is-search (g .few) true (come-over bad (λ i. false) true (t .count) p (g .come) h)
-
-    module _ (k : p < t .count) (a : Bool) (e : a ≡ soundControl (at t p)) where
-      stop : bad p ≡ true → false ≡ soundOf t
-      stop f = is-search (g .few) false (come-here bad (λ i. false) true (t .count) p (g .come) k true (sym f) refl)
-
-      unsound : not a ≡ true → false ≡ soundOf t
-      unfolding soundPlace
-      unsound h = stop (simp (sym e ∙ not-true a h))
-
-      module _ (ok : not a ≡ false) (b : Bool) (f : b ≡ firstThere t p (at t p)) where
-        twin : not b ≡ true → false ≡ soundOf t
-        unfolding soundPlace
-        twin h = stop (simp (sym e ∙ not-false a ok, sym f ∙ not-true b h))
-
-        on : not b ≡ false → Here (p + 1)
-        unfolding soundPlace
-        on h =
-            let s : bad p ≡ false = simp (sym e ∙ not-false a ok, sym f ∙ not-false b h) in
-            record { few = g .few; come = come-more bad (λ i. false) true (t .count) p (g .come) k false (sym s) refl }
-
--- a place of the table is one of the array
-inside : (t : Table) (p : ℕ) → Here t p → p < t .count → p < mostControls
-inside t p g h = let k = g .few in omega arith
-
-ruleset laws = (too-many, start, over, unsound, twin, on, inside, needs)
+ruleset laws = (too-many, rising-start, rising-few, rising-inside, rising-unsound, rising-on, rising-over, needs)
 
 abbrev Inv-loop : tie.InvT-loop
-Inv-loop table count place₀ place = Here table place
+Inv-loop table count tops₀ place₀ tops place = Rising table tops place
 
 abbrev μ-loop : tie.MeasureT-loop
-μ-loop table count place₀ place = table .count - place
+μ-loop table count tops₀ place₀ tops place = table .count - place
 
 returns : tie.Need-returns Inv-loop μ-loop
 returns c = search laws
@@ -85,11 +41,32 @@ sound-control-requires c κs = search laws
 returns-2 : tie.Need-returns-2 Inv-loop μ-loop
 returns-2 c = search laws
 
-first-there-requires : tie.Need-first-there-requires Inv-loop μ-loop
-first-there-requires c κs = search laws
+wide-requires : tie.Need-wide-requires Inv-loop μ-loop
+wide-requires c κs = search laws
+
+key-of-requires : tie.Need-key-of-requires Inv-loop μ-loop
+key-of-requires c κs = search laws
+
+mul-if3 : tie.Need-mul-if3 Inv-loop μ-loop
+mul-if3 c = search laws
+
+array-read-if3 : tie.Need-array-read-if3 Inv-loop μ-loop
+array-read-if3 c = search laws
+
+sound-slowly-requires : tie.Need-sound-slowly-requires Inv-loop μ-loop
+sound-slowly-requires c κs = search laws
 
 returns-3 : tie.Need-returns-3 Inv-loop μ-loop
 returns-3 c = search laws
+
+add-tops : tie.Need-add-tops Inv-loop μ-loop
+add-tops c = search laws
+
+mul-tops : tie.Need-mul-tops Inv-loop μ-loop
+mul-tops c = search laws
+
+array-write-tops : tie.Need-array-write-tops Inv-loop μ-loop
+array-write-tops c = search laws
 
 add-place : tie.Need-add-place Inv-loop μ-loop
 add-place c = search laws
@@ -115,8 +92,15 @@ sound-spec =
     element-copy-out-control
     sound-control-requires
     returns-2
-    first-there-requires
+    wide-requires
+    key-of-requires
+    mul-if3
+    array-read-if3
+    sound-slowly-requires
     returns-3
+    add-tops
+    mul-tops
+    array-write-tops
     add-place
     loop-less
     loop-again
