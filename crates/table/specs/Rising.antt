@@ -6,6 +6,7 @@
 --   Passed t n         ==  30 has nothing against the first n controls by themselves, and none of them stands twice
 --   passed-start, passed-on, passed-unsound, passed-twin, passed-over  ==  a loop's start, its turns and its end
 --   Rising t tops n    ==  .. and tops has for each unit a number above the keys of its controls among them
+--   rising-alone       ==  a control whose key is not below its unit's top stands at no earlier place: where keys rise, none stands twice
 --   rising-start, rising-few, rising-inside, rising-unsound, rising-on, rising-over  ==  the loop that asks while keys rise
 --   Kept t keys n      ==  .. and keys has their keys
 --   kept-start, kept-inside, kept-unsound, kept-twin, kept-on, kept-over  ==  the loop that looks among all earlier ones
@@ -137,8 +138,8 @@ module _ (t : Table) (tops : List ℕ) (n : ℕ) (g : Rising t tops n) where
         lower : (p : ℕ) → p < n → at t p .unit ≡ u → keyOf (at t p) < k
         lower p i q = let a : keyOf (at t p) < getD tops u 0 = rw q at (g .under p i) in omega arith
 
-        alone : (p : ℕ) → p < n → Same (at t p) (at t n) → ⊥
-        alone p i s =
+        pub rising-alone : (p : ℕ) → p < n → Same (at t p) (at t n) → ⊥
+        rising-alone p i s =
             let a = lower p i (s .unit ∙ sym (w .0)) in
             let q = same-key (at t p) (at t n) s in
             let r = d .is in
@@ -164,7 +165,7 @@ module _ (t : Table) (tops : List ℕ) (n : ℕ) (g : Rising t tops n) where
 
         pub rising-on : Rising t (set tops u (k + 1)) (n + 1)
         rising-on = record {
-          passed = passed-on t n (g .passed) l b e ok alone;
+          passed = passed-on t n (g .passed) l b e ok rising-alone;
           long = length-set tops u (k + 1) ∙ g .long;
           under = λ p i. below p (omega arith);
         }

@@ -55,7 +55,7 @@ pub enum Lookup {
     At(usize),
 }
 
-// What a request asks first: whether refusal 30 has nothing against the table, and then the same, with the control.
+// What a request asks of a table: whether refusal 30 has something against it, and else the same, with the control itself.
 pub enum Sought {
     Unsound,
     NoUnit,
@@ -399,7 +399,8 @@ fn seek_slowly(table: Table, unit: u8, channel: u8, selector: u8) -> Sought
     }
 }
 
-// `sound`, then `look_up`, in one function, so that the table is not copied for each.
+// Whether refusal 30 has nothing against the table, as `sound` asks, and then where the control stands, as `look_up` does: both
+// loops in one function, so that the table is not copied for each.
 pub fn seek(table: Table, unit: u8, channel: u8, selector: u8) -> Sought
     ensures { λ r. ⌜ r ≡ soughtIn table unit channel selector ⌝ }
 {
