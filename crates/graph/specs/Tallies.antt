@@ -1,6 +1,5 @@
--- At how many places of a list a test holds. This is the whole counting argument behind ranks: a round that settles
--- anything new raises the tally by one at least, and no tally passes the list's length. In the same way each index that joins
--- an order raises the tally of those that are in it by one.
+-- At how many places of a list a test holds. This is the whole counting argument behind the order: each index that joins it raises the
+-- tally of those that are in it by one, and no tally passes the list's length.
 --   tally p l       ==  at how many places of l the test p holds
 --   tally-le        ==  at most as many as l has
 --   tally-kept      ==  no less for a test that holds wherever p does

@@ -115,7 +115,7 @@ pub fn legal(sort: Sort, range: Range) -> bool
     !silence(sort, min)
 }
 
-// The length of the most whole steps that room has place for; 0 where a step is 0. Here alone is divided.
+// The length of the most whole steps that room has place for; 0 where a step is 0.
 fn whole_steps(room: u32, step: u32) -> u32
     ensures { λ r. ⌜ r ≡ wholeSteps room step ⌝ }
 {
