@@ -11,6 +11,9 @@ use ground::Refusal;
 use layout::Cluster;
 use table::Table;
 
+// The interface number that a refusal answers.
+const NO_INTERFACE: u8 = 0;
+
 // What stands in a configuration that the rules 1 to 15 do not refuse; where they do, the refusal and nothing else.
 pub struct Finding {
     pub refusal: Refusal,
@@ -38,7 +41,7 @@ fn refused_finding(refusal: Refusal) -> Finding
     let spare = entities::blank();
     Finding {
         refusal,
-        control: 0,
+        control: NO_INTERFACE,
         header: 0,
         run: Run {
             count: 0,
@@ -113,7 +116,7 @@ fn refused(refusal: Refusal) -> Reading
     Reading {
         number: refusal.number,
         place: refusal.place,
-        control: 0,
+        control: NO_INTERFACE,
         entities: 0,
         controls: 0,
         table: table::empty(),
