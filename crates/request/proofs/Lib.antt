@@ -1,2 +1,2 @@
-pub mod Outcomes
-pub mod Barred
+mod Found
+mod Stored

@@ -1,4 +1,5 @@
 pub mod Outcome
+pub mod Plugged
+pub mod Addressed
 pub mod Load
 pub mod Request
-pub mod Deed

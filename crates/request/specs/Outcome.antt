@@ -4,15 +4,20 @@
 --   numberOf o        ==  0 or the number of the refusal
 --   bytesOf o         ==  the bytes written: "An accepted Get writes its bytes", and nothing else writes any
 --   tableAfter t o    ==  the table: "All leave table and reply as they stood"; a Get "changes nothing else"
---   answerOf t o      ==  the answer of the entry points
---   laid bytes b      ==  the buffer b with the bytes at its front
---   Answered t o b r a  ==  the function's result r and what the reply holds at exit, a, are those of o; b is the reply at entry
---   lowFirst n x      ==  the n bytes of the number x, "low first"
-use Prim.Native.Nat.{ℕ, zero, suc, _%_, _/_}
+--   stateAfter st o   ==  the state: the same AudioControl number, and that table
+--   answerOf st o     ==  the answer of the entry points
+--   Answered st o b r a  ==  the function's result r and what the reply holds at exit, a, are those of o; b is the reply at entry
+--   refusal st n      ==  the answer of refusal n
+--   deedAnswer st i d ==  the answer where the deed d is done at index i of the table
+use Prim.Native.Nat.{ℕ}
 use mathlib.Core.Path.{_≡_}
-use mathlib.Core.List.{List, [], _∷_, _++_}
-use lib.ListN.{length, drop}
+use mathlib.Core.List.{List, []}
+use lib.ListN.{length}
 use Rattle.table.specs.declared.Table.{Table}
+use Rattle.table.specs.Controls.{placed}
+use Rattle.deed.specs.declared.Deed.{Deed}
+use Rattle.deed.specs.Doing.{laid}
+use Rattle.request.specs.declared.State.{State}
 use Rattle.request.specs.declared.Answer.{Answer}
 
 pub data Outcome : Type 0 where
@@ -35,16 +40,22 @@ tableAfter t (refused n) = t
 tableAfter t (got bytes) = t
 tableAfter t (done u) = u
 
-unfoldable pub answerOf : Table → Outcome → Answer
-answerOf t o = record { number = numberOf o; written = length (bytesOf o); table = tableAfter t o }
+abbrev pub stateAfter : State → Outcome → State
+stateAfter st o = record { control = st .control; table = tableAfter (st .table) o }
 
-abbrev pub laid : List ℕ → List ℕ → List ℕ
-laid bytes b = bytes ++ drop (length bytes) b
+unfoldable pub answerOf : State → Outcome → Answer
+answerOf st o = record { number = numberOf o; written = length (bytesOf o); state = stateAfter st o }
 
-pub record Answered (t : Table) (o : Outcome) (b : List ℕ) (r : Answer) (a : List ℕ) : Type 0 where
-  pub result : r ≡ answerOf t o
+pub record Answered (st : State) (o : Outcome) (b : List ℕ) (r : Answer) (a : List ℕ) : Type 0 where
+  pub result : r ≡ answerOf st o
   pub lent : a ≡ laid (bytesOf o) b
 
-unfoldable pub lowFirst : ℕ → ℕ → List ℕ
-lowFirst zero x = []
-lowFirst (suc n) x = x % 256 ∷ lowFirst n (x / 256)
+abbrev pub refusal : State → ℕ → Answer
+refusal st n = record { number = n; written = 0; state = st }
+
+abbrev pub deedAnswer : State → ℕ → Deed → Answer
+deedAnswer st i d = record {
+  number = d .number;
+  written = d .written;
+  state = record { control = st .control; table = placed (st .table) i (d .control) };
+}

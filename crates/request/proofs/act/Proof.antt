@@ -2,73 +2,52 @@
 use borrow.Author.Needs.{needs}
 use Prim.Native.Nat.{ℕ}
 use mathlib.Core.Path.{_≡_, refl, sym, ap, _∙_}
-use mathlib.Core.List.{List, []}
-use mathlib.Core.Bool.{Bool, true, false, not, _||_}
-use lib.Dec.{eqb}
+use mathlib.Core.List.{List, [], _∷_}
 use lib.ListN.{length}
-use Rattle.ground.specs.Pick.{pick}
+use borrow.Author.Tests.{eq-eqb, ne-eqb}
+use Rattle.ground.specs.Pick.{yes, no}
 use Rattle.table.specs.declared.Control.{Control}
-use Rattle.table.specs.declared.Table.{Table}
-use Rattle.table.specs.declared.Sense.{Sense}
-use Rattle.table.specs.Controls.{at, senseOf, sizeOf}
-use Rattle.request.specs.declared.Deed.{Deed}
-use Rattle.request.specs.declared.Target.{Target}
-use Rattle.request.specs.declared.Part.{Part}
-use Rattle.request.specs.declared.Asked.{Asked}
-use Rattle.request.specs.declared.Asked.the-variants as asks
-use Rattle.request.specs.declared.Settled.{Settled}
-use Rattle.request.specs.declared.Settled.the-variants.{NoSetting, To}
-use Rattle.request.specs.Outcome.{Outcome, bytesOf, laid}
-use Rattle.request.specs.Outcome.Outcome.{refused}
-use Rattle.request.specs.Request.{unready, valueIn, settledOf, setTo, setBy, setAt, getAt, answerAsked}
-use Rattle.request.specs.Deed.{idleDeed, idle-answer, SetOn, GetOn, barredBy, ActOn}
-use Rattle.request.proofs.Outcomes.{refuses-all, hands-all-on}
-use Rattle.request.proofs.Barred.{barred-asked, set-asked, get-asked}
+use Rattle.setup.specs.declared.Target.{Target}
+use Rattle.setup.specs.declared.Part.{Part}
+use Rattle.setup.specs.declared.Asked.{Asked}
+use Rattle.setup.specs.declared.Asked.the-variants as asks
+use Rattle.deed.specs.declared.Deed.{Deed}
+use Rattle.deed.specs.Doing.{Doing, bytesIn, laid, idleDeed, deedOf, Done}
+use Rattle.deed.specs.Doing.Doing.{denied}
+use Rattle.answers.specs.Answers.{setOf, getOf}
+use Rattle.answers.specs.AnswersLaws.{set-silent}
+use Rattle.request.specs.Request.{barredBy, doingOf, actOf}
 use Rattle.request.proofs.act.Statement.{statement}
 use Rattle.request.proofs.act.Tie as tie
 
--- a Set writes nothing
-silent : (x : Bool) (o q : Outcome) → bytesOf o ≡ [] → bytesOf q ≡ [] → bytesOf (pick x o q) ≡ []
-silent true o q e f = e
-silent false o q e f = f
-
-set-to-silent : (t : Table) (p : ℕ) (s : Settled) → bytesOf (setTo t p s) ≡ []
-unfolding setTo
-set-to-silent t p NoSetting = refl
-set-to-silent t p (To x) = refl
-
-set-by-silent : (t : Table) (p : ℕ) (k : Sense) (n : ℕ) (d : List ℕ) → bytesOf (setBy t p k n d) ≡ []
-unfolding setBy
-set-by-silent t p k n d =
-    silent (unready k (at t p)) (refused 36) _ refl
-    (silent (not (eqb n (sizeOf k)) || not (eqb (length d) (sizeOf k))) (refused 37) _ refl
-    (set-to-silent t p (settledOf k (at t p) (valueIn d))))
-
 -- one law for each way out
-module _ (k : Asked) (m : ℕ) (c : Control) (d b : List ℕ) (r : Deed) (x : ℕ) (e : x ≡ barredBy k m) where
-  barred : (x ≡ 0 → ⊥) → r ≡ idleDeed x c → ActOn k m c d b r b
-  barred h q = record { does = λ t p i l. refuses-all x (barred-asked t m d (length b) k x e h) (idle-answer t p c x r i q) }
+module _ (k : Asked) (m : ℕ) (c : Control) (d b : List ℕ) (r : Deed) where
+  hands-on : (o : Doing) → actOf k m d (length b) (c ∷ []) ≡ o → (a : List ℕ) → Done c o b r a → Done c (actOf k m d (length b) (c ∷ [])) b r a
+  hands-on o e a h = rw e h
 
-  unknown : k ≡ asks.Unknown → r ≡ idleDeed 31 c → ActOn k m c d b r b
-  unfolding answerAsked
-  unknown h q = record { does = λ t p i l. refuses-all 31 (ap (λ (y : Asked). answerAsked t m y d (length b)) h) (idle-answer t p c 31 r i q) }
+  module _ (x : ℕ) (e : x ≡ barredBy k m) where
+    barred : (x ≡ 0 → ⊥) → r ≡ idleDeed x c → Done c (actOf k m d (length b) (c ∷ [])) b r b
+    unfolding actOf
+    barred h q =
+        hands-on (denied x) (no _ _ (ne-eqb _ _ (λ z. h (e ∙ z))) ∙ ap denied (sym e)) b (record { result = q; lent = refl })
 
-  module _ (z : x ≡ 0) (g : Target) where
-    setting : k ≡ asks.Set g → SetOn c (g .length) d r → ActOn k m c d b r b
-    setting h s = record {
-      does = λ t p i l.
-          hands-all-on (setAt t p (g .length) d)
-          (ap (λ (y : Asked). answerAsked t m y d (length b)) h ∙ set-asked t m d (length b) x z g (rw h at e) p (rw h at l))
-          (record { result = s .does t p i; lent = ap (λ (y : List ℕ). laid y b) (sym (set-by-silent t p (senseOf (at t p .selector)) (g .length) d)) });
-    }
+    free : x ≡ 0 → actOf k m d (length b) (c ∷ []) ≡ doingOf k d (length b) (c ∷ [])
+    unfolding actOf
+    free z = yes _ _ (eq-eqb _ _ (sym e ∙ z))
 
-    getting : (part : Part) (after : List ℕ) → k ≡ asks.Get part g → GetOn c part (g .length) b r after → ActOn k m c d b r after
-    getting part after h s = record {
-      does = λ t p i l.
-          hands-all-on (getAt t p part (g .length) (length b))
-          (ap (λ (y : Asked). answerAsked t m y d (length b)) h ∙ get-asked t m d (length b) x z g (rw h at e) p (rw h at l) part)
-          (s .does t p i);
-    }
+    unknown : x ≡ 0 → k ≡ asks.Unknown → r ≡ idleDeed 31 c → Done c (actOf k m d (length b) (c ∷ [])) b r b
+    unknown z h q =
+        hands-on (denied 31) (free z ∙ ap (λ (y : Asked). doingOf y d (length b) (c ∷ [])) h) b (record { result = q; lent = refl })
+
+    setting : x ≡ 0 → (g : Target) → k ≡ asks.Set g → r ≡ deedOf c (setOf (c ∷ []) (g .bytes) d) → Done c (actOf k m d (length b) (c ∷ [])) b r b
+    setting z g h q =
+        hands-on (setOf (c ∷ []) (g .bytes) d) (free z ∙ ap (λ (y : Asked). doingOf y d (length b) (c ∷ [])) h) b
+        (record { result = q; lent = ap (λ (y : List ℕ). laid y b) (sym (set-silent (c ∷ []) (g .bytes) d)) })
+
+    getting : x ≡ 0 → (part : Part) (g : Target) (a : List ℕ) → k ≡ asks.Get part g → Done c (getOf part (c ∷ []) (g .bytes) (length b)) b r a
+        → Done c (actOf k m d (length b) (c ∷ [])) b r a
+    getting z part g a h =
+        hands-on (getOf part (c ∷ []) (g .bytes) (length b)) (free z ∙ ap (λ (y : Asked). doingOf y d (length b) (c ∷ [])) h) a
 
 ruleset laws = (barred, unknown, setting, getting, needs)
 

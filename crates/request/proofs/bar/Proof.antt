@@ -1,23 +1,27 @@
 -- By what is asked.
 use borrow.Author.Needs.{needs}
 use Prim.Native.Nat.{ℕ}
-use mathlib.Core.Path.{_≡_, sym, ap, _∙_}
-use Rattle.request.specs.declared.Target.{Target}
-use Rattle.request.specs.declared.Part.{Part}
-use Rattle.request.specs.declared.Asked.{Asked}
-use Rattle.request.specs.declared.Asked.the-variants as asks
-use Rattle.request.specs.Deed.{elsewhereBy, barredBy}
+use mathlib.Core.Path.{_≡_}
+use Rattle.setup.specs.declared.Target.{Target}
+use Rattle.setup.specs.declared.Part.{Part}
+use Rattle.setup.specs.declared.Asked.{Asked}
+use Rattle.setup.specs.declared.Asked.the-variants as asks
+use Rattle.request.specs.Request.{elsewhereBy, barredBy}
 use Rattle.request.proofs.bar.Statement.{statement}
 use Rattle.request.proofs.bar.Tie as tie
 
-module _ (k : Asked) (m r : ℕ) (g : Target) where
-  setting : k ≡ asks.Set g → r ≡ elsewhereBy g m → r ≡ barredBy k m
-  setting h e = e ∙ ap (λ (x : Asked). barredBy x m) (sym h)
+-- one law for each way out
+module _ (k : Asked) (m : ℕ) where
+  unknown : k ≡ asks.Unknown → 31 ≡ barredBy k m
+  unknown e = rw e
 
-  getting : (part : Part) → k ≡ asks.Get part g → r ≡ elsewhereBy g m → r ≡ barredBy k m
-  getting part h e = e ∙ ap (λ (x : Asked). barredBy x m) (sym h)
+  set : (g : Target) (x : ℕ) → k ≡ asks.Set g → x ≡ elsewhereBy g m → x ≡ barredBy k m
+  set g x e f = rw e f
 
-ruleset laws = (setting, getting, needs)
+  get : (part : Part) (g : Target) (x : ℕ) → k ≡ asks.Get part g → x ≡ elsewhereBy g m → x ≡ barredBy k m
+  get part g x e f = rw e f
+
+ruleset laws = (unknown, set, get, needs)
 
 enum-told : tie.Need-enum-told
 enum-told c = search laws

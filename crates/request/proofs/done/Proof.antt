@@ -1,18 +1,21 @@
--- The control is put at its place.
+-- The table with the control stored.
 use borrow.Author.Needs.{needs}
 use Prim.Native.Nat.{ℕ}
 use mathlib.Core.Path.{_≡_, ap}
 use Rattle.table.specs.declared.Table.{Table}
 use Rattle.table.specs.Controls.{placed}
-use Rattle.request.specs.declared.Deed.{Deed}
-use Rattle.request.specs.Deed.{deedAnswer}
+use Rattle.deed.specs.declared.Deed.{Deed}
+use Rattle.request.specs.declared.State.{State}
+use Rattle.request.specs.declared.Answer.{Answer}
+use Rattle.request.specs.Outcome.{deedAnswer}
 use Rattle.request.proofs.done.Statement.{statement}
 use Rattle.request.proofs.done.Tie as tie
 
-puts : (t u : Table) (p : ℕ) (d : Deed) → u ≡ placed t p (d .control) → record { number = d .number; written = d .written; table = u } ≡ deedAnswer t p d
-puts t u p d e = ap (λ (v : Table). record { number = d .number; written = d .written; table = v }) e
+stored : (st : State) (i : ℕ) (d : Deed) (t : Table) → t ≡ placed (st .table) i (d .control)
+    → record { number = d .number; written = d .written; state = record { control = st .control; table = t } } ≡ deedAnswer st i d
+stored st i d t e = ap (λ (v : Table). record { number = d .number; written = d .written; state = record { control = st .control; table = v } }) e
 
-ruleset laws = (puts, needs)
+ruleset laws = (stored, needs)
 
 put-requires : tie.Need-put-requires
 put-requires c κs = search laws

@@ -1,14 +1,15 @@
--- By the test.
+-- The target's interface is the AudioControl one or not.
 use borrow.Author.Needs.{needs}
 use Prim.Native.Nat.{ℕ}
 use mathlib.Core.Path.{_≡_, sym}
 use borrow.Author.Tests.{eq-eqb, ne-eqb}
 use Rattle.ground.specs.Pick.{yes, no}
-use Rattle.request.specs.declared.Target.{Target}
-use Rattle.request.specs.Deed.{elsewhereBy}
+use Rattle.setup.specs.declared.Target.{Target}
+use Rattle.request.specs.Request.{elsewhereBy}
 use Rattle.request.proofs.elsewhere.Statement.{statement}
 use Rattle.request.proofs.elsewhere.Tie as tie
 
+-- one law for each way out
 module _ (g : Target) (m : ℕ) where
   other : (g .interface ≡ m → ⊥) → 32 ≡ elsewhereBy g m
   unfolding elsewhereBy

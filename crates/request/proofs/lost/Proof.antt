@@ -1,24 +1,25 @@
--- By the test.
+-- 31 and 32 come before.
 use borrow.Author.Needs.{needs}
 use Prim.Native.Nat.{ℕ}
 use mathlib.Core.Path.{_≡_, sym, _∙_}
 use borrow.Author.Tests.{eq-eqb, ne-eqb}
 use Rattle.ground.specs.Pick.{yes, no}
-use Rattle.request.specs.declared.Asked.{Asked}
-use Rattle.request.specs.Deed.{barredBy, lostBy}
+use Rattle.setup.specs.declared.Asked.{Asked}
+use Rattle.request.specs.Request.{barredBy, lostBy}
 use Rattle.request.proofs.lost.Statement.{statement}
 use Rattle.request.proofs.lost.Tie as tie
 
+-- one law for each way out
 module _ (k : Asked) (m n x : ℕ) (e : x ≡ barredBy k m) where
   barred : (x ≡ 0 → ⊥) → x ≡ lostBy k m n
   unfolding lostBy
   barred h = e ∙ sym (no _ _ (ne-eqb _ _ (λ q. h (e ∙ q))))
 
-  free : x ≡ 0 → n ≡ lostBy k m n
+  other : x ≡ 0 → n ≡ lostBy k m n
   unfolding lostBy
-  free h = sym (yes _ _ (eq-eqb _ _ (sym e ∙ h)))
+  other h = sym (yes _ _ (eq-eqb _ _ (sym e ∙ h)))
 
-ruleset laws = (barred, free, needs)
+ruleset laws = (barred, other, needs)
 
 bar-requires : tie.Need-bar-requires
 bar-requires c κs = search laws

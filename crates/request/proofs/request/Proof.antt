@@ -1,104 +1,146 @@
--- One law for each answer of the search: 30, a refusal of what is not there, or what is done at the control's place.
+-- One law for each answer of the search: 30, a refusal of what is not there, or what is done at the control's index.
 use borrow.Author.Needs.{needs}
 use Prim.Native.Nat.{ℕ}
-use mathlib.Core.Path.{_≡_, refl, sym, ap, _∙_}
-use mathlib.Core.List.{List}
-use mathlib.Core.Bool.{true, false}
-use native.Mathlib.Omega.{arith}
+use mathlib.Core.Path.{_≡_, refl, sym, ap, _∙_, subst}
+use mathlib.Core.List.{List, [], _∷_}
+use mathlib.Core.Bool.{Bool, true, false}
+use mathlib.Core.Logic.{⊎-elim}
+use lib.Dec.{eqb}
 use lib.ListN.{length}
-use Rattle.ground.specs.Pick.{yes, no}
+use borrow.Author.Tests.{eq-eqb, ne-eqb}
+use Rattle.ground.specs.Pick.{pick, yes, no, decided, reads-eq}
 use Rattle.table.specs.declared.Control.{Control}
 use Rattle.table.specs.declared.Table.{Table}
-use Rattle.table.specs.declared.Lookup.{Lookup}
-use Rattle.table.specs.declared.Lookup.the-variants as lookup
+use Rattle.table.specs.declared.Found.{Found}
+use Rattle.table.specs.declared.Found.the-variants as found
 use Rattle.table.specs.declared.Sought.{Sought}
 use Rattle.table.specs.declared.Sought.the-variants as sought
 use Rattle.table.specs.Controls.{at}
-use Rattle.table.specs.First.{lookedUp}
+use Rattle.table.specs.First.{foundIn}
 use Rattle.table.specs.Sound.{soundOf}
-use Rattle.table.specs.Sought.{soughtIn, Standing, against, no-unit, no-control, stands, standing}
+use Rattle.table.specs.Sought.{soughtIn}
+use Rattle.setup.specs.declared.Target.{Target}
+use Rattle.setup.specs.declared.Part.{Part}
+use Rattle.setup.specs.declared.Asked.{Asked}
+use Rattle.setup.specs.declared.Asked.the-variants as asks
+use Rattle.setup.specs.Setup.{askedOf, targetIn}
+use Rattle.deed.specs.declared.Deed.{Deed}
+use Rattle.deed.specs.Doing.{Doing, bytesIn, laid, deedOf, OfOne, denies, of-either, Done}
+use Rattle.deed.specs.Doing.Doing.{denied, given, changed}
+use Rattle.answers.specs.AnswersLaws.{set-of-one, get-of-one}
+use Rattle.request.specs.declared.State.{State}
 use Rattle.request.specs.declared.Answer.{Answer}
-use Rattle.request.specs.declared.Deed.{Deed}
-use Rattle.request.specs.declared.Target.{Target}
-use Rattle.request.specs.declared.Asked.{Asked}
-use Rattle.request.specs.Outcome.{Outcome, Answered}
+use Rattle.request.specs.Outcome.{Outcome, bytesOf, answerOf, refusal, deedAnswer, Answered}
 use Rattle.request.specs.Outcome.Outcome.{refused}
-use Rattle.request.specs.Request.{placeOf, askedOf, answerAsked, requestOf}
-use Rattle.request.specs.Deed.{deedAnswer, askedFor, lostBy, ActOn}
-use Rattle.request.proofs.Outcomes.{refusal, refuses-all, hands-all-on}
-use Rattle.request.proofs.Barred.{lost-asked}
+use Rattle.request.specs.Addressed.{placesOf, outcomeAt}
+use Rattle.request.specs.Request.{barredBy, missedBy, lostBy, doingOf, actOf, doneAt, answerAsked, requestOf}
+use Rattle.request.proofs.Found.{There, Missed, is-unsound, is-missed-unit, is-missed-control, is-there}
+use Rattle.request.proofs.Stored.{done-answer, refuses}
 use Rattle.request.proofs.request.Statement.{statement}
 use Rattle.request.proofs.request.Tie as tie
 
--- what each answer of the search says
-record Stands (t : Table) (u ch s p : ℕ) (c : Control) : Type 0 where
-  sound : soundOf t ≡ true
-  found : lookedUp t u ch s ≡ lookup.At p
-  control : c ≡ at t p
+doing-of-one : (k : Asked) (d : List ℕ) (room : ℕ) (c : Control) → OfOne (doingOf k d room (c ∷ []))
+doing-of-one asks.Unknown d room c = denies
+doing-of-one (asks.Set g) d room c = set-of-one c (g .bytes) d
+doing-of-one (asks.Get part g) d room c = get-of-one c part (g .bytes) room
 
-module _ (t : Table) (u ch s : ℕ) where
-  is-unsound : {r : Sought} → Standing t u ch s r → r ≡ sought.Unsound → soundOf t ≡ false
-  is-unsound (against h) e = h
-  is-unsound (no-unit h f) e = absurd (let z : _≡_ {A = ℕ} 0 1 = cc in omega arith)
-  is-unsound (no-control h f) e = absurd (let z : _≡_ {A = ℕ} 0 1 = cc in omega arith)
-  is-unsound (stands h f) e = absurd (let z : _≡_ {A = ℕ} 0 1 = cc in omega arith)
+act-of-one : (k : Asked) (m : ℕ) (d : List ℕ) (room : ℕ) (c : Control) → OfOne (actOf k m d room (c ∷ []))
+unfolding actOf
+act-of-one k m d room c = of-either (eqb (barredBy k m) 0) _ _ (doing-of-one k d room c) denies
 
-  is-no-unit : {r : Sought} → Standing t u ch s r → r ≡ sought.NoUnit → (soundOf t ≡ true) × (lookedUp t u ch s ≡ lookup.NoUnit)
-  is-no-unit (against h) e = absurd (let z : _≡_ {A = ℕ} 0 1 = cc in omega arith)
-  is-no-unit (no-unit h f) e = (h, f)
-  is-no-unit (no-control h f) e = absurd (let z : _≡_ {A = ℕ} 0 1 = cc in omega arith)
-  is-no-unit (stands h f) e = absurd (let z : _≡_ {A = ℕ} 0 1 = cc in omega arith)
+-- the bytes that are written are those of what is done
+same-bytes : (t : Table) (ps : List ℕ) (o : Doing) → bytesOf (outcomeAt t ps o) ≡ bytesIn o
+same-bytes t ps (denied n) = refl
+same-bytes t ps (given bytes) = refl
+same-bytes t ps (changed cs) = refl
 
-  is-no-control : {r : Sought} → Standing t u ch s r → r ≡ sought.NoControl → (soundOf t ≡ true) × (lookedUp t u ch s ≡ lookup.NoControl)
-  is-no-control (against h) e = absurd (let z : _≡_ {A = ℕ} 0 1 = cc in omega arith)
-  is-no-control (no-unit h f) e = absurd (let z : _≡_ {A = ℕ} 0 1 = cc in omega arith)
-  is-no-control (no-control h f) e = (h, f)
-  is-no-control (stands h f) e = absurd (let z : _≡_ {A = ℕ} 0 1 = cc in omega arith)
+module _ (st : State) (k : Asked) (d : List ℕ) (room : ℕ) where
+  abbrev unit : ℕ
+  unit = targetIn k .unit
 
-  is-there : {r : Sought} (p : ℕ) (c : Control) → Standing t u ch s r → r ≡ sought.At p c → Stands t u ch s p c
-  is-there p c (against h) e = absurd (let z : _≡_ {A = ℕ} 0 1 = cc in omega arith)
-  is-there p c (no-unit h f) e = absurd (let z : _≡_ {A = ℕ} 0 1 = cc in omega arith)
-  is-there p c (no-control h f) e = absurd (let z : _≡_ {A = ℕ} 0 1 = cc in omega arith)
-  is-there p c (stands {p = q} h f) e =
-      let i : q ≡ p = cc in
-      let j : at t q ≡ c = cc in
-      record { sound = h; found = f ∙ ap lookup.At i; control = sym j ∙ ap (at t) i }
+  abbrev where-is : Found
+  where-is = foundIn (st .table) unit (targetIn k .channel) (targetIn k .selector)
 
-module _ (t : Table) (n : ℕ) (s d b : List ℕ) (r : Answer) (k : Asked) (f : k ≡ askedOf s) (g : Target) (j : g ≡ askedFor k) (o : Sought)
-    (e : o ≡ soughtIn t (g .unit) (g .channel) (g .selector)) where
-  asked : soundOf t ≡ true → requestOf t n s d (length b) ≡ answerAsked t n k d (length b)
+  -- where no control is addressed
+  lost-asked : (b : Bool) → Missed (st .table) unit (targetIn k .channel) (targetIn k .selector) b → (x : ℕ) → x ≡ lostBy k (st .control) (pick b 34 33)
+      → answerAsked st k d room ≡ refused x
+  unfolding answerAsked doneAt lostBy
+  lost-asked b h x e =
+      ⊎-elim
+      (λ (z : barredBy k (st .control) ≡ 0).
+      yes _ _ (eq-eqb _ _ z)
+      ∙ ap (λ (f : Found). doneAt (st .table) unit (placesOf f) (doingOf k d room)) (h .none)
+      ∙ ap (λ (y : Bool). refused (pick y 34 33)) (h .unit)
+      ∙ ap refused (sym (e ∙ yes _ _ (eq-eqb _ _ z))))
+      (λ (z : barredBy k (st .control) ≡ 0 → ⊥). no _ _ (ne-eqb _ _ z) ∙ ap refused (sym (e ∙ no _ _ (ne-eqb _ _ z))))
+      (decided (eqb (barredBy k (st .control)) 0) (reads-eq (barredBy k (st .control)) 0))
+
+  -- where one is
+  one-asked : (p : ℕ) → where-is ≡ found.At p → answerAsked st k d room ≡ outcomeAt (st .table) (p ∷ []) (actOf k (st .control) d room (at (st .table) p ∷ []))
+  unfolding answerAsked doneAt actOf
+  one-asked p f =
+      ⊎-elim
+      (λ (z : barredBy k (st .control) ≡ 0).
+      yes _ _ (eq-eqb _ _ z)
+      ∙ ap (λ (x : Found). doneAt (st .table) unit (placesOf x) (doingOf k d room)) f
+      ∙ ap (outcomeAt (st .table) (p ∷ [])) (sym (yes (doingOf k d room (at (st .table) p ∷ [])) (denied (barredBy k (st .control))) (eq-eqb _ _ z))))
+      (λ (z : barredBy k (st .control) ≡ 0 → ⊥).
+      no _ _ (ne-eqb _ _ z)
+      ∙ ap (outcomeAt (st .table) (p ∷ [])) (sym (no (doingOf k d room (at (st .table) p ∷ [])) (denied (barredBy k (st .control))) (ne-eqb _ _ z))))
+      (decided (eqb (barredBy k (st .control)) 0) (reads-eq (barredBy k (st .control)) 0))
+
+-- one law for each way out
+module _ (st : State) (s d b : List ℕ) (r : Answer) (k : Asked) (f : k ≡ askedOf s) (g : Target) (j : g ≡ targetIn k) (o : Sought)
+    (e : o ≡ soughtIn (st .table) (g .unit) (g .channel) (g .selector)) where
+  abbrev Told : List ℕ → Type 0
+  Told a = Answered st (requestOf st s d (length b)) b r a
+
+  asked : soundOf (st .table) ≡ true → requestOf st s d (length b) ≡ answerAsked st k d (length b)
   unfolding requestOf
-  asked h = yes _ _ h ∙ ap (λ (x : Asked). answerAsked t n x d (length b)) (sym f)
+  asked h = yes _ _ h ∙ ap (λ (x : Asked). answerAsked st x d (length b)) (sym f)
 
-  seen : (q : Sought) → o ≡ q → Standing t (askedFor k .unit) (askedFor k .channel) (askedFor k .selector) q
-  seen q h = rw (← h, e, j) (standing t (askedFor k .unit) (askedFor k .channel) (askedFor k .selector))
+  seen : o ≡ soughtIn (st .table) (targetIn k .unit) (targetIn k .channel) (targetIn k .selector)
+  seen = rw (← j) e
 
-  unsound : o ≡ sought.Unsound → r ≡ refusal t 30 → Answered t (requestOf t n s d (length b)) b r b
+  refuses-all : (n : ℕ) → requestOf st s d (length b) ≡ refused n → r ≡ refusal st n → Told b
+  refuses-all n h q = record { result = refuses st _ r n h q; lent = ap (λ (x : Outcome). laid (bytesOf x) b) (sym h) }
+
+  unsound : o ≡ sought.Unsound → r ≡ refusal st 30 → Told b
   unfolding requestOf
-  unsound h = refuses-all 30 (no _ _ (is-unsound t _ _ _ (seen sought.Unsound h) refl))
+  unsound h = refuses-all 30 (no _ _ (is-unsound (st .table) _ _ _ o seen h))
 
-  lost-unit : o ≡ sought.NoUnit → (x : ℕ) → x ≡ lostBy k n 33 → r ≡ refusal t x → Answered t (requestOf t n s d (length b)) b r b
-  unfolding placeOf
+  lost-unit : o ≡ sought.NoUnit → (x : ℕ) → x ≡ lostBy k (st .control) 33 → r ≡ refusal st x → Told b
   lost-unit h x q =
-      let w = is-no-unit t _ _ _ (seen sought.NoUnit h) refl in
-      refuses-all x (asked (w .0) ∙ lost-asked t n d (length b) lookup.NoUnit 33 refl k (w .1) x q)
+      let m = is-missed-unit (st .table) _ _ _ o seen h in refuses-all x (asked (m .sound) ∙ lost-asked st k d (length b) false m x q)
 
-  lost-control : o ≡ sought.NoControl → (x : ℕ) → x ≡ lostBy k n 34 → r ≡ refusal t x → Answered t (requestOf t n s d (length b)) b r b
-  unfolding placeOf
+  lost-control : o ≡ sought.NoControl → (x : ℕ) → x ≡ lostBy k (st .control) 34 → r ≡ refusal st x → Told b
   lost-control h x q =
-      let w = is-no-control t _ _ _ (seen sought.NoControl h) refl in
-      refuses-all x (asked (w .0) ∙ lost-asked t n d (length b) lookup.NoControl 34 refl k (w .1) x q)
+      let m = is-missed-control (st .table) _ _ _ o seen h in refuses-all x (asked (m .sound) ∙ lost-asked st k d (length b) true m x q)
 
-  there : (p : ℕ) (c : Control) → o ≡ sought.At p c → (v : Deed) (after : List ℕ) → ActOn k n c d b v after → r ≡ deedAnswer t p v
-      → Answered t (requestOf t n s d (length b)) b r after
-  there p c h v after a q =
-      let w = is-there t _ _ _ p c (seen (sought.At p c) h) refl in
-      hands-all-on (answerAsked t n k d (length b)) (asked (w .sound)) (rw q (a .does t p (w .control) (w .found)))
+  there : (p : ℕ) (c : Control) → o ≡ sought.At p c → (v : Deed) (a : List ℕ)
+      → Done c (actOf k (st .control) d (length b) (c ∷ [])) b v a → r ≡ deedAnswer st p v → Told a
+  there p c h v a y q = record {
+    result =
+        q
+        ∙ ap (deedAnswer st p) (y .result ∙ ap (λ (x : Control). deedOf x (actOf k (st .control) d (length b) (x ∷ []))) (m .control))
+        ∙ done-answer st p _ (act-of-one k (st .control) d (length b) (at (st .table) p))
+        ∙ sym (ap (answerOf st) comes);
+    lent =
+        y .lent
+        ∙ ap (λ (x : Control). laid (bytesIn (actOf k (st .control) d (length b) (x ∷ []))) b) (m .control)
+        ∙ ap (λ (x : List ℕ). laid x b) (sym (ap bytesOf comes ∙ same-bytes (st .table) (p ∷ []) (actOf k (st .control) d (length b) (at (st .table) p ∷ []))));
+  }
+    where
+      m : There (st .table) (targetIn k .unit) (targetIn k .channel) (targetIn k .selector) p c
+      m = is-there (st .table) _ _ _ o seen p c h
+
+      comes : requestOf st s d (length b) ≡ outcomeAt (st .table) (p ∷ []) (actOf k (st .control) d (length b) (at (st .table) p ∷ []))
+      comes = asked (m .sound) ∙ one-asked st k d (length b) p (m .found)
 
 ruleset laws = (unsound, lost-unit, lost-control, there, needs)
 
-read-setup-requires : tie.Need-read-setup-requires
-read-setup-requires c κs = search laws
+read-requires : tie.Need-read-requires
+read-requires c κs = search laws
 
 target-of-requires : tie.Need-target-of-requires
 target-of-requires c κs = search laws
@@ -130,8 +172,8 @@ lost-requires-2 c κs = search laws
 refused-requires-3 : tie.Need-refused-requires-3
 refused-requires-3 c κs = search laws
 
-enum-known-place : tie.Need-enum-known-place
-enum-known-place c = search laws
+enum-known-index : tie.Need-enum-known-index
+enum-known-index c = search laws
 
 act-requires : tie.Need-act-requires
 act-requires c κs = search laws
@@ -158,7 +200,7 @@ pub request-spec : {M : Type 1} → statement M
 request-spec =
     tie.close
     (tie.spec
-    read-setup-requires
+    read-requires
     target-of-requires
     seek-requires
     enum-told
@@ -169,7 +211,7 @@ request-spec =
     enum-told-3
     lost-requires-2
     refused-requires-3
-    enum-known-place
+    enum-known-index
     act-requires
     done-requires
     returns

@@ -1,0 +1,68 @@
+-- A Set and a Get of the controls that they address, in their order: rows 35 to 39, each of the whole list.
+--   heldBy c, sizeIn c     ==  what the control holds, and how many bytes its value has; sizesOf cs: those of all together
+--   sentTo c d, restOf c d ==  the number that is sent to the first of the controls, c; the data of those behind it
+--   allTake cs d           ==  each control takes the number that is sent to it
+--   allSet cs d            ==  each control with what is stored for that number
+--   blockOf part cs        ==  the bytes of that part of each control, one after another, each at its size
+--   misfits cs n d         ==  37, of a Set: "wLength is not the control's size, or Set data is not that long"
+--   setOf cs n d           ==  36, 37, 38, or the controls as the Set leaves them; n is wLength
+--   getOf part cs n room   ==  35, 36, 37, 39: "reply buffer too short", or the bytes; room is the reply's length
+use Prim.Native.Nat.{ℕ, _+_}
+use mathlib.Core.List.{List, [], _∷_, _++_}
+use mathlib.Core.Bool.{Bool, true, not, _&&_, _||_}
+use lib.Dec.{eqb, ltb}
+use lib.ListN.{length, take, drop}
+use Rattle.ground.specs.Pick.{pick}
+use Rattle.ground.specs.Lists.{any}
+use Rattle.table.specs.declared.Control.{Control}
+use Rattle.table.specs.declared.Sense.{Sense}
+use Rattle.table.specs.Controls.{senseOf, sizeOf}
+use Rattle.setup.specs.declared.Part.{Part}
+use Rattle.deed.specs.Doing.{Doing, lowFirst}
+use Rattle.deed.specs.Doing.Doing.{denied, given, changed}
+use Rattle.answers.specs.Held.{lacking, partOf, unready, valueIn, takes, storedFor, withCur}
+
+abbrev pub heldBy : Control → Sense
+heldBy c = senseOf (c .selector)
+
+abbrev pub sizeIn : Control → ℕ
+sizeIn c = sizeOf (heldBy c)
+
+unfoldable pub sizesOf : List Control → ℕ
+sizesOf [] = 0
+sizesOf (c ∷ cs) = sizeIn c + sizesOf cs
+
+abbrev pub sentTo : Control → List ℕ → ℕ
+sentTo c d = valueIn (take (sizeIn c) d)
+
+abbrev pub restOf : Control → List ℕ → List ℕ
+restOf c d = drop (sizeIn c) d
+
+unfoldable pub allTake : List Control → List ℕ → Bool
+allTake [] d = true
+allTake (c ∷ cs) d = takes (heldBy c) c (sentTo c d) && allTake cs (restOf c d)
+
+unfoldable pub allSet : List Control → List ℕ → List Control
+allSet [] d = []
+allSet (c ∷ cs) d = withCur (storedFor (heldBy c) c (sentTo c d)) c ∷ allSet cs (restOf c d)
+
+unfoldable pub blockOf : Part → List Control → List ℕ
+blockOf part [] = []
+blockOf part (c ∷ cs) = lowFirst (sizeIn c) (partOf part c) ++ blockOf part cs
+
+abbrev pub misfits : List Control → ℕ → List ℕ → Bool
+misfits cs n d = not (eqb n (sizesOf cs)) || not (eqb (length d) (sizesOf cs))
+
+unfoldable pub setOf : List Control → ℕ → List ℕ → Doing
+setOf cs n d =
+    pick (any (λ c. unready (heldBy c) c) cs) (denied 36)
+    (pick (misfits cs n d) (denied 37)
+    (pick (allTake cs d) (changed (allSet cs d)) (denied 38)))
+
+unfoldable pub getOf : Part → List Control → ℕ → ℕ → Doing
+getOf part cs n room =
+    pick (any (λ c. lacking (heldBy c) part) cs) (denied 35)
+    (pick (any (λ c. unready (heldBy c) c) cs) (denied 36)
+    (pick (not (eqb n (sizesOf cs))) (denied 37)
+    (pick (ltb room (sizesOf cs)) (denied 39)
+    (given (blockOf part cs)))))

@@ -1,0 +1,63 @@
+-- A Set and a Get of one control: the rows as the code tries them.
+--   setOne, getOne       ==  the same tests, of the one control
+--   set-one, get-one     ==  a list of one is answered so
+--   set-of-one, get-of-one  ==  .. and what is done is what may be done at one control; set-silent: a Set writes nothing
+use Prim.Native.Nat.{ℕ}
+use mathlib.Core.Path.{_≡_, refl, ap, _∙_}
+use mathlib.Core.List.{List, [], _∷_, append-nil}
+use mathlib.Core.Bool.{Bool, true, false, not, or-false, and-true, _||_}
+use native.Mathlib.Nat.{add-zero}
+use lib.Dec.{eqb, ltb}
+use lib.ListN.{length, take}
+use Rattle.ground.specs.Pick.{pick}
+use Rattle.ground.specs.Lists.{any}
+use Rattle.table.specs.declared.Control.{Control}
+use Rattle.setup.specs.declared.Part.{Part}
+use Rattle.deed.specs.Doing.{Doing, bytesIn, lowFirst, OfOne, denies, gives, changes, of-either}
+use Rattle.deed.specs.Doing.Doing.{denied, given, changed}
+use Rattle.answers.specs.Held.{lacking, partOf, unready, takes, storedFor, withCur}
+use Rattle.answers.specs.Answers.{heldBy, sizeIn, sizesOf, sentTo, allTake, allSet, blockOf, misfits, setOf, getOf}
+
+module _ (c : Control) where
+  abbrev pub setOne : ℕ → List ℕ → Doing
+  setOne n d =
+      pick (unready (heldBy c) c) (denied 36)
+      (pick (not (eqb n (sizeIn c)) || not (eqb (length d) (sizeIn c))) (denied 37)
+      (pick (takes (heldBy c) c (sentTo c d)) (changed (withCur (storedFor (heldBy c) c (sentTo c d)) c ∷ [])) (denied 38)))
+
+  pub set-one : (n : ℕ) (d : List ℕ) → setOf (c ∷ []) n d ≡ setOne n d
+  unfolding setOf any sizesOf allTake allSet
+  set-one n d = rw (or-false (unready (heldBy c) c), add-zero (sizeIn c), and-true (takes (heldBy c) c (sentTo c d)))
+
+  abbrev pub getOne : Part → ℕ → ℕ → Doing
+  getOne part n room =
+      pick (lacking (heldBy c) part) (denied 35)
+      (pick (unready (heldBy c) c) (denied 36)
+      (pick (not (eqb n (sizeIn c))) (denied 37)
+      (pick (ltb room (sizeIn c)) (denied 39)
+      (given (lowFirst (sizeIn c) (partOf part c))))))
+
+  pub get-one : (part : Part) (n room : ℕ) → getOf part (c ∷ []) n room ≡ getOne part n room
+  unfolding getOf any sizesOf blockOf
+  get-one part n room = rw (or-false (lacking (heldBy c) part), or-false (unready (heldBy c) c), add-zero (sizeIn c), append-nil (lowFirst (sizeIn c) (partOf part c)))
+
+  pub set-of-one : (n : ℕ) (d : List ℕ) → OfOne (setOf (c ∷ []) n d)
+  set-of-one n d =
+      rw (set-one n d)
+      (of-either (unready (heldBy c) c) _ _ denies
+      (of-either (not (eqb n (sizeIn c)) || not (eqb (length d) (sizeIn c))) _ _ denies (of-either (takes (heldBy c) c (sentTo c d)) _ _ changes denies)))
+
+  pub get-of-one : (part : Part) (n room : ℕ) → OfOne (getOf part (c ∷ []) n room)
+  get-of-one part n room =
+      rw (get-one part n room)
+      (of-either (lacking (heldBy c) part) _ _ denies
+      (of-either (unready (heldBy c) c) _ _ denies
+      (of-either (not (eqb n (sizeIn c))) _ _ denies (of-either (ltb room (sizeIn c)) _ _ denies gives))))
+
+silent : (b : Bool) (o q : Doing) → bytesIn o ≡ [] → bytesIn q ≡ [] → bytesIn (pick b o q) ≡ []
+silent true o q e f = e
+silent false o q e f = f
+
+pub set-silent : (cs : List Control) (n : ℕ) (d : List ℕ) → bytesIn (setOf cs n d) ≡ []
+unfolding setOf
+set-silent cs n d = silent (any (λ c. unready (heldBy c) c) cs) _ _ refl (silent (misfits cs n d) _ _ refl (silent (allTake cs d) _ _ refl refl))

@@ -1,0 +1,62 @@
+-- What a load or a request does at the controls that it is about, and how the code tells it of one control.
+--   Doing            ==  denied n: refusal n; given bytes: a Get answered with these bytes; changed cs: the controls, in the same order,
+--                        as a load or a Set leaves them
+--   bytesIn o        ==  the bytes written: "An accepted Get writes its bytes", and nothing else writes any
+--   laid bytes b     ==  the buffer b with the bytes at its front
+--   lowFirst n x     ==  the n bytes of the number x, "low first"; low-first-long: so many they are
+--   idleDeed n c     ==  number n, no byte written, and the control c
+--   deedOf c o       ==  what is told of the one control c where o is done
+--   OfOne o          ==  o is what may be done at one control; of-either: so is a choice between two such
+--   Done c o b r a   ==  r tells it, and b, the reply at entry, is a at exit
+use Prim.Native.Nat.{ℕ, zero, suc, _%_, _/_}
+use mathlib.Core.Path.{_≡_, refl, ap}
+use mathlib.Core.List.{List, [], _∷_, _++_}
+use mathlib.Core.Bool.{Bool, true, false}
+use lib.ListN.{length, drop}
+use Rattle.ground.specs.Pick.{pick}
+use Rattle.table.specs.declared.Control.{Control}
+use Rattle.deed.specs.declared.Deed.{Deed}
+
+pub data Doing : Type 0 where
+  denied : ℕ → Doing
+  given : List ℕ → Doing
+  changed : List Control → Doing
+
+abbrev pub bytesIn : Doing → List ℕ
+bytesIn (denied n) = []
+bytesIn (given bytes) = bytes
+bytesIn (changed cs) = []
+
+abbrev pub laid : List ℕ → List ℕ → List ℕ
+laid bytes b = bytes ++ drop (length bytes) b
+
+unfoldable pub lowFirst : ℕ → ℕ → List ℕ
+lowFirst zero x = []
+lowFirst (suc n) x = x % 256 ∷ lowFirst n (x / 256)
+
+pub low-first-long : (n x : ℕ) → length (lowFirst n x) ≡ n
+unfolding lowFirst
+low-first-long zero x = refl
+low-first-long (suc n) x = ap suc (low-first-long n _)
+
+abbrev pub idleDeed : ℕ → Control → Deed
+idleDeed n c = record { number = n; written = 0; control = c }
+
+abbrev pub deedOf : Control → Doing → Deed
+deedOf c (denied n) = idleDeed n c
+deedOf c (given bytes) = record { number = 0; written = length bytes; control = c }
+deedOf c (changed []) = idleDeed 0 c
+deedOf c (changed (e ∷ cs)) = idleDeed 0 e
+
+pub data OfOne : Doing → Type 0 where
+  denies : {n : ℕ} → OfOne (denied n)
+  gives : {bytes : List ℕ} → OfOne (given bytes)
+  changes : {c : Control} → OfOne (changed (c ∷ []))
+
+pub of-either : (b : Bool) (o q : Doing) → OfOne o → OfOne q → OfOne (pick b o q)
+of-either true o q a b = a
+of-either false o q a b = b
+
+pub record Done (c : Control) (o : Doing) (b : List ℕ) (r : Deed) (a : List ℕ) : Type 0 where
+  pub result : r ≡ deedOf c o
+  pub lent : a ≡ laid (bytesIn o) b

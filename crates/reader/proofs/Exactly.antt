@@ -1,0 +1,171 @@
+-- The reader gives exactly the first row of the papers' table that applies, at exactly its place.
+--   shown-rows              ==  the bytes are a configuration, and its records have room: all sixteen rules are kept
+--   clusters-on, controls-on  ==  what the reader has at an entity's index is the cluster on its ID; its controls are those of the descriptors
+--   reads-room              ==  the test of room decides rule 16
+--   first-by-place          ==  the first offender's place is the lowest of all offenders' places
+--   accepted-exactly, refused-exactly  ==  THE THEOREMS, for every configuration and every room
+use Prim.Native.Nat.{ℕ, _+_, _*_, _≤_, _<_}
+use mathlib.Core.Path.{_≡_, refl, sym, ap, _∙_}
+use mathlib.Core.List.{List, []}
+use mathlib.Core.Logic.{⊎-elim, _↔_}
+use lib.ListN.{length, getD, take}
+use lib.Dec.{eqb, ltb}
+use native.Mathlib.Omega.{arith}
+use Rattle.ground.specs.declared.Refusal.{Refusal}
+use Rattle.ground.specs.Refuse.{none, keptAt}
+use Rattle.ground.specs.Rows.{Rows, end, row, AllKept, FirstBroken, Numbered, Answers, Decides, kept-decides, answers-kept, answers-broken}
+use Rattle.ground.specs.Pick.{Reads, decided, reads-eq, reads-lt, reads-le}
+use Rattle.ground.specs.Lists.{total}
+use Rattle.ground.specs.First.{Breaks}
+use Rattle.ground.specs.Places.{FirstPlace}
+use Rattle.layout.specs.declared.Cluster.{Cluster}
+use Rattle.layout.specs.Layout.{noCluster}
+use Rattle.edition.specs.Edition.{ownId}
+use Rattle.edition.specs.Audio.{audio}
+use Rattle.entities.specs.Run.{held, placeAt}
+use Rattle.entities.specs.Represents.{Represents}
+use Rattle.entities.specs.RepresentsLaws.{breaks-of, places-rise}
+use Rattle.cutting.specs.declared.Survey.{Survey}
+use Rattle.cutting.specs.Rules.{headerPlace, Kept, BrokenAt, cuttingRows}
+use Rattle.cutting.specs.Survey.{surveyOf}
+use Rattle.cutting.specs.Exact.{cutting-answers, cutting-numbered, all-nine, nine-kept}
+use Rattle.sources.specs.Rules.{Rule10, Rule11}
+use Rattle.sources.specs.OwnIds.{own-ids, distinct-ids}
+use Rattle.ranks.specs.Rules.{Rule12}
+use Rattle.clusters.specs.Rules.{Rule13, Connected}
+use Rattle.clusters.specs.Topology.{clusters-shown}
+use Rattle.connections.specs.JudgementLaws.{connectedRows, connected-with, connected-kept, judged-answers}
+use Rattle.streaming.specs.Rule.{Breaks14}
+use Rattle.streaming.specs.Terminals.{terminalsOf}
+use Rattle.streaming.specs.Tests.{breach14}
+use Rattle.streaming.specs.Standing.{terminals-are, one-each}
+use Rattle.streaming.specs.Breaches.{rule14-kept, rule14-broken}
+use Rattle.controls.specs.Controls.{controlsOf, controlsOfRun, breach15}
+use Rattle.controls.specs.Growth.{tableOf}
+use Rattle.controls.specs.Rule.{rule15-kept, rule15-broken}
+use Rattle.controls.specs.Reader.{controls-same}
+use Rattle.records.specs.Records.{recordSize, roomFor}
+use Rattle.topology.specs.Reading.{clustersAt, tableFor, restJudged, surveyJudged, judgedThen, roomJudged, verdictOf}
+use Rattle.reader.proofs.Surveyed.{entitiesOf, keptSurvey, survey-kept, run-cut, represented}
+use Rattle.reader.specs.Configuration.{runOf, placeOfRun, Streams, FewControls, Rule16}
+use Rattle.reader.specs.Refusals.{runRows, keptRows, tableOfRows, Refused, Shown}
+
+module _ (s : List ℕ) (k : Kept s) where
+  pub clusters-on : (c : Connected audio (runOf k)) (i : ℕ) → i < length (runOf k) → getD (clustersAt s (keptSurvey k)) i noCluster ≡ c .cluster (ownId (getD (runOf k) i []))
+  clusters-on c = clusters-shown (represented s k) c
+
+  pub reads-room : (room : ℕ) → Reads (roomFor (entitiesOf k) room) (Rule16 (runOf k) room)
+  unfolding roomFor
+  reads-room room = rw (← (represented s k .counted)) (reads-le (held (entitiesOf k) * recordSize) room)
+
+  pub controls-on : (c : Connected audio (runOf k)) → controlsOfRun s (entitiesOf k) (clustersAt s (keptSurvey k)) ≡ controlsOf (runOf k) (c .cluster)
+  controls-on c = controls-same (represented s k) (clustersAt s (keptSurvey k)) (c .cluster) (clusters-on c)
+
+  module _ (room : ℕ) (c : Connected audio (runOf k)) where
+    decides-14 : Decides (breach14 (terminalsOf s (entitiesOf k) (clustersAt s (keptSurvey k))) s) (Streams k (c .cluster)) (Breaks14 (runOf k) (c .cluster) (k .opened .descriptors))
+    decides-14 =
+        let all = terminals-are (represented s k) (k .rule9) (c .cluster) (clustersAt s (keptSurvey k)) (clusters-on c) in
+        let one = one-each (represented s k) (clustersAt s (keptSurvey k)) (own-ids (runOf k) (c .rule10)) in
+        let ts = terminalsOf s (entitiesOf k) (clustersAt s (keptSurvey k)) in
+        record {
+          kept = rule14-kept (runOf k) (c .cluster) ts all one s (k .opened .descriptors) (k .opened .rule3);
+          broken = rule14-broken (runOf k) (c .cluster) ts all one s (k .opened .descriptors) (k .opened .rule3);
+        }
+
+    decides-15 : Decides (breach15 (tableFor s (keptSurvey k) (clustersAt s (keptSurvey k)) .count) (headerPlace (k .opened))) (FewControls k (c .cluster)) (BrokenAt (headerPlace (k .opened)) (FewControls k (c .cluster)))
+    decides-15 = rw (controls-on c) (record {
+      kept = rule15-kept (runOf k) (c .cluster) (k .rule9) (distinct-ids (runOf k) (c .rule10)) (headerPlace (k .opened));
+      broken = rule15-broken (runOf k) (c .cluster) (k .rule9) (distinct-ids (runOf k) (c .rule10)) (headerPlace (k .opened));
+    })
+
+    run-answers : Answers (runRows k (c .cluster) room) (restJudged s (keptSurvey k) (clustersAt s (keptSurvey k)) (roomJudged (keptSurvey k) room none))
+    unfolding restJudged roomJudged
+    run-answers = (
+      _,
+      _,
+      refl,
+      decides-14,
+      λ a. (
+        _,
+        _,
+        refl,
+        decides-15,
+        λ b. (keptAt (roomFor (entitiesOf k) room) (headerPlace (k .opened)), none, refl, kept-decides (headerPlace (k .opened)) (reads-room room), λ e. refl),
+      ),
+    )
+
+  kept-answers : (room : ℕ) → Answers (keptRows k room) (surveyJudged s (keptSurvey k) (roomJudged (keptSurvey k) room none))
+  unfolding surveyJudged
+  kept-answers room =
+      judged-answers (represented s k) (λ a b c e. runRows k (e .0) room) (restJudged s (keptSurvey k) (clustersAt s (keptSurvey k)) (roomJudged (keptSurvey k) room none))
+      (λ a b c e. run-answers room (connected-with (represented s k) a b c e))
+
+  kept-numbered : (room : ℕ) → Numbered (keptRows k room)
+  kept-numbered room = (
+    λ e. omega arith,
+    λ a. (
+      λ e. omega arith,
+      λ b. (
+        λ e. omega arith,
+        λ c. (λ e. omega arith, λ x. (λ e. omega arith, λ f. (λ e. omega arith, λ g. (λ e. omega arith, λ h. tt)))),
+      ),
+    ),
+  )
+
+-- document 01 has the first offender's place: the first in the run has the lowest
+module _ (s : List ℕ) (k : Kept s) where
+  pub first-by-place : (Wrong : List (List ℕ) → List ℕ → Type 0) (p : ℕ) → Breaks Wrong (placeOfRun k) (runOf k) p
+      → (i : ℕ) → i < length (runOf k) → Wrong (take i (runOf k)) (getD (runOf k) i []) → p ≤ placeOfRun k + total (take i (runOf k))
+  first-by-place Wrong p b i l w =
+      rw (← (r .place i l))
+      (⊎-elim
+      (λ (h : i < f .offender). absurd (f .none-before i h w))
+      (λ (h : i < f .offender → ⊥). ⊎-elim (λ (e : f .offender ≡ i). let a = f .at in rw (← e) (omega arith)) (λ (n : f .offender ≡ i → ⊥). later (omega arith)) (decided (eqb (f .offender) i) (reads-eq (f .offender) i)))
+      (decided (ltb i (f .offender)) (reads-lt i (f .offender))))
+    where
+      r : Represents audio s (placeOfRun k) (runOf k) (entitiesOf k)
+      r = represented s k
+
+      f : FirstPlace (held (entitiesOf k)) (placeAt (entitiesOf k)) (λ j. Wrong (take j (runOf k)) (getD (runOf k) j [])) p
+      f = breaks-of (represented s k) Wrong p .1 b
+
+      later : f .offender < i → p ≤ placeAt (entitiesOf k) i
+      later h =
+          let n = represented s k .counted in
+          let q = places-rise (represented s k) (λ d m. let z = run-cut s k d m .two in omega arith) (f .offender) i h (omega arith) in
+          let a = f .at in
+          omega arith
+
+module _ (s : List ℕ) (room : ℕ) where
+  answers : Answers (tableOfRows s room) (verdictOf s room)
+  unfolding verdictOf judgedThen
+  answers =
+      cutting-answers s (λ k. keptRows k room) (surveyJudged s (surveyOf s) (roomJudged (surveyOf s) room none))
+      (λ k. rw (survey-kept s k) (kept-answers s k room))
+
+  numbered : Numbered (tableOfRows s room)
+  numbered = cutting-numbered s (λ k. keptRows k room) (λ k. kept-numbered s k room)
+
+  pub shown-rows : AllKept (tableOfRows s room) ↔ Shown s room
+  shown-rows = (to, from)
+    where
+      to : AllKept (tableOfRows s room) → Shown s room
+      to h = let n = nine-kept s (λ k. keptRows k room) h in of (n .0) (n .1)
+        where
+          of : (k : Kept s) → AllKept (keptRows k room) → Shown s room
+          of k (a, (b, (c, (e, (x, (y, (z, u))))))) = (record { kept = k; connected = connected-with (represented s k) a b c e; rule14 = x; rule15 = y }, z)
+
+      from : Shown s room → AllKept (tableOfRows s room)
+      from (t, z) =
+          let c = t .connected in
+          all-nine s (λ k. keptRows k room) (t .kept)
+          (c .rule10, (c .rule11, (connected-kept (represented s (t .kept)) c, ((c .cluster, c .given-out, c .fits), (t .rule14, (t .rule15, (z, tt)))))))
+
+  -- THE THEOREMS
+  pub accepted-exactly : (verdictOf s room .number ≡ 0) ↔ Shown s room
+  accepted-exactly =
+      let a = answers-kept (tableOfRows s room) (verdictOf s room) numbered answers in
+      (λ e. shown-rows .0 (a .0 e), λ t. a .1 (shown-rows .1 t))
+
+  pub refused-exactly : (n p : ℕ) → (n ≡ 0 → ⊥) → (verdictOf s room ≡ record { number = n; place = p }) ↔ Refused s room n p
+  refused-exactly = answers-broken (tableOfRows s room) (verdictOf s room) numbered answers

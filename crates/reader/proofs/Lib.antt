@@ -1,0 +1,4 @@
+pub mod Surveyed
+pub mod Exactly
+pub mod Shows
+pub mod Tables
