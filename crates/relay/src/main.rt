@@ -5,6 +5,7 @@ ghost use mathlib.Core.Path.{_≡_};
 ghost use lib.ListN.{length};
 use libc::STDIN_FILENO;
 use libc::STDOUT_FILENO;
+use request::State;
 use table::Control;
 use table::Table;
 
@@ -19,12 +20,6 @@ const SHEET: usize = 512;
 
 // The bytes of a control in a put step.
 const PUT: usize = 13;
-
-// The box: the AudioControl number and the table of controls.
-struct State {
-    number: u8,
-    table: Table,
-}
 
 // What a step leaves: the box, and whether it was a step at all.
 struct Next {
@@ -76,7 +71,8 @@ fn bad(state: State) -> Next {
 
 fn plug_in(config: &[u8]) -> Next {
     let mut sheet = [0u8; SHEET];
-    let reading = topology::read(config, &mut sheet);
+    let plugged = request::plug_in(config, &mut sheet);
+    let reading = plugged.reading;
     if reading.number == 0 {
         say(b"accepted");
         say_next(reading.control as u64);
@@ -89,11 +85,8 @@ fn plug_in(config: &[u8]) -> Next {
         say_next(reading.place as u64);
     }
     say(b"\n");
-    let table = reading.table;
-    good(State {
-        number: reading.control,
-        table,
-    })
+    let state = plugged.state;
+    good(state)
 }
 
 fn load(state: State, body: &[u8]) -> Next {
@@ -107,8 +100,7 @@ fn load(state: State, body: &[u8]) -> Next {
     let max = scan::word_at(body, 5);
     let res = scan::word_at(body, 7);
     let cur = scan::word_at(body, 9);
-    let before = state.table;
-    let answer = request::load(before, unit, channel, selector, min, max, res, cur);
+    let answer = request::load(state, unit, channel, selector, min, max, res, cur);
     if answer.number == 0 {
         say(b"loaded");
     } else {
@@ -116,11 +108,8 @@ fn load(state: State, body: &[u8]) -> Next {
         say_next(answer.number as u64);
     }
     say(b"\n");
-    let table = answer.table;
-    good(State {
-        number: state.number,
-        table,
-    })
+    let after = answer.state;
+    good(after)
 }
 
 fn say_bytes(bytes: &[u8]) {
@@ -155,19 +144,15 @@ fn at_most(n: usize, most: usize) -> usize
 fn ask(state: State, room: usize, setup: &[u8], data: &[u8]) -> Next {
     let mut reply = reply_space();
     let m = at_most(room, REPLY);
-    let before = state.table;
-    let answer = request::request(before, state.number, setup, data, &mut reply[..m]);
+    let answer = request::request(state, setup, data, &mut reply[..m]);
     let is_get = scan::byte_at(setup, 0) == 0xA1;
     say_answer(
         answer.number,
         is_get,
         groups::stretch(&reply, 0, answer.written),
     );
-    let table = answer.table;
-    good(State {
-        number: state.number,
-        table,
-    })
+    let after = answer.state;
+    good(after)
 }
 
 fn ask_step(state: State, body: &[u8]) -> Next {
@@ -267,7 +252,7 @@ fn put(state: State, body: &[u8]) -> Next {
     filled.count = scan::word_at(body, 1) as usize;
     say(b"put\n");
     good(State {
-        number: scan::byte_at(body, 0),
+        control: scan::byte_at(body, 0),
         table: filled,
     })
 }
@@ -316,7 +301,7 @@ fn turn(state: State) -> Next {
 
 fn main() {
     let mut state = State {
-        number: 0,
+        control: 0,
         table: table::empty(),
     };
     // A proved loop has to end, and nothing says that a script does: it counts down from a number that no script uses up.

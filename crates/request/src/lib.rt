@@ -15,6 +15,7 @@ use setting::Range;
 use setup::Asked;
 use setup::Target;
 use table::Control;
+use table::Found;
 use table::Sought;
 use table::Table;
 use topology::Reading;
@@ -86,12 +87,16 @@ pub fn load(
 ) -> Answer
     ensures { λ r. ⌜ r ≡ answerOf state (loadOf state unit channel selector (record { min = min; max = max; res = res }) cur) ⌝ }
 {
+    if !table::sound(state.table) {
+        return refused(state, 30);
+    }
     let range = Range { min, max, res };
-    match table::seek(state.table, unit, channel, selector) {
-        Sought::Unsound => refused(state, 30),
-        Sought::NoUnit => refused(state, 20),
-        Sought::NoControl => refused(state, 20),
-        Sought::At(index, control) => done(state, index, loads::load_on(control, range, cur)),
+    match table::find(state.table, unit, channel, selector) {
+        Found::Nothing => refused(state, 20),
+        Found::At(index) => {
+            let control = table::control_at(state.table, index);
+            done(state, index, loads::load_on(control, range, cur))
+        }
     }
 }
 
