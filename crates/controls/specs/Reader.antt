@@ -1,5 +1,4 @@
 -- The reader's table, of a run with right layouts and distinct IDs that keeps rule 15.
---   InTable t x      ==  the control x stands in the table t
 --   controls-same    ==  the controls of a run as the reader has it are those of the descriptors that it stands for
 --   table-stands     ==  a control stands in the table exactly where some entity of the run carries it
 --   table-ordered    ==  of two places of the table the earlier holds the control that is Before the other
@@ -33,6 +32,7 @@ use Rattle.table.specs.declared.Table.{Table}
 use Rattle.table.specs.declared.Sense.{Sense}
 use Rattle.table.specs.declared.Sense.the-variants.{YesNo, Ranged}
 use Rattle.table.specs.Controls.{mostControls, blankControl, at, senseOf}
+use Rattle.table.specs.Keys.{InTable}
 use Rattle.table.specs.Fresh.{FreshAs, Fresh}
 use Rattle.controls.specs.Controls.{unitControl, entityControls, controlsOf, nodeControls, controlsTo, controlsOfRun}
 use Rattle.controls.specs.Growth.{tableOf}
@@ -83,11 +83,6 @@ spare-place l p h =
     (decided (ltb p mostControls) (reads-lt p mostControls))
 
 -- the control x stands at one of the places that the table counts
-pub record InTable (t : Table) (x : Control) : Type 0 where
-  pub place : ℕ
-  pub inside : place < t .count
-  pub stands : at t place ≡ x
-
 -- what a Feature Unit's control may hold
 data Held : Sense → Type 0 where
   yes-no : Held YesNo
@@ -144,13 +139,13 @@ module _ (ds : List (List ℕ)) (cluster : ℕ → Cluster) (laid : (d : List �
     where
       of : InTable (tableOf listed) x → Stands ds cluster x
       of k =
-          let e : getD listed (k .place) blankControl ≡ x = sym (at-place listed few (k .place) (k .inside)) ∙ k .stands in
-          stands-of cluster ds x (rw (← e) (member-at blankControl listed (k .place) (k .inside)))
+          let e : getD listed (k .index) blankControl ≡ x = sym (at-place listed few (k .index) (k .inside)) ∙ k .is in
+          stands-of cluster ds x (rw (← e) (member-at blankControl listed (k .index) (k .inside)))
 
       to : Stands ds cluster x → InTable (tableOf listed) x
       to h =
           let k = member-index blankControl (control-stands cluster ds laid x .1 h) in
-          record { place = k .0; inside = k .1; stands = at-place listed few (k .0) (k .1) ∙ k .2 }
+          record { index = k .0; inside = k .1; is = at-place listed few (k .0) (k .1) ∙ k .2 }
 
   -- THE LAW: the table goes by entity place, channel, selector
   pub table-ordered : (p q : ℕ) → p < q → q < tableOf listed .count → Before ds (at (tableOf listed) p) (at (tableOf listed) q)

@@ -35,11 +35,12 @@ use Rattle.clusters.specs.Rules.{Connected}
 use Rattle.clusters.specs.Topology.{clusters-one}
 use Rattle.table.specs.declared.Control.{Control}
 use Rattle.table.specs.Controls.{at}
+use Rattle.table.specs.Keys.{InTable}
 use Rattle.controls.specs.Controls.{controlsOf}
 use Rattle.controls.specs.Growth.{tableOf}
 use Rattle.controls.specs.Standing.{Stands}
 use Rattle.controls.specs.Order.{Before}
-use Rattle.controls.specs.Reader.{InTable, table-stands, table-ordered}
+use Rattle.controls.specs.Reader.{table-stands, table-ordered}
 use Rattle.records.specs.Records.{recordSize, recordIn, recordsTo, shownIn}
 use Rattle.records.specs.Sheet.{recordsOf, records-same, record-at}
 use Rattle.records.specs.Bytes.{RecordBytes, bytes-told}

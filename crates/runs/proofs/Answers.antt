@@ -1,25 +1,21 @@
--- Demand 2 over every run: a Get that is accepted after any run of loads and requests whose data are bytes, from any table that 30
--- does not turn away, answers the addressed control: CUR is the closest setting to the last accepted Set or load of that control, or
--- its first value where there was none; MIN, MAX and RES are those of its last accepted load; a yes/no and a pin are what the last
--- accepted Set made them.
+-- Demand 2, of the next step and over every run: a Get that is accepted after any run of loads and requests whose data are bytes, from
+-- any table that 30 does not turn away, answers the addressed control: CUR is the closest setting to the last accepted Set or load of
+-- that control, or its first value where there was none; MIN, MAX and RES are those of its last accepted load; a yes/no and a pin are
+-- what the last accepted Set made them.
 --   settles-one            ==  one number is settled where a number is wanted
---   CurMeans k range x v   ==  v is what CUR must be where the control holds k, has that range and x was asked last: of a ranged
---                              control the closest setting (Settles), of another x
---   Means k part c rs ns v ==  v is what a Get of that part must give, where c is the control at the start, rs are the ranges of
---                              its accepted loads since and ns the numbers of its accepted loads and Sets since
---   Answers t run s bytes  ==  the setup's second byte is the request of that part; the control that its bytes name stands at that
---                              place of the table t; and the bytes are, low first, the number that Means asks
+--   next-get, next-set, next-load  ==  an accepted Get gives, an accepted Set and an accepted load store, what the papers ask
 --   run-found              ==  every control is found where it was
---   get-got, set-done      ==  an accepted Get is one that gives bytes, an accepted Set one that leaves a table
 --   get-answers            ==  every Get that is accepted after a run is answered so
 use Prim.Native.Nat.{ℕ}
 use mathlib.Core.Path.{_≡_, refl, sym, ap, _∙_, subst}
 use mathlib.Core.List.{List, [], _∷_}
-use mathlib.Core.Bool.{false}
+use mathlib.Core.Bool.{true, false}
 use native.Mathlib.Omega.{arith}
+use lib.ListN.{length}
 use borrow.Author.Tests.{not-false}
 use Rattle.ground.specs.Pick.{shows}
 use Rattle.ground.specs.Numbers.{byte}
+use Rattle.setting.specs.Setting.{closestTo}
 use Rattle.setting.specs.Legal.{fits-reads, legal-means}
 use Rattle.setting.specs.Closest.{closest-self, closest-only}
 use Rattle.setting.specs.declared.Sort.{Sort}
@@ -29,23 +25,29 @@ use Rattle.table.specs.declared.Table.{Table}
 use Rattle.table.specs.declared.Sense.{Sense}
 use Rattle.table.specs.declared.Sense.the-variants.{Unknown, YesNo, Ranged, Pin}
 use Rattle.table.specs.declared.Found.the-variants as found
-use Rattle.table.specs.Controls.{at, senseOf, sizeOf, rangeOf}
-use Rattle.table.specs.Meaning.{SoundAs, Sound, loaded-legal, loaded-fits, loaded-setting}
-use Rattle.table.specs.Placed.{kept-found}
-use Rattle.request.specs.declared.Part.{Part}
-use Rattle.request.specs.declared.Part.the-variants.{Cur, Min, Max, Res}
-use Rattle.request.specs.declared.Target.{Target}
-use Rattle.request.specs.Outcome.{Outcome, numberOf, bytesOf, lowFirst}
+use Rattle.table.specs.Controls.{at, placed, senseOf, sizeOf, rangeOf}
+use Rattle.table.specs.Keys.{Key, whereIs}
+use Rattle.table.specs.Meaning.{SoundAs, Sound, sound-reads, loaded-legal, loaded-fits, loaded-setting}
+use Rattle.table.specs.Placed.{placed-here, placed-elsewhere, kept-found}
+use Rattle.setup.specs.declared.Part.{Part}
+use Rattle.setup.specs.declared.Part.the-variants.{Cur, Min, Max, Res}
+use Rattle.setup.specs.Setup.{AsksSet, AsksGet, codeOf}
+use Rattle.setup.specs.Asking.{set-no-get}
+use Rattle.deed.specs.Doing.{lowFirst}
+use Rattle.answers.specs.Held.{partOf, unready, valueIn, storedFor, withCur}
+use Rattle.loads.specs.Load.{loadedWith}
+use Rattle.request.specs.declared.State.{State}
+use Rattle.request.specs.Outcome.{Outcome, numberOf, bytesOf, tableAfter}
 use Rattle.request.specs.Outcome.Outcome.{refused, got, done}
-use Rattle.request.specs.Request.{targetOf, partOf, unready, requestOf}
-use Rattle.runs.specs.Runs.{Key, whereIs, Stands, keyOf, namedBy, Step, tableNext, after, rangesIn, numbersIn, told, lastOf, Settles, StandsFor, Wired}
-use Rattle.runs.specs.Rows.{AsksSet, AsksGet, codeOf}
-use Rattle.runs.proofs.Taken.{GetTaken, get-taken, set-taken}
-use Rattle.runs.proofs.Kept.{place-below, found-stands, settles-closest}
-use Rattle.runs.proofs.Moved.{Moved, whole-run, sense-at}
+use Rattle.request.specs.Load.{loadOf}
+use Rattle.request.specs.Request.{requestOf}
+use Rattle.runs.specs.Runs.{namedBy, Step, next, after, rangesIn, numbersIn, told, lastOf, Bytes, Wired}
+use Rattle.runs.specs.Promises.{Settles, CurMeans, StandsFor, GetGiven, SetStored, LoadStored, Moved, Means, Answers}
+use Rattle.runs.proofs.Taken.{GetTaken, SetTaken, LoadTaken, get-taken, set-taken, load-taken, load-not-got}
+use Rattle.runs.proofs.Kept.{load-same, place-below, place-inside, found-stands, settles-closest, sent-fits}
+use Rattle.runs.proofs.Moved.{whole-run, sense-at}
 use Rattle.runs.proofs.Alone.{alone}
-use Rattle.runs.proofs.Refusals.{Numbered, request-numbers}
-use Rattle.runs.proofs.Rows.{set-bytes, get-bytes, set-no-get}
+use Rattle.runs.proofs.Refusals.{Numbered, LoadNumber, load-30, load-20, load-21, RequestNumber, load-numbers, request-numbers}
 
 pub settles-one : (s : Sort) (range : Range) (x v w : ℕ) → Settles s range x v → Settles s range x w → v ≡ w
 settles-one s range x v w a b =
@@ -53,35 +55,134 @@ settles-one s range x v w a b =
     let f = shows (fits-reads s x) (a .asked) in
     closest-only s range l x f v (a .fits) (a .means) ∙ sym (closest-only s range l x f w (b .fits) (b .means))
 
-abbrev pub CurMeans : Sense → Range → ℕ → ℕ → Type 0
-CurMeans Unknown range x v = v ≡ x
-CurMeans YesNo range x v = v ≡ x
-CurMeans (Ranged s) range x v = Settles s range x v
-CurMeans Pin range x v = v ≡ x
+-- what is stored for a number means that number
+stored-means : (k : Sense) (c : Control) (d : List ℕ) → SoundAs k c → unready k c ≡ false → Bytes d → length d ≡ sizeOf k → CurMeans k (rangeOf c) (valueIn d) (storedFor k c (valueIn d))
+unfolding unready
+stored-means Unknown c d h r b l = refl
+stored-means YesNo c d h r b l = refl
+stored-means (Ranged s) c d h r b l =
+    settles-closest s (rangeOf c) (valueIn d) (closestTo s (rangeOf c) (valueIn d)) (loaded-legal s c (h .loaded (not-false (c .loaded) r))) (sent-fits s d b l) refl
+stored-means Pin c d h r b l = refl
 
-abbrev pub Means : Sense → Part → Control → List Range → List ℕ → ℕ → Type 0
-Means k Cur c rs ns v = CurMeans k (lastOf (rangeOf c) rs) (lastOf (c .cur) ns) v
-Means k Min c rs ns v = v ≡ lastOf (rangeOf c) rs .min
-Means k Max c rs ns v = v ≡ lastOf (rangeOf c) rs .max
-Means k Res c rs ns v = v ≡ lastOf (rangeOf c) rs .res
+module _ (st : State) where
+  abbrev t : Table
+  t = st .table
 
-pub record Answers (t : Table) (run : List Step) (s bytes : List ℕ) : Type 0 where
-  pub part : Part
-  pub code : byte s 1 ≡ codeOf part
-  pub place : ℕ
-  pub stands : Stands t (namedBy s) place
-  pub value : ℕ
-  pub given : bytes ≡ lowFirst (sizeOf (senseOf (byte s 3))) value
-  pub means : Means (senseOf (byte s 3)) part (at t place) (told (rangesIn (namedBy s)) t run) (told (numbersIn (namedBy s)) t run) value
-  pub first : told (numbersIn (namedBy s)) t run ≡ [] → value ≡ partOf part (at t place)
+  -- what is accepted is a Get with its bytes, or a Set or a load with its table
+  module _ (s d : List ℕ) (room : ℕ) where
+    no-zero : {P : Type 0} (m : ℕ) → requestOf st s d room ≡ refused m → m ≡ 0 → P
+    no-zero m e z = absurd (let k : RequestNumber m = rw e at (request-numbers st s d room) in let f = k .from in omega arith)
+
+    get-got : AsksGet s → numberOf (requestOf st s d room) ≡ 0 → (bytes : List ℕ) × (requestOf st s d room ≡ got bytes)
+    get-got a z = go (requestOf st s d room) refl z
+      where
+        go : (o : Outcome) → requestOf st s d room ≡ o → numberOf o ≡ 0 → (bytes : List ℕ) × (requestOf st s d room ≡ got bytes)
+        go (refused m) e i = no-zero m e i
+        go (got bytes) e i = (bytes, e)
+        go (done v) e i = absurd (set-no-get s (set-taken st s d room v e .asked) a)
+
+    set-done : AsksSet s → numberOf (requestOf st s d room) ≡ 0 → (v : Table) × (requestOf st s d room ≡ done v)
+    set-done a z = go (requestOf st s d room) refl z
+      where
+        go : (o : Outcome) → requestOf st s d room ≡ o → numberOf o ≡ 0 → (v : Table) × (requestOf st s d room ≡ done v)
+        go (refused m) e i = no-zero m e i
+        go (got bytes) e i = absurd (set-no-get s a (get-taken st s d room bytes e .asked))
+        go (done v) e i = (v, e)
+
+  load-done : (k : Key) (range : Range) (w : ℕ) → numberOf (loadOf st (k .unit) (k .channel) (k .selector) range w) ≡ 0
+      → (v : Table) × (loadOf st (k .unit) (k .channel) (k .selector) range w ≡ done v)
+  load-done k range w z = go (loadOf st (k .unit) (k .channel) (k .selector) range w) refl z
+    where
+      no-number : (m : ℕ) → LoadNumber m → m ≡ 0 → ⊥
+      no-number m load-30 i = omega arith
+      no-number m load-20 i = omega arith
+      no-number m load-21 i = omega arith
+
+      go : (o : Outcome) → loadOf st (k .unit) (k .channel) (k .selector) range w ≡ o → numberOf o ≡ 0 → (v : Table) × (loadOf st (k .unit) (k .channel) (k .selector) range w ≡ done v)
+      go (refused m) e i = absurd (no-number m (rw e at (load-numbers st k range w)) i)
+      go (got bytes) e i = absurd (load-not-got st k range w bytes e)
+      go (done v) e i = (v, e)
+
+  get-given : (s : List ℕ) (room : ℕ) (bytes : List ℕ) → GetTaken t s room bytes → GetGiven t s bytes
+  get-given s room bytes a = record {
+    part = a .part;
+    code = a .code;
+    index = a .index;
+    stands = found-stands t (namedBy s) (a .index) (a .there);
+    given = a .given ∙ ap (λ (k : Sense). lowFirst (sizeOf k) (partOf (a .part) (at t (a .index)))) (sense-at t (namedBy s) (a .index) (a .there));
+  }
+
+  pub next-get : (s d : List ℕ) (room : ℕ) → AsksGet s → numberOf (requestOf st s d room) ≡ 0 → GetGiven t s (bytesOf (requestOf st s d room))
+  next-get s d room a z =
+      let g = get-got s d room a z in
+      subst (GetGiven t s) (sym (ap bytesOf (g .1))) (get-given s room (g .0) (get-taken st s d room (g .0) (g .1)))
+
+  module _ (sound : Sound t) where
+    set-stored : (s d : List ℕ) → Bytes d → (v : Table) → SetTaken t s d v → SetStored t s d v
+    set-stored s d b v a = rw (a .table) (record {
+      index = p;
+      stands = found-stands t (namedBy s) p (a .there);
+      cur = rw (here, ← held) (stored-means (senseOf (c .selector)) c d (sound .each p (place-below t (namedBy s) p (a .there))) (a .ready) b (a .sized));
+      rest = rw here;
+      others = λ q n. placed-elsewhere t p new q n;
+      count = refl;
+    })
+      where
+        p : ℕ
+        p = a .index
+
+        c : Control
+        c = at t p
+
+        new : Control
+        new = withCur (storedFor (senseOf (c .selector)) c (valueIn d)) c
+
+        here : at (placed t p new) p ≡ new
+        here = placed-here t p (place-inside t (namedBy s) p (a .there) sound) new
+
+        held : senseOf (c .selector) ≡ senseOf (byte s 3)
+        held = sense-at t (namedBy s) p (a .there)
+
+    pub next-set : (s d : List ℕ) (room : ℕ) → Bytes d → AsksSet s → numberOf (requestOf st s d room) ≡ 0 → SetStored t s d (tableAfter t (requestOf st s d room))
+    next-set s d room b a z =
+        let g = set-done s d room a z in
+        subst (SetStored t s d) (sym (ap (tableAfter t) (g .1))) (set-stored s d b (g .0) (set-taken st s d room (g .0) (g .1)))
+
+    load-stored : (k : Key) (range : Range) (w : ℕ) (v : Table) → LoadTaken t k range w v → LoadStored t k range w v
+    load-stored k range w v a = rw (a .table) (record {
+      index = p;
+      stands = found-stands t k p (a .there);
+      loaded = rw here;
+      ranged = rw here;
+      cur = rw (here, ← sense-at t k p (a .there), a .sense) (settles-closest (a .sort) range w (closestTo (a .sort) range w) (a .legal) (a .fits) refl);
+      same = rw here (load-same (a .sort) range w (at t p));
+      pins = rw here;
+      others = λ q n. placed-elsewhere t p new q n;
+      count = refl;
+    })
+      where
+        p : ℕ
+        p = a .index
+
+        new : Control
+        new = loadedWith (a .sort) range w (at t p)
+
+        here : at (placed t p new) p ≡ new
+        here = placed-here t p (place-inside t k p (a .there) sound) new
+
+    pub next-load : (k : Key) (range : Range) (w : ℕ) → numberOf (loadOf st (k .unit) (k .channel) (k .selector) range w) ≡ 0
+        → LoadStored t k range w (tableAfter t (loadOf st (k .unit) (k .channel) (k .selector) range w))
+    next-load k range w z =
+        let g = load-done k range w z in
+        subst (LoadStored t k range w) (sym (ap (tableAfter t) (g .1))) (load-stored k range w (g .0) (load-taken st k range w (g .0) (g .1)))
 
 -- every control is found where it was
-pub run-found : (t : Table) (run : List Step) (k : Key) → whereIs (after t run) k ≡ whereIs t k
+pub run-found : (st : State) (run : List Step) (k : Key) → whereIs (after st run .table) k ≡ whereIs (st .table) k
 unfolding after
-run-found t [] k = refl
-run-found t (st ∷ run) k =
-    let a = alone t st in
-    run-found (tableNext t st) run k ∙ kept-found t (tableNext t st) (a .count) (a .same) (k .unit) (k .channel) (k .selector)
+run-found st [] k = refl
+run-found st (step ∷ run) k =
+    let a = alone st step in
+    run-found (next st step) run k ∙ kept-found (st .table) (next st step .table) (a .count) (a .same) (k .unit) (k .channel) (k .selector)
 
 -- the CUR of a table that 30 does not turn away is what is stored where it is wanted
 stands-first : (k : Sense) (c : Control) → SoundAs k c → StandsFor k c (c .cur)
@@ -105,73 +206,45 @@ part-means Min k c range x e m rs ns b f g = rw (f, ← e)
 part-means Max k c range x e m rs ns b f g = rw (f, ← e)
 part-means Res k c range x e m rs ns b f g = rw (f, ← e)
 
-got-answers : (t : Table) (run : List Step) → Sound t → Wired run → (n : ℕ) (s d : List ℕ) (room : ℕ) (bytes : List ℕ)
-    → requestOf (after t run) n s d room ≡ got bytes → Answers t run s bytes
-got-answers t run h w n s d room bytes e = record {
+got-answers : (st : State) (run : List Step) → Sound (st .table) → Wired run → (s : List ℕ) (room : ℕ) (bytes : List ℕ)
+    → GetTaken (after st run .table) s room bytes → Answers st run s bytes
+got-answers st run h w s room bytes a = record {
   part = a .part;
-  code = b .1 .0;
-  place = a .place;
-  stands = found-stands t (namedBy s) (a .place) there;
+  code = a .code;
+  index = a .index;
+  stands = found-stands t0 (namedBy s) (a .index) there;
   value = partOf (a .part) now;
   given = a .given ∙ ap (λ (k : Sense). lowFirst (sizeOf k) (partOf (a .part) now)) held;
   means =
       part-means (a .part) (senseOf (byte s 3)) now (rangeOf now) _ refl
-      (stands-means (senseOf (byte s 3)) now _ (rw (← held) (a .ready)) (m .stands (at t (a .place) .cur) (stands-first (senseOf (byte s 3)) (at t (a .place)) was)))
-      _ _ (at t (a .place)) (sym (m .ranges)) refl;
+      (stands-means (senseOf (byte s 3)) now _ (rw (← held) (a .ready)) (m .stands (at t0 (a .index) .cur) (stands-first (senseOf (byte s 3)) (at t0 (a .index)) was)))
+      _ _ (at t0 (a .index)) (sym (m .ranges)) refl;
   first = λ z. ap (partOf (a .part)) (m .unmoved z);
 }
   where
+    t0 : Table
+    t0 = st .table
+
     v : Table
-    v = after t run
-
-    a : GetTaken (after t run) s room bytes
-    a = get-taken (after t run) n s d room bytes e
-
-    b : AsksGet s × ((byte s 1 ≡ codeOf (a .part)) × (a .target ≡ targetOf s))
-    b = get-bytes s (a .target) (a .part) (a .asked)
+    v = after st run .table
 
     now : Control
-    now = at v (a .place)
+    now = at v (a .index)
 
-    found-now : whereIs v (namedBy s) ≡ found.At (a .place)
-    found-now = ap (λ (g : Target). whereIs v (keyOf g)) (sym (b .1 .1)) ∙ a .there
+    there : whereIs t0 (namedBy s) ≡ found.At (a .index)
+    there = sym (run-found st run (namedBy s)) ∙ a .there
 
-    there : whereIs t (namedBy s) ≡ found.At (a .place)
-    there = sym (run-found t run (namedBy s)) ∙ found-now
-
-    m : Moved t (namedBy s) (a .place) (told (rangesIn (namedBy s)) t run) (told (numbersIn (namedBy s)) t run) v
-    m = whole-run t (namedBy s) (a .place) run h (found-stands t (namedBy s) (a .place) there) w
+    m : Moved t0 (namedBy s) (a .index) (told (rangesIn (namedBy s)) st run) (told (numbersIn (namedBy s)) st run) v
+    m = whole-run st (namedBy s) (a .index) run h (found-stands t0 (namedBy s) (a .index) there) w
 
     held : senseOf (now .selector) ≡ senseOf (byte s 3)
-    held = sense-at v (namedBy s) (a .place) found-now
+    held = sense-at v (namedBy s) (a .index) (a .there)
 
-    was : SoundAs (senseOf (byte s 3)) (at t (a .place))
-    was = rw (← sense-at t (namedBy s) (a .place) there) (h .each (a .place) (place-below t (namedBy s) (a .place) there))
+    was : SoundAs (senseOf (byte s 3)) (at t0 (a .index))
+    was = rw (← sense-at t0 (namedBy s) (a .index) there) (h .each (a .index) (place-below t0 (namedBy s) (a .index) there))
 
--- what is accepted is a Get with its bytes, or a Set with its table
-module _ (t : Table) (n : ℕ) (s d : List ℕ) (room : ℕ) where
-  no-zero : {P : Type 0} (m : ℕ) → requestOf t n s d room ≡ refused m → m ≡ 0 → P
-  unfolding Numbered
-  no-zero m e z = absurd (let k = request-numbers t n s d room m e .from in omega arith)
-
-  pub get-got : AsksGet s → numberOf (requestOf t n s d room) ≡ 0 → (bytes : List ℕ) × (requestOf t n s d room ≡ got bytes)
-  get-got a z = go (requestOf t n s d room) refl z
-    where
-      go : (o : Outcome) → requestOf t n s d room ≡ o → numberOf o ≡ 0 → (bytes : List ℕ) × (requestOf t n s d room ≡ got bytes)
-      go (refused m) e i = no-zero m e i
-      go (got bytes) e i = (bytes, e)
-      go (done v) e i = let k = set-taken t n s d room v e in absurd (set-no-get s (set-bytes s (k .target) (k .asked) .0) a)
-
-  pub set-done : AsksSet s → numberOf (requestOf t n s d room) ≡ 0 → (v : Table) × (requestOf t n s d room ≡ done v)
-  set-done a z = go (requestOf t n s d room) refl z
-    where
-      go : (o : Outcome) → requestOf t n s d room ≡ o → numberOf o ≡ 0 → (v : Table) × (requestOf t n s d room ≡ done v)
-      go (refused m) e i = no-zero m e i
-      go (got bytes) e i = let k = get-taken t n s d room bytes e in absurd (set-no-get s a (get-bytes s (k .target) (k .part) (k .asked) .0))
-      go (done v) e i = (v, e)
-
-pub get-answers : (t : Table) (run : List Step) → Sound t → Wired run → (n : ℕ) (s d : List ℕ) (room : ℕ) → AsksGet s
-    → numberOf (requestOf (after t run) n s d room) ≡ 0 → Answers t run s (bytesOf (requestOf (after t run) n s d room))
-get-answers t run h w n s d room a z =
-    let g = get-got (after t run) n s d room a z in
-    subst (Answers t run s) (sym (ap bytesOf (g .1))) (got-answers t run h w n s d room (g .0) (g .1))
+pub get-answers : (st : State) (run : List Step) → Sound (st .table) → Wired run → (s d : List ℕ) (room : ℕ) → AsksGet s
+    → numberOf (requestOf (after st run) s d room) ≡ 0 → Answers st run s (bytesOf (requestOf (after st run) s d room))
+get-answers st run h w s d room a z =
+    let g = get-got (after st run) s d room a z in
+    subst (Answers st run s) (sym (ap bytesOf (g .1))) (got-answers st run h w s room (g .0) (get-taken (after st run) s d room (g .0) (g .1)))

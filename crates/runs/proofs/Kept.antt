@@ -4,7 +4,6 @@
 --   place-below, place-inside  ==  a control that is found stands below the count, and in the array
 --   found-stands, stands-found, none-stands  ==  a control stands where it is found; it is found where it stands, and stands
 --                              nowhere if it is not found, in a table that 30 does not turn away; stands-one: it stands at one place
---   between-only           ==  what a Set of a yes/no or a pin stores is what was asked, within its bounds
 --   settles-closest        ==  the closest setting is what is to be stored, by crate setting's statements
 --   sent-fits              ==  the data of a Set are not too wide for the control
 use Prim.Native.Nat.{ℕ, _+_, _*_, _≤_, _<_, min}
@@ -31,11 +30,12 @@ use Rattle.table.specs.declared.Found.{Found}
 use Rattle.table.specs.declared.Found.the-variants as found
 use Rattle.table.specs.Controls.{at, senseOf, sizeOf, rangeOf, answersTo}
 use Rattle.table.specs.First.{places, foundIn, found-first, none-found}
+use Rattle.table.specs.Keys.{Key, whereIs, Bears, StandsAt}
 use Rattle.table.specs.Meaning.{Same, SoundAs, SoundRanged, SoundLoaded, Sound, loaded-legal, loaded-tested, sound-counted}
-use Rattle.request.specs.declared.Settled.the-variants.{NoSetting, To}
-use Rattle.request.specs.Load.{loadedWith}
-use Rattle.request.specs.Request.{unready, valueIn, settledBetween, settledOf, withCur}
-use Rattle.runs.specs.Runs.{Key, whereIs, Stands, Settles, Bytes}
+use Rattle.answers.specs.Held.{unready, valueIn, takes, storedFor, withCur}
+use Rattle.loads.specs.Load.{loadedWith}
+use Rattle.runs.specs.Runs.{Bytes}
+use Rattle.runs.specs.Promises.{Settles}
 
 pub load-same : (s : Sort) (range : Range) (w : ℕ) (c : Control) → Same (loadedWith s range w c) c
 load-same s range w c = record { unit = refl; channel = refl; selector = refl }
@@ -65,30 +65,30 @@ answers-reads : (k : Key) (c : Control) → Reads (answersTo (k .unit) (k .chann
 unfolding answersTo
 answers-reads k c = reads-and _ _ (reads-eq (c .unit) (k .unit)) (reads-and _ _ (reads-eq (c .channel) (k .channel)) (reads-eq (c .selector) (k .selector)))
 
-pub found-stands : (t : Table) (k : Key) (p : ℕ) → whereIs t k ≡ found.At p → Stands t k p
+pub found-stands : (t : Table) (k : Key) (p : ℕ) → whereIs t k ≡ found.At p → StandsAt t k p
 found-stands t k p f =
     let h = answers-reads k (at t p) .says (place-answers t k p f) in
-    record { inside = place-below t k p f; unit = h .0; channel = h .1 .0; selector = h .1 .1 }
+    record { inside = place-below t k p f; bears = record { unit = h .0; channel = h .1 .0; selector = h .1 .1 } }
 
 module _ (t : Table) (sound : Sound t) (k : Key) where
-  stands-once : (p q : ℕ) → Stands t k p → Stands t k q → p < q → ⊥
+  stands-once : (p q : ℕ) → StandsAt t k p → StandsAt t k q → p < q → ⊥
   stands-once p q a b l =
       sound .once p q l (b .inside)
-      (record { unit = a .unit ∙ sym (b .unit); channel = a .channel ∙ sym (b .channel); selector = a .selector ∙ sym (b .selector) })
+      (let x = a .bears in let y = b .bears in record { unit = x .unit ∙ sym (y .unit); channel = x .channel ∙ sym (y .channel); selector = x .selector ∙ sym (y .selector) })
 
-  pub stands-one : (p q : ℕ) → Stands t k p → Stands t k q → p ≡ q
+  pub stands-one : (p q : ℕ) → StandsAt t k p → StandsAt t k q → p ≡ q
   stands-one p q a b =
       ⊎-elim (λ (i : p ≡ q). i) (λ (i : p ≡ q → ⊥). absurd (apart p q i (stands-once q p b a) (stands-once p q a b))) (decided (eqb p q) (reads-eq p q))
 
-  pub none-stands : whereIs t k ≡ found.Nothing → (p : ℕ) → Stands t k p → ⊥
+  pub none-stands : whereIs t k ≡ found.Nothing → (p : ℕ) → StandsAt t k p → ⊥
   unfolding foundIn
   none-stands e p h =
       let few = sound .few in
       let i = h .inside in
       let n = none-found (λ q. answersTo (k .unit) (k .channel) (k .selector) (at t q)) (places t) e p (omega arith) in
-      answers-reads k (at t p) .denies n (h .unit, (h .channel, h .selector))
+      let b = h .bears in answers-reads k (at t p) .denies n (b .unit, (b .channel, b .selector))
 
-  pub stands-found : (p : ℕ) → Stands t k p → whereIs t k ≡ found.At p
+  pub stands-found : (p : ℕ) → StandsAt t k p → whereIs t k ≡ found.At p
   stands-found p h = go (whereIs t k) refl
     where
       go : (f : Found) → whereIs t k ≡ f → whereIs t k ≡ found.At p
@@ -135,42 +135,31 @@ load-sound s range w c e h l f =
     let old : SoundRanged s c = rw e at h in
     rw e (record { channel = old .channel; loaded = λ z. settled-loaded s (loadedWith s range w c) range w refl refl l f })
 
--- what a Set may store, by what the control holds
-pub between-only : (least most x y : ℕ) → settledBetween least most x ≡ To y → (y ≡ x) × ((least ≤ x) × (x ≤ most))
-unfolding settledBetween
-between-only least most x y e = go (leb least x && leb x most) refl e
-  where
-    go : (b : Bool) → (leb least x && leb x most) ≡ b → pick b (To x) NoSetting ≡ To y → (y ≡ x) × ((least ≤ x) × (x ≤ most))
-    go true h q = (cc, reads-and _ _ (reads-le least x) (reads-le x most) .says h)
-    go false h q = absurd (let z : _≡_ {A = ℕ} 0 1 = cc in omega arith)
-
-set-by-sound : (k : Sense) (c : Control) (d : List ℕ) (x : ℕ) → SoundAs k c → unready k c ≡ false → Bytes d → length d ≡ sizeOf k
-    → settledOf k c (valueIn d) ≡ To x → SoundAs k (withCur x c)
-unfolding settledOf
-set-by-sound Unknown c d x h r b l e = h
-set-by-sound YesNo c d x h r b l e =
-    let q = between-only 0 1 (valueIn d) x e in
+-- what a Set stores, by what the control holds
+set-by-sound : (k : Sense) (c : Control) (d : List ℕ) → SoundAs k c → Bytes d → length d ≡ sizeOf k → takes k c (valueIn d) ≡ true
+    → SoundAs k (withCur (storedFor k c (valueIn d)) c)
+set-by-sound Unknown c d h b l e = h
+set-by-sound YesNo c d h b l e =
+    let q = reads-le (valueIn d) 1 .says e in
     let n = h .narrow in
     record {
       channel = h .channel;
       narrow = record { min = n .min; max = n .max; res = n .res; cur = omega arith };
-      setting = omega arith;
+      setting = q;
     }
-set-by-sound (Ranged s) c d x h r b l e =
-    let f : x ≡ closestTo s (rangeOf c) (valueIn d) = cc in
-    record { channel = h .channel; loaded = λ z. settled-loaded s (withCur x c) (rangeOf c) (valueIn d) refl f (loaded-legal s c (h .loaded z)) (sent-fits s d b l) }
-set-by-sound Pin c d x h r b l e =
-    let q = between-only 1 (c .pins) (valueIn d) x e in
+set-by-sound (Ranged s) c d h b l e =
+    record { channel = h .channel; loaded = λ z. settled-loaded s (withCur (closestTo s (rangeOf c) (valueIn d)) c) (rangeOf c) (valueIn d) refl refl (loaded-legal s c (h .loaded z)) (sent-fits s d b l) }
+set-by-sound Pin c d h b l e =
+    let q = reads-and _ _ (reads-le 1 (valueIn d)) (reads-le (valueIn d) (c .pins)) .says e in
     let n = h .narrow in
     let p = h .pins in
     record {
       channel = h .channel;
       pins = p;
       narrow = record { min = n .min; max = n .max; res = n .res; cur = omega arith };
-      setting = (omega arith, omega arith);
+      setting = q;
     }
 
-pub set-sound : (c : Control) (d : List ℕ) (x : ℕ) → SoundAs (senseOf (c .selector)) c → unready (senseOf (c .selector)) c ≡ false → Bytes d
-    → length d ≡ sizeOf (senseOf (c .selector)) → settledOf (senseOf (c .selector)) c (valueIn d) ≡ To x
-    → SoundAs (senseOf (withCur x c .selector)) (withCur x c)
-set-sound c d x h r b l e = set-by-sound (senseOf (c .selector)) c d x h r b l e
+pub set-sound : (c : Control) (d : List ℕ) → SoundAs (senseOf (c .selector)) c → Bytes d → length d ≡ sizeOf (senseOf (c .selector))
+    → takes (senseOf (c .selector)) c (valueIn d) ≡ true → SoundAs (senseOf (c .selector)) (withCur (storedFor (senseOf (c .selector)) c (valueIn d)) c)
+set-sound c d h b l e = set-by-sound (senseOf (c .selector)) c d h b l e

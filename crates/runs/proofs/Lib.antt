@@ -3,6 +3,5 @@ pub mod Kept
 pub mod Moved
 pub mod Alone
 pub mod Refusals
-pub mod Answers
 pub mod Rows
-pub mod Case
+pub mod Answers

@@ -1,8 +1,4 @@
 -- What a step, and then a run, does to one control, the one of the key k at place p.
---   Moved t k p rs ns v  ==  from the table t to the table v, k was given the ranges rs and asked to take the numbers ns, in
---                            this order: it stands where it stood, with as many pins; it is loaded if it was or was given a
---                            range; its range is the last of rs; its CUR is what is stored where the last of ns is wanted;
---                            it is as it was where ns is empty; and 30 has nothing against the table
 --   still, moved-then    ==  nothing told moves nothing; one such move and then another
 --   sense-at             ==  the control that is found holds what its key's selector says
 --   one-step             ==  so does every step, with what it tells k if it is accepted
@@ -13,7 +9,7 @@ use mathlib.Core.List.{List, [], _∷_, _++_, List·Memᴰ·head, List·Memᴰ·
 use mathlib.Core.Bool.{Bool, true, false, _||_, or-true, or-false, or-assoc}
 use native.Mathlib.Omega.{arith}
 use lib.ListN.{length}
-use Rattle.ground.specs.Pick.{pick, Reads, reads-and, reads-eq}
+use Rattle.ground.specs.Pick.{pick, Reads, shows, refutes, reads-and, reads-eq}
 use Rattle.setting.specs.Setting.{fitsOf, legalOf, closestTo}
 use Rattle.setting.specs.declared.Sort.{Sort}
 use Rattle.setting.specs.declared.Range.{Range}
@@ -25,25 +21,21 @@ use Rattle.table.specs.declared.Found.the-variants as found
 use Rattle.table.specs.Controls.{at, placed, senseOf, sizeOf, rangeOf}
 use Rattle.table.specs.Meaning.{Same, SoundAs, Sound, loaded-legal}
 use Rattle.table.specs.Placed.{same-self, same-by, placed-here, placed-elsewhere, placed-found, placed-sound}
-use Rattle.request.specs.declared.Settled.the-variants.{To}
+use Rattle.table.specs.Keys.{Key, whereIs, StandsAt}
+use Rattle.setup.specs.Setup.{AsksSet, asksSet}
+use Rattle.setup.specs.Asking.{set-no-get, reads-set}
+use Rattle.answers.specs.Held.{valueIn, takes, storedFor, withCur}
+use Rattle.loads.specs.Load.{loadedWith}
+use Rattle.request.specs.declared.State.{State}
 use Rattle.request.specs.Outcome.{Outcome, tableAfter}
 use Rattle.request.specs.Outcome.Outcome.{refused, got, done}
-use Rattle.request.specs.Load.{loadedWith, loadOf}
-use Rattle.request.specs.Request.{askedOf, valueIn, settledOf, withCur, requestOf}
-use Rattle.runs.specs.Runs.{Key, whereIs, Stands, keyOf, Step, accepted, tableNext, after, sameKey, rangesIn, numbersAsked, numbersIn, heard, told, lastOf, some, StandsFor, Bytes, sent, Wired}
+use Rattle.request.specs.Load.{loadOf}
+use Rattle.request.specs.Request.{requestOf}
+use Rattle.runs.specs.Runs.{namedBy, Step, accepted, next, after, sameKey, rangesIn, numbersIn, heard, told, lastOf, some, Bytes, sent, Wired}
 use Rattle.runs.specs.Runs.Step.{load, request}
+use Rattle.runs.specs.Promises.{StandsFor, Moved}
 use Rattle.runs.proofs.Taken.{LoadTaken, SetTaken, load-taken, set-taken, get-taken, load-not-got}
-use Rattle.runs.proofs.Kept.{load-same, set-same, load-sound, set-sound, place-below, place-inside, found-stands, stands-found, settles-closest, sent-fits, between-only}
-
-pub record Moved (t : Table) (k : Key) (p : ℕ) (rs : List Range) (ns : List ℕ) (v : Table) : Type 0 where
-  pub sound : Sound v
-  pub there : Stands v k p
-  pub same : Same (at v p) (at t p)
-  pub pins : at v p .pins ≡ at t p .pins
-  pub loaded : at v p .loaded ≡ (at t p .loaded || some rs)
-  pub ranges : rangeOf (at v p) ≡ lastOf (rangeOf (at t p)) rs
-  pub unmoved : ns ≡ [] → at v p ≡ at t p
-  pub stands : (x : ℕ) → StandsFor (senseOf (k .selector)) (at t p) x → StandsFor (senseOf (k .selector)) (at v p) (lastOf x ns)
+use Rattle.runs.proofs.Kept.{load-same, set-same, load-sound, set-sound, place-below, place-inside, found-stands, stands-found, settles-closest, sent-fits}
 
 last-append : {A : Type 0} (x : A) (xs ys : List A) → lastOf x (xs ++ ys) ≡ lastOf (lastOf x xs) ys
 unfolding lastOf
@@ -121,13 +113,9 @@ module _ (t : Table) (k l : Key) (p q : ℕ) (f : whereIs t k ≡ found.At p) (g
   two-places : sameKey k l ≡ false → p ≡ q → ⊥
   two-places e i =
       let a = found-stands t k p f in
-      let b : Stands t l p = rw i (found-stands t l q g) in
+      let b : StandsAt t l p = rw i (found-stands t l q g) in
       reads-key k l .denies e
-      (record {
-        unit = sym (a .unit) ∙ b .unit;
-        channel = sym (a .channel) ∙ b .channel;
-        selector = sym (a .selector) ∙ b .selector;
-      })
+      (let x = a .bears in let y = b .bears in record { unit = sym (x .unit) ∙ y .unit; channel = sym (x .channel) ∙ y .channel; selector = sym (x .selector) ∙ y .selector })
 
 -- a control is stored at another place
 module _ (t : Table) (k : Key) (p : ℕ) (s : Sound t) (f : whereIs t k ≡ found.At p) (l : Key) (q : ℕ) (g : whereIs t l ≡ found.At q) (c : Control)
@@ -173,7 +161,7 @@ module _ (t : Table) (k : Key) (p : ℕ) (s : Sound t) (f : whereIs t k ≡ foun
 
 -- a key's control has the key's selector
 selector-at : (t : Table) (k : Key) (p : ℕ) → whereIs t k ≡ found.At p → at t p .selector ≡ k .selector
-selector-at t k p f = found-stands t k p f .selector
+selector-at t k p f = found-stands t k p f .bears .selector
 
 pub sense-at : (t : Table) (k : Key) (p : ℕ) → whereIs t k ≡ found.At p → senseOf (at t p .selector) ≡ senseOf (k .selector)
 sense-at t k p f = ap senseOf (selector-at t k p f)
@@ -184,86 +172,95 @@ load-stands : (k : Sense) (s : Sort) → k ≡ sense.Ranged s → (range : Range
 load-stands k s e range w c l f = rw e (λ z. settles-closest s range w (closestTo s range w) l f refl)
 
 -- a Set tells it a number
-set-stands : (k : Sense) (c : Control) (d : List ℕ) (x : ℕ) → SoundAs k c → Bytes d → length d ≡ sizeOf k → settledOf k c (valueIn d) ≡ To x
-    → StandsFor k (withCur x c) (valueIn d)
-unfolding settledOf
-set-stands sense.Unknown c d x h b l e = absurd (let z : _≡_ {A = ℕ} 0 1 = cc in omega arith)
-set-stands sense.YesNo c d x h b l e = between-only 0 1 (valueIn d) x e .0
-set-stands (sense.Ranged s) c d x h b l e =
-    let f : x ≡ closestTo s (rangeOf c) (valueIn d) = cc in
-    λ z. settles-closest s (rangeOf c) (valueIn d) x (loaded-legal s c (h .loaded z)) (sent-fits s d b l) f
-set-stands sense.Pin c d x h b l e = between-only 1 (c .pins) (valueIn d) x e .0
+set-stands : (k : Sense) (c : Control) (d : List ℕ) → SoundAs k c → Bytes d → length d ≡ sizeOf k → StandsFor k (withCur (storedFor k c (valueIn d)) c) (valueIn d)
+set-stands sense.Unknown c d h b l = refl
+set-stands sense.YesNo c d h b l = refl
+set-stands (sense.Ranged s) c d h b l =
+    λ z. settles-closest s (rangeOf c) (valueIn d) (closestTo s (rangeOf c) (valueIn d)) (loaded-legal s c (h .loaded z)) (sent-fits s d b l) refl
+set-stands sense.Pin c d h b l = refl
 
 module _ (t : Table) (k : Key) (p : ℕ) (s : Sound t) (f : whereIs t k ≡ found.At p) where
-  load-moves : (l : Key) (range : Range) (w : ℕ) (v : Table) → LoadTaken t (l .unit) (l .channel) (l .selector) range w v
+  load-moves : (l : Key) (range : Range) (w : ℕ) (v : Table) → LoadTaken t l range w v
       → Moved t k p (pick (sameKey k l) (range ∷ []) []) (pick (sameKey k l) (w ∷ []) []) v
   unfolding lastOf
   load-moves l range w v a = rw (a .table) (go (sameKey k l) refl)
     where
-      held : senseOf (at t (a .place) .selector) ≡ sense.Ranged (a .sort)
-      held = sense-at t l (a .place) (a .there) ∙ a .sense
-
-      ok : SoundAs (senseOf (loadedWith (a .sort) range w (at t (a .place)) .selector)) (loadedWith (a .sort) range w (at t (a .place)))
+      ok : SoundAs (senseOf (loadedWith (a .sort) range w (at t (a .index)) .selector)) (loadedWith (a .sort) range w (at t (a .index)))
       ok =
-          load-sound (a .sort) range w (at t (a .place)) held (s .each (a .place) (place-below t l (a .place) (a .there))) (a .legal) (a .fits)
+          load-sound (a .sort) range w (at t (a .index)) (a .sense) (s .each (a .index) (place-below t l (a .index) (a .there))) (a .legal) (a .fits)
+
+      held : sameKey k l ≡ true → senseOf (k .selector) ≡ sense.Ranged (a .sort)
+      held e = ap senseOf (reads-key k l .says e .selector) ∙ sym (sense-at t l (a .index) (a .there)) ∙ a .sense
 
       go : (b : Bool) → sameKey k l ≡ b
-          → Moved t k p (pick b (range ∷ []) []) (pick b (w ∷ []) []) (placed t (a .place) (loadedWith (a .sort) range w (at t (a .place))))
+          → Moved t k p (pick b (range ∷ []) []) (pick b (w ∷ []) []) (placed t (a .index) (loadedWith (a .sort) range w (at t (a .index))))
       go true e =
-          here t k p s f l (a .place) (a .there) _ (load-same (a .sort) range w (at t (a .place))) ok e (range ∷ []) (w ∷ []) refl (sym (or-true (at t (a .place) .loaded))) refl (some-not-none w [])
-          (λ x y.
-          load-stands (senseOf (k .selector)) (a .sort) (ap senseOf (reads-key k l .says e .selector) ∙ a .sense) range w (at t (a .place)) (a .legal) (a .fits))
-      go false e = elsewhere t k p s f l (a .place) (a .there) _ (load-same (a .sort) range w (at t (a .place))) ok e
+          here t k p s f l (a .index) (a .there) _ (load-same (a .sort) range w (at t (a .index))) ok e (range ∷ []) (w ∷ []) refl (sym (or-true (at t (a .index) .loaded))) refl (some-not-none w [])
+          (λ x y. load-stands (senseOf (k .selector)) (a .sort) (held e) range w (at t (a .index)) (a .legal) (a .fits))
+      go false e = elsewhere t k p s f l (a .index) (a .there) _ (load-same (a .sort) range w (at t (a .index))) ok e
 
-  set-moves : (su d : List ℕ) (v : Table) → Bytes d → SetTaken t su d v → Moved t k p [] (numbersAsked k d (askedOf su)) v
+  set-moves : (su d : List ℕ) (v : Table) → Bytes d → SetTaken t su d v → Moved t k p [] (pick (sameKey k (namedBy su)) (valueIn d ∷ []) []) v
   unfolding lastOf
-  set-moves su d v b a = rw (a .table, a .asked) (go (sameKey k l) refl)
+  set-moves su d v b a = rw (a .table) (go (sameKey k l) refl)
     where
       l : Key
-      l = keyOf (a .target)
+      l = namedBy su
 
       c : Control
-      c = at t (a .place)
+      c = at t (a .index)
+
+      changed : Control
+      changed = withCur (storedFor (senseOf (c .selector)) c (valueIn d)) c
 
       whole : SoundAs (senseOf (c .selector)) c
-      whole = s .each (a .place) (place-below t l (a .place) (a .there))
+      whole = s .each (a .index) (place-below t l (a .index) (a .there))
 
-      ok : SoundAs (senseOf (withCur (a .value) c .selector)) (withCur (a .value) c)
-      ok = set-sound c d (a .value) whole (a .ready) b (a .sized) (a .settled)
+      ok : SoundAs (senseOf (changed .selector)) changed
+      ok = set-sound c d whole b (a .sized) (a .taken)
 
-      stands : sameKey k l ≡ true → StandsFor (senseOf (k .selector)) (withCur (a .value) c) (valueIn d)
+      stands : sameKey k l ≡ true → StandsFor (senseOf (k .selector)) changed (valueIn d)
       stands e =
           let i : senseOf (k .selector) ≡ senseOf (c .selector) =
-          ap senseOf (reads-key k l .says e .selector) ∙ sym (sense-at t l (a .place) (a .there))
+          ap senseOf (reads-key k l .says e .selector) ∙ sym (sense-at t l (a .index) (a .there))
           in
-          rw i (set-stands (senseOf (c .selector)) c d (a .value) whole b (a .sized) (a .settled))
+          rw i (set-stands (senseOf (c .selector)) c d whole b (a .sized))
 
-      go : (y : Bool) → sameKey k l ≡ y → Moved t k p [] (pick y (valueIn d ∷ []) []) (placed t (a .place) (withCur (a .value) c))
+      go : (y : Bool) → sameKey k l ≡ y → Moved t k p [] (pick y (valueIn d ∷ []) []) (placed t (a .index) changed)
       go true e =
-          here t k p s f l (a .place) (a .there) (withCur (a .value) c) (set-same (a .value) c) ok e [] (valueIn d ∷ []) refl (sym (or-false (c .loaded))) refl (some-not-none (valueIn d) []) (λ x y. stands e)
-      go false e = elsewhere t k p s f l (a .place) (a .there) (withCur (a .value) c) (set-same (a .value) c) ok e
+          here t k p s f l (a .index) (a .there) changed (set-same (storedFor (senseOf (c .selector)) c (valueIn d)) c) ok e [] (valueIn d ∷ []) refl (sym (or-false (c .loaded))) refl (some-not-none (valueIn d) []) (λ x y. stands e)
+      go false e = elsewhere t k p s f l (a .index) (a .there) changed (set-same (storedFor (senseOf (c .selector)) c (valueIn d)) c) ok e
 
-  load-step : (l : Key) (range : Range) (w : ℕ) (o : Outcome) → loadOf t (l .unit) (l .channel) (l .selector) range w ≡ o
+module _ (st : State) (k : Key) (p : ℕ) (s : Sound (st .table)) (f : whereIs (st .table) k ≡ found.At p) where
+  abbrev t : Table
+  t = st .table
+
+  load-step : (l : Key) (range : Range) (w : ℕ) (o : Outcome) → loadOf st (l .unit) (l .channel) (l .selector) range w ≡ o
       → Moved t k p (pick (accepted o) (rangesIn k (load l range w)) []) (pick (accepted o) (numbersIn k (load l range w)) []) (tableAfter t o)
   load-step l range w (refused n) e = still t k p s f
-  load-step l range w (got bytes) e = absurd (load-not-got t (l .unit) (l .channel) (l .selector) range w bytes e)
-  load-step l range w (done v) e = load-moves l range w v (load-taken t (l .unit) (l .channel) (l .selector) range w v e)
+  load-step l range w (got bytes) e = absurd (load-not-got st l range w bytes e)
+  load-step l range w (done v) e = load-moves t k p s f l range w v (load-taken st l range w v e)
 
-  request-step : (n : ℕ) (su d : List ℕ) (room : ℕ) → Bytes d → (o : Outcome) → requestOf t n su d room ≡ o
-      → Moved t k p (pick (accepted o) [] []) (pick (accepted o) (numbersAsked k d (askedOf su)) []) (tableAfter t o)
-  request-step n su d room b (refused m) e = still t k p s f
-  request-step n su d room b (got bytes) e = let a = get-taken t n su d room bytes e in rw (a .asked) (still t k p s f)
-  request-step n su d room b (done v) e = set-moves su d v b (set-taken t n su d room v e)
+  request-step : (su d : List ℕ) (room : ℕ) → Bytes d → (o : Outcome) → requestOf st su d room ≡ o
+      → Moved t k p (pick (accepted o) [] []) (pick (accepted o) (numbersIn k (request su d room)) []) (tableAfter t o)
+  request-step su d room b (refused m) e = still t k p s f
+  request-step su d room b (got bytes) e =
+      let a = get-taken st su d room bytes e in
+      let z : asksSet su ≡ false = refutes (reads-set su) (λ x. set-no-get su x (a .asked)) in
+      rw z (still t k p s f)
+  request-step su d room b (done v) e =
+      let a = set-taken st su d room v e in
+      let z : asksSet su ≡ true = shows (reads-set su) (a .asked) in
+      rw z (set-moves t k p s f su d v b a)
 
-  pub one-step : (st : Step) → Bytes (sent st) → Moved t k p (heard (rangesIn k) t st) (heard (numbersIn k) t st) (tableNext t st)
+  pub one-step : (step : Step) → Bytes (sent step) → Moved t k p (heard (rangesIn k) st step) (heard (numbersIn k) st step) (next st step .table)
   one-step (load l range w) b = load-step l range w _ refl
-  one-step (request n su d room) b = request-step n su d room b _ refl
+  one-step (request su d room) b = request-step su d room b _ refl
 
-pub whole-run : (t : Table) (k : Key) (p : ℕ) (run : List Step) → Sound t → Stands t k p → Wired run
-    → Moved t k p (told (rangesIn k) t run) (told (numbersIn k) t run) (after t run)
+pub whole-run : (st : State) (k : Key) (p : ℕ) (run : List Step) → Sound (st .table) → StandsAt (st .table) k p → Wired run
+    → Moved (st .table) k p (told (rangesIn k) st run) (told (numbersIn k) st run) (after st run .table)
 unfolding told after
-whole-run t k p [] s f w = still t k p s (stands-found t s k p f)
-whole-run t k p (st ∷ run) s f w =
-    let a = one-step t k p s (stands-found t s k p f) st (w st (List·Memᴰ·head refl)) in
-    moved-then t (tableNext t st) (after (tableNext t st) run) k p _ _ _ _ a
-    (whole-run (tableNext t st) k p run (a .sound) (a .there) (λ x m. w x (List·Memᴰ·tail m)))
+whole-run st k p [] s f w = still (st .table) k p s (stands-found (st .table) s k p f)
+whole-run st k p (step ∷ run) s f w =
+    let a = one-step st k p s (stands-found (st .table) s k p f) step (w step (List·Memᴰ·head refl)) in
+    moved-then (st .table) (next st step .table) (after (next st step) run .table) k p _ _ _ _ a
+    (whole-run (next st step) k p run (a .sound) (a .there) (λ x m. w x (List·Memᴰ·tail m)))

@@ -1,47 +1,50 @@
 -- What a refusal leaves, which numbers there are, and what an answer depends on.
 --   Keeps t b o      ==  the outcome o leaves the table t and the reply b as they stood
---   Numbered P o     ==  if o is a refusal, its number has P; Turned a: so it is for an address that is refused
+--   Numbered P o     ==  if o is a refusal, its number has P; Denied P o: the same of what is done at the controls
 --   Agree b a c e    ==  two replies, as they were and as they are, agree in what was written
 --   refused-keeps    ==  "All leave table and reply as they stood": a step whose number is not 0 changes neither
 --   LoadNumber, RequestNumber  ==  the numbers that the paper has for a load and for a request
 --   load-numbers, request-numbers, accepted-is-0  ==  every step gets 0 or a number of the paper, and 0 exactly where it is accepted: never both
 --   answered-one     ==  two results that the contract of a request allows are equal, and so are the two replies
---   reply-unread     ==  the answer and the bytes written depend on the table, the number, the setup, the data and the reply's
---                        length alone
+--   reply-unread     ==  the answer and the bytes written depend on the state, the setup, the data and the reply's length alone
 use Prim.Native.Nat.{ℕ, _≤_}
 use mathlib.Core.Path.{_≡_, refl, sym, ap, _∙_, subst}
-use mathlib.Core.List.{List}
-use mathlib.Core.Bool.{Bool, true, false, not, _&&_, _||_}
+use mathlib.Core.List.{List, [], _∷_, map}
+use mathlib.Core.Bool.{Bool, true, false, not, _&&_}
+use mathlib.Core.Logic.{⊎-elim}
 use native.Mathlib.Omega.{arith}
 use lib.Dec.{eqb, ltb}
 use lib.ListN.{length}
-use borrow.Author.Tests.{ne-eqb}
-use Rattle.ground.specs.Pick.{pick}
+use borrow.Author.Tests.{eq-eqb, ne-eqb}
+use Rattle.ground.specs.Pick.{pick, decided, reads-eq}
+use Rattle.ground.specs.Lists.{any}
 use Rattle.setting.specs.Setting.{fitsOf, legalOf}
 use Rattle.setting.specs.declared.Range.{Range}
+use Rattle.table.specs.declared.Control.{Control}
 use Rattle.table.specs.declared.Table.{Table}
 use Rattle.table.specs.declared.Sense.{Sense}
 use Rattle.table.specs.declared.Sense.the-variants.{Unknown, YesNo, Ranged, Pin}
-use Rattle.table.specs.declared.Found.{Found}
-use Rattle.table.specs.declared.Found.the-variants as found
-use Rattle.table.specs.Controls.{at, senseOf, sizeOf}
-use Rattle.table.specs.declared.Lookup.{Lookup}
-use Rattle.table.specs.declared.Lookup.the-variants as lookup
-use Rattle.table.specs.First.{foundIn, lookedUp}
+use Rattle.table.specs.Controls.{at, senseOf}
+use Rattle.table.specs.Keys.{Key}
+use Rattle.table.specs.First.{unitIn}
 use Rattle.table.specs.Sound.{soundOf}
+use Rattle.setup.specs.declared.Target.{Target}
+use Rattle.setup.specs.declared.Part.{Part}
+use Rattle.setup.specs.declared.Asked.{Asked}
+use Rattle.setup.specs.declared.Asked.the-variants as asks
+use Rattle.setup.specs.Setup.{askedOf, targetIn}
+use Rattle.deed.specs.Doing.{Doing, laid}
+use Rattle.deed.specs.Doing.Doing.{denied, given, changed}
+use Rattle.answers.specs.Held.{lacking, unready}
+use Rattle.answers.specs.Answers.{heldBy, sizesOf, allTake, misfits, setOf, getOf}
+use Rattle.loads.specs.Load.{loadRange, loadBy, loadOn}
+use Rattle.request.specs.declared.State.{State}
 use Rattle.request.specs.declared.Answer.{Answer}
-use Rattle.request.specs.declared.Target.{Target}
-use Rattle.request.specs.declared.Part.{Part}
-use Rattle.request.specs.declared.Asked.{Asked}
-use Rattle.request.specs.declared.Asked.the-variants as asks
-use Rattle.request.specs.declared.Addressed.{Addressed}
-use Rattle.request.specs.declared.Addressed.the-variants.{Refused, At}
-use Rattle.request.specs.declared.Settled.{Settled}
-use Rattle.request.specs.declared.Settled.the-variants.{NoSetting, To}
-use Rattle.request.specs.Outcome.{Outcome, numberOf, bytesOf, tableAfter, answerOf, laid, Answered}
+use Rattle.request.specs.Outcome.{Outcome, numberOf, bytesOf, tableAfter, answerOf, Answered}
 use Rattle.request.specs.Outcome.Outcome.{refused, got, done}
-use Rattle.request.specs.Load.{loadRange, loadBy, loadAt, loadOf}
-use Rattle.request.specs.Request.{placeOf, addressedIn, lacking, unready, valueIn, settledOf, setTo, setBy, setFrom, getBy, getFrom, askedOf, answerAsked, requestOf}
+use Rattle.request.specs.Addressed.{addressedIn, outcomeAt}
+use Rattle.request.specs.Load.{loadAt, loadOf}
+use Rattle.request.specs.Request.{elsewhereBy, barredBy, doingOf, doneAt, answerAsked, requestOf}
 use Rattle.runs.specs.Runs.{Step, stepOf, accepted}
 use Rattle.runs.specs.Runs.Step.{load, request}
 
@@ -63,119 +66,120 @@ pub record RequestNumber (n : ℕ) : Type 0 where
   pub from : 30 ≤ n
   pub to : n ≤ 39
 
--- a refusal has one of these numbers
-unfoldable pub Numbered : (ℕ → Type 0) → Outcome → Type 0
-Numbered P o = (n : ℕ) → o ≡ refused n → P n
+abbrev pub Numbered : (ℕ → Type 0) → Outcome → Type 0
+Numbered P (refused n) = P n
+Numbered P (got bytes) = Unit {0}
+Numbered P (done t) = Unit {0}
+
+abbrev pub Denied : (ℕ → Type 0) → Doing → Type 0
+Denied P (denied n) = P n
+Denied P (given bytes) = Unit {0}
+Denied P (changed cs) = Unit {0}
 
 module _ (P : ℕ → Type 0) where
-  refused-one : {n m : ℕ} → refused n ≡ refused m → n ≡ m
-  refused-one e = cc
-
-  is-numbered : (n : ℕ) → P n → Numbered P (refused n)
-  unfolding Numbered
-  is-numbered n p m e = subst P (refused-one e) p
-
-  got-numbered : (bytes : List ℕ) → Numbered P (got bytes)
-  unfolding Numbered
-  got-numbered bytes m e = absurd (let z : _≡_ {A = ℕ} 0 1 = cc in omega arith)
-
-  done-numbered : (t : Table) → Numbered P (done t)
-  unfolding Numbered
-  done-numbered t m e = absurd (let z : _≡_ {A = ℕ} 0 1 = cc in omega arith)
-
   either-numbered : (b : Bool) (x y : Outcome) → Numbered P x → Numbered P y → Numbered P (pick b x y)
   either-numbered true x y p q = p
   either-numbered false x y p q = q
 
-load-by-numbers : (t : Table) (p : ℕ) (k : Sense) (range : Range) (w : ℕ) → Numbered LoadNumber (loadBy t p k range w)
+  either-denied : (b : Bool) (x y : Doing) → Denied P x → Denied P y → Denied P (pick b x y)
+  either-denied true x y p q = p
+  either-denied false x y p q = q
+
+  denied-numbered : (t : Table) (ps : List ℕ) (o : Doing) → Denied P o → Numbered P (outcomeAt t ps o)
+  denied-numbered t ps (denied n) p = p
+  denied-numbered t ps (given bytes) p = p
+  denied-numbered t ps (changed cs) p = p
+
+load-by-numbers : (k : Sense) (c : Control) (range : Range) (w : ℕ) → Denied LoadNumber (loadBy k c range w)
 unfolding loadBy loadRange
-load-by-numbers t p Unknown range w = is-numbered LoadNumber 20 load-20
-load-by-numbers t p YesNo range w = is-numbered LoadNumber 20 load-20
-load-by-numbers t p Pin range w = is-numbered LoadNumber 20 load-20
-load-by-numbers t p (Ranged s) range w =
-    either-numbered LoadNumber (legalOf s range && fitsOf s w) _ _ (done-numbered LoadNumber _) (is-numbered LoadNumber 21 load-21)
+load-by-numbers Unknown c range w = load-20
+load-by-numbers YesNo c range w = load-20
+load-by-numbers Pin c range w = load-20
+load-by-numbers (Ranged s) c range w = either-denied LoadNumber (legalOf s range && fitsOf s w) _ _ tt load-21
 
-load-at-numbers : (t : Table) (k : Sense) (f : Found) (range : Range) (w : ℕ) → Numbered LoadNumber (loadAt t k f range w)
+load-at-numbers : (t : Table) (ps : List ℕ) (range : Range) (w : ℕ) → Numbered LoadNumber (loadAt t ps range w)
 unfolding loadAt
-load-at-numbers t k found.Nothing range w = is-numbered LoadNumber 20 load-20
-load-at-numbers t k (found.At p) range w = load-by-numbers t p k range w
+load-at-numbers t [] range w = load-20
+load-at-numbers t (p ∷ ps) range w = denied-numbered LoadNumber t (p ∷ ps) (loadOn (at t p) range w) (load-by-numbers (senseOf (at t p .selector)) (at t p) range w)
 
-pub load-numbers : (t : Table) (u ch s : ℕ) (range : Range) (w : ℕ) → Numbered LoadNumber (loadOf t u ch s range w)
+pub load-numbers : (st : State) (k : Key) (range : Range) (w : ℕ) → Numbered LoadNumber (loadOf st (k .unit) (k .channel) (k .selector) range w)
 unfolding loadOf
-load-numbers t u ch s range w =
-    either-numbered LoadNumber (soundOf t) _ _ (load-at-numbers t (senseOf s) (foundIn t u ch s) range w) (is-numbered LoadNumber 30 load-30)
+load-numbers st k range w =
+    either-numbered LoadNumber (soundOf (st .table)) _ _ (load-at-numbers (st .table) (addressedIn (st .table) (k .unit) (k .channel) (k .selector)) range w) load-30
 
-number : (n : ℕ) → 30 ≤ n → n ≤ 39 → Numbered RequestNumber (refused n)
-number n h k = is-numbered RequestNumber n (record { from = h; to = k })
+number : (n : ℕ) → 30 ≤ n → n ≤ 39 → RequestNumber n
+number n h k = record { from = h; to = k }
 
-set-to-numbers : (t : Table) (p : ℕ) (x : Settled) → Numbered RequestNumber (setTo t p x)
-unfolding setTo
-set-to-numbers t p NoSetting = number 38 (omega arith) (omega arith)
-set-to-numbers t p (To y) = done-numbered RequestNumber _
+set-numbers : (cs : List Control) (n : ℕ) (d : List ℕ) → Denied RequestNumber (setOf cs n d)
+unfolding setOf
+set-numbers cs n d =
+    either-denied RequestNumber (any (λ c. unready (heldBy c) c) cs) _ _ (number 36 (omega arith) (omega arith))
+    (either-denied RequestNumber (misfits cs n d) _ _ (number 37 (omega arith) (omega arith))
+    (either-denied RequestNumber (allTake cs d) _ _ tt (number 38 (omega arith) (omega arith))))
 
-set-by-numbers : (t : Table) (p : ℕ) (k : Sense) (n : ℕ) (d : List ℕ) → Numbered RequestNumber (setBy t p k n d)
-unfolding setBy
-set-by-numbers t p k n d =
-    either-numbered RequestNumber (unready k (at t p)) _ _ (number 36 (omega arith) (omega arith))
-    (either-numbered RequestNumber (not (eqb n (sizeOf k)) || not (eqb (length d) (sizeOf k))) _ _ (number 37 (omega arith) (omega arith))
-    (set-to-numbers t p (settledOf k (at t p) (valueIn d))))
+get-numbers : (part : Part) (cs : List Control) (n room : ℕ) → Denied RequestNumber (getOf part cs n room)
+unfolding getOf
+get-numbers part cs n room =
+    either-denied RequestNumber (any (λ c. lacking (heldBy c) part) cs) _ _ (number 35 (omega arith) (omega arith))
+    (either-denied RequestNumber (any (λ c. unready (heldBy c) c) cs) _ _ (number 36 (omega arith) (omega arith))
+    (either-denied RequestNumber (not (eqb n (sizesOf cs))) _ _ (number 37 (omega arith) (omega arith))
+    (either-denied RequestNumber (ltb room (sizesOf cs)) _ _ (number 39 (omega arith) (omega arith)) tt)))
 
-get-by-numbers : (t : Table) (p : ℕ) (k : Sense) (part : Part) (n room : ℕ) → Numbered RequestNumber (getBy t p k part n room)
-unfolding getBy
-get-by-numbers t p k part n room =
-    either-numbered RequestNumber (lacking k part) _ _ (number 35 (omega arith) (omega arith))
-    (either-numbered RequestNumber (unready k (at t p)) _ _ (number 36 (omega arith) (omega arith))
-    (either-numbered RequestNumber (not (eqb n (sizeOf k))) _ _ (number 37 (omega arith) (omega arith))
-    (either-numbered RequestNumber (ltb room (sizeOf k)) _ _ (number 39 (omega arith) (omega arith)) (got-numbered RequestNumber _))))
+doing-numbers : (k : Asked) (d : List ℕ) (room : ℕ) (cs : List Control) → Denied RequestNumber (doingOf k d room cs)
+doing-numbers asks.Unknown d room cs = number 31 (omega arith) (omega arith)
+doing-numbers (asks.Set g) d room cs = set-numbers cs (g .bytes) d
+doing-numbers (asks.Get part g) d room cs = get-numbers part cs (g .bytes) room
 
--- where there is no place, one of 32, 33 and 34
-pub Turned : Addressed → Type 0
-Turned a = (n : ℕ) → a ≡ Refused n → RequestNumber n
+-- where no control is addressed, one of 33 and 34
+missed-numbers : (b : Bool) → RequestNumber (pick b 34 33)
+missed-numbers true = number 34 (omega arith) (omega arith)
+missed-numbers false = number 33 (omega arith) (omega arith)
 
-turned : (n : ℕ) → 30 ≤ n → n ≤ 39 → Turned (Refused n)
-unfolding Turned
-turned n h k m e = let i : n ≡ m = cc in record { from = omega arith; to = omega arith }
+done-numbers : (t : Table) (u : ℕ) (ps : List ℕ) (k : Asked) (d : List ℕ) (room : ℕ) → Numbered RequestNumber (doneAt t u ps (doingOf k d room))
+unfolding doneAt
+done-numbers t u [] k d room = missed-numbers (unitIn t u)
+done-numbers t u (p ∷ ps) k d room =
+    denied-numbered RequestNumber t (p ∷ ps) (doingOf k d room (map (at t) (p ∷ ps))) (doing-numbers k d room (map (at t) (p ∷ ps)))
 
-place-turned : (l : Lookup) → Turned (placeOf l)
-unfolding placeOf Turned
-place-turned lookup.NoUnit = turned 33 (omega arith) (omega arith)
-place-turned lookup.NoControl = turned 34 (omega arith) (omega arith)
-place-turned (lookup.At p) = λ n e. absurd (let z : _≡_ {A = ℕ} 0 1 = cc in omega arith)
+-- 31 and 32, where either bars the request
+Barred : ℕ → Type 0
+Barred x = (x ≡ 0 → ⊥) → RequestNumber x
 
-either-turned : (b : Bool) (x y : Addressed) → Turned x → Turned y → Turned (pick b x y)
-either-turned true x y p q = p
-either-turned false x y p q = q
+elsewhere-numbers : (g : Target) (m : ℕ) → Barred (elsewhereBy g m)
+unfolding elsewhereBy Barred
+elsewhere-numbers g m = go (eqb (g .interface) m)
+  where
+    go : (b : Bool) → (_≡_ {A = ℕ} (pick b 0 32) 0 → ⊥) → RequestNumber (pick b 0 32)
+    go true h = absurd (h refl)
+    go false h = number 32 (omega arith) (omega arith)
 
-address-turned : (t : Table) (n : ℕ) (g : Target) → Turned (addressedIn t n g)
-unfolding addressedIn
-address-turned t n g =
-    either-turned (eqb (g .interface) n) _ _ (place-turned (lookedUp t (g .unit) (g .channel) (g .selector))) (turned 32 (omega arith) (omega arith))
+barred-numbers : (k : Asked) (m : ℕ) → Barred (barredBy k m)
+unfolding Barred
+barred-numbers asks.Unknown m h = number 31 (omega arith) (omega arith)
+barred-numbers (asks.Set g) m h = elsewhere-numbers g m h
+barred-numbers (asks.Get part g) m h = elsewhere-numbers g m h
 
-set-from-numbers : (t : Table) (a : Addressed) → Turned a → (n : ℕ) (d : List ℕ) → Numbered RequestNumber (setFrom t a n d)
-unfolding setFrom Turned
-set-from-numbers t (Refused m) h n d = is-numbered RequestNumber m (h m refl)
-set-from-numbers t (At p) h n d = set-by-numbers t p (senseOf (at t p .selector)) n d
+barred-or : (o : Outcome) (x : ℕ) → Numbered RequestNumber o → Barred x → Numbered RequestNumber (pick (eqb x 0) o (refused x))
+unfolding Barred
+barred-or o x p h =
+    ⊎-elim
+    (λ (z : x ≡ 0). subst (λ (b : Bool). Numbered RequestNumber (pick b o (refused x))) (sym (eq-eqb _ _ z)) p)
+    (λ (z : x ≡ 0 → ⊥). subst (λ (b : Bool). Numbered RequestNumber (pick b o (refused x))) (sym (ne-eqb _ _ z)) (h z))
+    (decided (eqb x 0) (reads-eq x 0))
 
-get-from-numbers : (t : Table) (a : Addressed) → Turned a → (part : Part) (n room : ℕ) → Numbered RequestNumber (getFrom t a part n room)
-unfolding getFrom Turned
-get-from-numbers t (Refused m) h part n room = is-numbered RequestNumber m (h m refl)
-get-from-numbers t (At p) h part n room = get-by-numbers t p (senseOf (at t p .selector)) part n room
-
-asked-numbers : (t : Table) (n : ℕ) (k : Asked) (d : List ℕ) (room : ℕ) → Numbered RequestNumber (answerAsked t n k d room)
+asked-numbers : (st : State) (k : Asked) (d : List ℕ) (room : ℕ) → Numbered RequestNumber (answerAsked st k d room)
 unfolding answerAsked
-asked-numbers t n asks.Unknown d room = number 31 (omega arith) (omega arith)
-asked-numbers t n (asks.Set g) d room = set-from-numbers t (addressedIn t n g) (address-turned t n g) (g .length) d
-asked-numbers t n (asks.Get part g) d room = get-from-numbers t (addressedIn t n g) (address-turned t n g) part (g .length) room
+asked-numbers st k d room = barred-or (doneAt (st .table) (targetIn k .unit) (addressedIn (st .table) (targetIn k .unit) (targetIn k .channel) (targetIn k .selector)) (doingOf k d room)) (barredBy k (st .control))
+    (done-numbers (st .table) (targetIn k .unit) (addressedIn (st .table) (targetIn k .unit) (targetIn k .channel) (targetIn k .selector)) k d room) (barred-numbers k (st .control))
 
-pub request-numbers : (t : Table) (n : ℕ) (s d : List ℕ) (room : ℕ) → Numbered RequestNumber (requestOf t n s d room)
+pub request-numbers : (st : State) (s d : List ℕ) (room : ℕ) → Numbered RequestNumber (requestOf st s d room)
 unfolding requestOf
-request-numbers t n s d room =
-    either-numbered RequestNumber (soundOf t) _ _ (asked-numbers t n (askedOf s) d room) (number 30 (omega arith) (omega arith))
+request-numbers st s d room =
+    either-numbered RequestNumber (soundOf (st .table)) _ _ (asked-numbers st (askedOf s) d room) (number 30 (omega arith) (omega arith))
 
 -- 0 exactly where it is accepted
 accepted-by : (P : ℕ → Type 0) → (P 0 → ⊥) → (o : Outcome) → Numbered P o → accepted o ≡ eqb (numberOf o) 0
-unfolding Numbered
-accepted-by P h (refused n) p = sym (ne-eqb n 0 (λ e. h (subst P e (p n refl))))
+accepted-by P h (refused n) p = sym (ne-eqb n 0 (λ e. h (subst P e p)))
 accepted-by P h (got bytes) p = refl
 accepted-by P h (done t) p = refl
 
@@ -184,13 +188,13 @@ no-load-0 n e load-30 = omega arith
 no-load-0 n e load-20 = omega arith
 no-load-0 n e load-21 = omega arith
 
-pub accepted-is-0 : (t : Table) (st : Step) → accepted (stepOf t st) ≡ eqb (numberOf (stepOf t st)) 0
-accepted-is-0 t (load k range w) = accepted-by LoadNumber (no-load-0 0 refl) _ (load-numbers t (k .unit) (k .channel) (k .selector) range w)
-accepted-is-0 t (request n s d room) = accepted-by RequestNumber (λ h. let f = h .from in omega arith) _ (request-numbers t n s d room)
+pub accepted-is-0 : (st : State) (step : Step) → accepted (stepOf st step) ≡ eqb (numberOf (stepOf st step)) 0
+accepted-is-0 st (load k range w) = accepted-by LoadNumber (no-load-0 0 refl) (stepOf st (load k range w)) (load-numbers st k range w)
+accepted-is-0 st (request s d room) = accepted-by RequestNumber (λ h. let f = h .from in omega arith) (requestOf st s d room) (request-numbers st s d room)
 
 -- the contract of a request settles its result and its reply
-pub answered-one : (t : Table) (o : Outcome) (b : List ℕ) (r q : Answer) (a e : List ℕ) → Answered t o b r a → Answered t o b q e → (r ≡ q) × (a ≡ e)
-answered-one t o b r q a e x y = (x .result ∙ sym (y .result), x .lent ∙ sym (y .lent))
+pub answered-one : (st : State) (o : Outcome) (b : List ℕ) (r q : Answer) (a e : List ℕ) → Answered st o b r a → Answered st o b q e → (r ≡ q) × (a ≡ e)
+answered-one st o b r q a e x y = (x .result ∙ sym (y .result), x .lent ∙ sym (y .lent))
 
 -- two calls that differ in what the lent reply held
 pub record Agree (b a c e : List ℕ) : Type 0 where
@@ -198,13 +202,13 @@ pub record Agree (b a c e : List ℕ) : Type 0 where
   pub left : a ≡ laid bytes b
   pub right : e ≡ laid bytes c
 
-pub reply-unread : (t : Table) (n : ℕ) (s d b c : List ℕ) → length b ≡ length c → (r q : Answer) (a e : List ℕ)
-    → Answered t (requestOf t n s d (length b)) b r a → Answered t (requestOf t n s d (length c)) c q e → (r ≡ q) × Agree b a c e
-reply-unread t n s d b c l r q a e x y =
-    let o : requestOf t n s d (length c) ≡ requestOf t n s d (length b) = ap (λ (m : ℕ). requestOf t n s d m) (sym l) in (
-      x .result ∙ ap (answerOf t) (sym o) ∙ sym (y .result),
+pub reply-unread : (st : State) (s d b c : List ℕ) → length b ≡ length c → (r q : Answer) (a e : List ℕ)
+    → Answered st (requestOf st s d (length b)) b r a → Answered st (requestOf st s d (length c)) c q e → (r ≡ q) × Agree b a c e
+reply-unread st s d b c l r q a e x y =
+    let o : requestOf st s d (length c) ≡ requestOf st s d (length b) = ap (λ (m : ℕ). requestOf st s d m) (sym l) in (
+      x .result ∙ ap (answerOf st) (sym o) ∙ sym (y .result),
       record {
-        bytes = bytesOf (requestOf t n s d (length b));
+        bytes = bytesOf (requestOf st s d (length b));
         left = x .lent;
         right = y .lent ∙ ap (λ (z : Outcome). laid (bytesOf z) c) o;
       },

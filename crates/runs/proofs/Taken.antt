@@ -5,38 +5,48 @@
 --   load-taken, set-taken, get-taken  ==  every acceptance is one of these
 --   load-not-got  ==  no load is answered with bytes
 use Prim.Native.Nat.{ℕ, _≤_}
-use mathlib.Core.Path.{_≡_, refl, sym, ap}
-use mathlib.Core.List.{List}
+use mathlib.Core.Path.{_≡_, refl, sym, ap, _∙_}
+use mathlib.Core.List.{List, [], _∷_, head-eq-of-cons-eq}
 use mathlib.Core.Bool.{Bool, true, false, not, _&&_, _||_}
 use mathlib.Core.Logic.{_⊎_, inl, inr, ⊎-elim}
 use native.Mathlib.Omega.{arith}
 use lib.Dec.{eqb, ltb}
 use lib.ListN.{length}
+use lib.Seq.{take-all}
 use borrow.Author.Tests.{eqb-true, ltb-false, not-false}
 use Rattle.ground.specs.Pick.{pick, true≠false, reads-true, reads-and}
+use Rattle.ground.specs.Numbers.{byte, word}
 use Rattle.setting.specs.Setting.{fitsOf, legalOf}
 use Rattle.setting.specs.declared.Sort.{Sort}
 use Rattle.setting.specs.declared.Range.{Range}
+use Rattle.table.specs.declared.Control.{Control}
 use Rattle.table.specs.declared.Table.{Table}
 use Rattle.table.specs.declared.Sense.{Sense}
 use Rattle.table.specs.declared.Sense.the-variants.{Unknown, YesNo, Ranged, Pin}
 use Rattle.table.specs.declared.Found.{Found}
 use Rattle.table.specs.declared.Found.the-variants as found
-use Rattle.table.specs.Controls.{at, placed, senseOf, sizeOf}
-use Rattle.table.specs.First.{foundIn, unitIn, lookupBy, lookedUp}
+use Rattle.table.specs.Controls.{at, placed, senseOf}
+use Rattle.table.specs.Keys.{Key, whereIs}
+use Rattle.table.specs.First.{foundIn}
 use Rattle.table.specs.Sound.{soundOf}
-use Rattle.request.specs.declared.Target.{Target}
-use Rattle.request.specs.declared.Part.{Part}
-use Rattle.request.specs.declared.Asked.{Asked}
-use Rattle.request.specs.declared.Asked.the-variants as asks
-use Rattle.request.specs.declared.Addressed.{Addressed}
-use Rattle.request.specs.declared.Addressed.the-variants.{Refused, At}
-use Rattle.request.specs.declared.Settled.{Settled}
-use Rattle.request.specs.declared.Settled.the-variants.{NoSetting, To}
-use Rattle.request.specs.Outcome.{Outcome, lowFirst}
+use Rattle.setup.specs.declared.Part.{Part}
+use Rattle.setup.specs.declared.Asked.{Asked}
+use Rattle.setup.specs.declared.Asked.the-variants as asks
+use Rattle.setup.specs.Setup.{AsksSet, AsksGet, codeOf, askedOf, targetIn}
+use Rattle.setup.specs.Asking.{Asking, none, sets, gets, asking}
+use Rattle.deed.specs.Doing.{Doing, lowFirst}
+use Rattle.deed.specs.Doing.Doing.{denied, given, changed}
+use Rattle.answers.specs.Held.{lacking, partOf, unready, valueIn, takes, storedFor, withCur}
+use Rattle.answers.specs.Answers.{heldBy, sizeIn, sentTo, setOf, getOf}
+use Rattle.answers.specs.AnswersLaws.{setOne, set-one, getOne, get-one}
+use Rattle.loads.specs.Load.{loadedWith, loadRange, loadBy, loadOn}
+use Rattle.request.specs.declared.State.{State}
+use Rattle.request.specs.Outcome.{Outcome}
 use Rattle.request.specs.Outcome.Outcome.{refused, got, done}
-use Rattle.request.specs.Load.{loadedWith, loadRange, loadBy, loadAt, loadOf}
-use Rattle.request.specs.Request.{placeOf, addressedIn, lacking, partOf, unready, valueIn, settledOf, withCur, setTo, setBy, setFrom, getBy, getFrom, askedOf, answerAsked, requestOf}
+use Rattle.request.specs.Addressed.{placesOf, storedAt, outcomeAt}
+use Rattle.request.specs.Load.{loadAt, loadOf}
+use Rattle.request.specs.Request.{barredBy, doingOf, doneAt, answerAsked, requestOf}
+use Rattle.runs.specs.Runs.{namedBy}
 
 -- which of its two a choice came from
 picked : {A : Type 0} (b : Bool) (x y z : A) → pick b x y ≡ z → ((b ≡ true) × (x ≡ z)) ⊎ ((b ≡ false) × (y ≡ z))
@@ -50,246 +60,249 @@ no-done e = absurd (let z : _≡_ {A = ℕ} 0 1 = cc in omega arith)
 no-got : {P : Type 0} {n : ℕ} {bytes : List ℕ} → refused n ≡ got bytes → P
 no-got e = absurd (let z : _≡_ {A = ℕ} 0 1 = cc in omega arith)
 
-done-not-got : {P : Type 0} {t : Table} {bytes : List ℕ} → done t ≡ got bytes → P
-done-not-got e = absurd (let z : _≡_ {A = ℕ} 0 1 = cc in omega arith)
+no-change : {P : Type 0} {n : ℕ} {cs : List Control} → denied n ≡ changed cs → P
+no-change e = absurd (let z : _≡_ {A = ℕ} 0 1 = cc in omega arith)
+
+no-gift : {P : Type 0} {n : ℕ} {bytes : List ℕ} → denied n ≡ given bytes → P
+no-gift e = absurd (let z : _≡_ {A = ℕ} 0 1 = cc in omega arith)
+
+change-no-gift : {P : Type 0} {cs : List Control} {bytes : List ℕ} → changed cs ≡ given bytes → P
+change-no-gift e = absurd (let z : _≡_ {A = ℕ} 0 1 = cc in omega arith)
 
 done-one : {t u : Table} → done t ≡ done u → t ≡ u
 done-one e = cc
 
-pub record LoadTaken (t : Table) (u ch s : ℕ) (range : Range) (w : ℕ) (v : Table) : Type 0 where
+-- what was done, from what it came to
+done-changed : (t : Table) (ps : List ℕ) (o : Doing) (v : Table) → outcomeAt t ps o ≡ done v → (cs : List Control) × ((o ≡ changed cs) × (v ≡ storedAt t ps cs))
+done-changed t ps (denied n) v e = no-done e
+done-changed t ps (given bytes) v e = absurd (let z : _≡_ {A = ℕ} 0 1 = cc in omega arith)
+done-changed t ps (changed cs) v e = (cs, (refl, sym (done-one e)))
+
+got-given : (t : Table) (ps : List ℕ) (o : Doing) (bytes : List ℕ) → outcomeAt t ps o ≡ got bytes → o ≡ given bytes
+got-given t ps (denied n) bytes e = no-got e
+got-given t ps (given x) bytes e = let i : x ≡ bytes = cc in ap given i
+got-given t ps (changed cs) bytes e = absurd (let z : _≡_ {A = ℕ} 0 1 = cc in omega arith)
+
+-- a test that refuses, passed
+passed-change : (b : Bool) (n : ℕ) (o : Doing) (cs : List Control) → pick b (denied n) o ≡ changed cs → (b ≡ false) × (o ≡ changed cs)
+passed-change true n o cs e = no-change e
+passed-change false n o cs e = (refl, e)
+
+passed-gift : (b : Bool) (n : ℕ) (o : Doing) (bytes : List ℕ) → pick b (denied n) o ≡ given bytes → (b ≡ false) × (o ≡ given bytes)
+passed-gift true n o bytes e = no-gift e
+passed-gift false n o bytes e = (refl, e)
+
+kept-change : (b : Bool) (n : ℕ) (cs ds : List Control) → pick b (changed cs) (denied n) ≡ changed ds → (b ≡ true) × (ds ≡ cs)
+kept-change true n cs ds e = let i : cs ≡ ds = cc in (refl, sym i)
+kept-change false n cs ds e = no-change e
+
+pub record LoadTaken (t : Table) (k : Key) (range : Range) (w : ℕ) (v : Table) : Type 0 where
   pub sound : soundOf t ≡ true
-  pub place : ℕ
-  pub there : foundIn t u ch s ≡ found.At place
+  pub index : ℕ
+  pub there : whereIs t k ≡ found.At index
   pub sort : Sort
-  pub sense : senseOf s ≡ Ranged sort
+  pub sense : senseOf (at t index .selector) ≡ Ranged sort
   pub legal : legalOf sort range ≡ true
   pub fits : fitsOf sort w ≡ true
-  pub table : v ≡ placed t place (loadedWith sort range w (at t place))
+  pub table : v ≡ placed t index (loadedWith sort range w (at t index))
 
-module _ (t : Table) (u ch s : ℕ) (range : Range) (w : ℕ) (v : Table) (q : soundOf t ≡ true) (p : ℕ) (f : foundIn t u ch s ≡ found.At p) where
-  range-taken : (r : Sort) → senseOf s ≡ Ranged r → loadRange t p r range w ≡ done v → LoadTaken t u ch s range w v
-  unfolding loadRange
-  range-taken r k e =
-      ⊎-elim
-      (λ h.
-      let both = reads-and (legalOf r range) (fitsOf r w) (reads-true _) (reads-true _) .says (h .0) in
-      record { sound = q; place = p; there = f; sort = r; sense = k; legal = both .0; fits = both .1; table = sym (done-one (h .1)) })
-      (λ h. no-done (h .1))
-      (picked (legalOf r range && fitsOf r w) _ _ (done v) e)
+module _ (t : Table) (k : Key) (range : Range) (w : ℕ) (v : Table) (q : soundOf t ≡ true) (p : ℕ) (f : whereIs t k ≡ found.At p) where
+  sense-taken : (h : Sense) → senseOf (at t p .selector) ≡ h → (cs : List Control) → loadBy h (at t p) range w ≡ changed cs → v ≡ storedAt t (p ∷ []) cs → LoadTaken t k range w v
+  unfolding loadBy loadRange storedAt
+  sense-taken Unknown h cs e i = no-change e
+  sense-taken YesNo h cs e i = no-change e
+  sense-taken (Ranged r) h cs e i =
+      let a = kept-change (legalOf r range && fitsOf r w) 21 _ cs e in
+      let both = reads-and (legalOf r range) (fitsOf r w) (reads-true _) (reads-true _) .says (a .0) in
+      record { sound = q; index = p; there = f; sort = r; sense = h; legal = both .0; fits = both .1; table = i ∙ ap (storedAt t (p ∷ [])) (a .1) }
+  sense-taken Pin h cs e i = no-change e
 
-  sense-taken : (k : Sense) → senseOf s ≡ k → loadBy t p k range w ≡ done v → LoadTaken t u ch s range w v
-  unfolding loadBy
-  sense-taken Unknown k e = no-done e
-  sense-taken YesNo k e = no-done e
-  sense-taken (Ranged r) k e = range-taken r k e
-  sense-taken Pin k e = no-done e
-
-found-taken : (t : Table) (u ch s : ℕ) (range : Range) (w : ℕ) (v : Table) → soundOf t ≡ true → (f : Found) → foundIn t u ch s ≡ f
-    → loadAt t (senseOf s) f range w ≡ done v → LoadTaken t u ch s range w v
+found-taken : (t : Table) (k : Key) (range : Range) (w : ℕ) (v : Table) → soundOf t ≡ true → (f : Found) → whereIs t k ≡ f
+    → loadAt t (placesOf f) range w ≡ done v → LoadTaken t k range w v
 unfolding loadAt
-found-taken t u ch s range w v q found.Nothing f e = no-done e
-found-taken t u ch s range w v q (found.At p) f e = sense-taken t u ch s range w v q p f (senseOf s) refl e
+found-taken t k range w v q found.Nothing f e = no-done e
+found-taken t k range w v q (found.At p) f e =
+    let a = done-changed t (p ∷ []) (loadOn (at t p) range w) v e in
+    sense-taken t k range w v q p f (senseOf (at t p .selector)) refl (a .0) (a .1 .0) (a .1 .1)
 
-pub load-taken : (t : Table) (u ch s : ℕ) (range : Range) (w : ℕ) (v : Table) → loadOf t u ch s range w ≡ done v → LoadTaken t u ch s range w v
+pub load-taken : (st : State) (k : Key) (range : Range) (w : ℕ) (v : Table) → loadOf st (k .unit) (k .channel) (k .selector) range w ≡ done v → LoadTaken (st .table) k range w v
 unfolding loadOf
-load-taken t u ch s range w v e =
+load-taken st k range w v e =
     ⊎-elim
-    (λ h. found-taken t u ch s range w v (h .0) (foundIn t u ch s) refl (h .1))
+    (λ h. found-taken (st .table) k range w v (h .0) (whereIs (st .table) k) refl (h .1))
     (λ h. no-done (h .1))
-    (picked (soundOf t) _ _ (done v) e)
-
-no-place : {P : Type 0} {m p : ℕ} → Refused m ≡ At p → P
-no-place e = absurd (let z : _≡_ {A = ℕ} 0 1 = cc in omega arith)
-
-place-taken : (f : Found) (b : Bool) (p : ℕ) → placeOf (lookupBy f b) ≡ At p → f ≡ found.At p
-unfolding placeOf
-place-taken found.Nothing true p e = no-place e
-place-taken found.Nothing false p e = no-place e
-place-taken (found.At q) b p e = let i : q ≡ p = cc in ap found.At i
-
--- where a request's control stands
-address-taken : (t : Table) (n : ℕ) (g : Target) (p : ℕ) → addressedIn t n g ≡ At p → foundIn t (g .unit) (g .channel) (g .selector) ≡ found.At p
-unfolding addressedIn lookedUp
-address-taken t n g p e =
-    ⊎-elim
-    (λ h. place-taken (foundIn t (g .unit) (g .channel) (g .selector)) (unitIn t (g .unit)) p (h .1))
-    (λ h. no-place (h .1))
-    (picked (eqb (g .interface) n) _ _ (At p) e)
+    (picked (soundOf (st .table)) _ _ (done v) e)
 
 pub record SetTaken (t : Table) (s d : List ℕ) (v : Table) : Type 0 where
   pub sound : soundOf t ≡ true
-  pub target : Target
-  pub asked : askedOf s ≡ asks.Set target
-  pub place : ℕ
-  pub there : foundIn t (target .unit) (target .channel) (target .selector) ≡ found.At place
-  pub ready : unready (senseOf (at t place .selector)) (at t place) ≡ false
-  pub sized : length d ≡ sizeOf (senseOf (at t place .selector))
-  pub value : ℕ
-  pub settled : settledOf (senseOf (at t place .selector)) (at t place) (valueIn d) ≡ To value
-  pub table : v ≡ placed t place (withCur value (at t place))
+  pub asked : AsksSet s
+  pub index : ℕ
+  pub there : whereIs t (namedBy s) ≡ found.At index
+  pub ready : unready (heldBy (at t index)) (at t index) ≡ false
+  pub sized : length d ≡ sizeIn (at t index)
+  pub taken : takes (heldBy (at t index)) (at t index) (valueIn d) ≡ true
+  pub table : v ≡ placed t index (withCur (storedFor (heldBy (at t index)) (at t index) (valueIn d)) (at t index))
 
 pub record GetTaken (t : Table) (s : List ℕ) (room : ℕ) (bytes : List ℕ) : Type 0 where
   pub sound : soundOf t ≡ true
+  pub asked : AsksGet s
   pub part : Part
-  pub target : Target
-  pub asked : askedOf s ≡ asks.Get part target
-  pub place : ℕ
-  pub there : foundIn t (target .unit) (target .channel) (target .selector) ≡ found.At place
-  pub has : lacking (senseOf (at t place .selector)) part ≡ false
-  pub ready : unready (senseOf (at t place .selector)) (at t place) ≡ false
-  pub sized : target .length ≡ sizeOf (senseOf (at t place .selector))
-  pub fits : sizeOf (senseOf (at t place .selector)) ≤ room
-  pub given : bytes ≡ lowFirst (sizeOf (senseOf (at t place .selector))) (partOf part (at t place))
+  pub code : byte s 1 ≡ codeOf part
+  pub index : ℕ
+  pub there : whereIs t (namedBy s) ≡ found.At index
+  pub has : lacking (heldBy (at t index)) part ≡ false
+  pub ready : unready (heldBy (at t index)) (at t index) ≡ false
+  pub sized : word s 6 ≡ sizeIn (at t index)
+  pub fits : sizeIn (at t index) ≤ room
+  pub given : bytes ≡ lowFirst (sizeIn (at t index)) (partOf part (at t index))
 
--- a test that refuses, passed
-passed-done : (b : Bool) (n : ℕ) (o : Outcome) (v : Table) → pick b (refused n) o ≡ done v → (b ≡ false) × (o ≡ done v)
-passed-done true n o v e = no-done e
-passed-done false n o v e = (refl, e)
-
-passed-got : (b : Bool) (n : ℕ) (o : Outcome) (bytes : List ℕ) → pick b (refused n) o ≡ got bytes → (b ≡ false) × (o ≡ got bytes)
-passed-got true n o bytes e = no-got e
-passed-got false n o bytes e = (refl, e)
-
-abbrev missized : Sense → ℕ → List ℕ → Bool
-missized k n d = not (eqb n (sizeOf k)) || not (eqb (length d) (sizeOf k))
-
-missized-not : (k : Sense) (n : ℕ) (d : List ℕ) → missized k n d ≡ false → length d ≡ sizeOf k
-missized-not k n d e = go (eqb n (sizeOf k)) e
+missized-not : (size n : ℕ) (d : List ℕ) → (not (eqb n size) || not (eqb (length d) size)) ≡ false → length d ≡ size
+missized-not size n d e = go (eqb n size) e
   where
-    go : (b : Bool) → (not b || not (eqb (length d) (sizeOf k))) ≡ false → length d ≡ sizeOf k
+    go : (b : Bool) → (not b || not (eqb (length d) size)) ≡ false → length d ≡ size
     go true h = eqb-true _ _ (not-false _ h)
     go false h = absurd (true≠false h)
 
--- a Set is not answered with bytes
-set-to-not-got : (t : Table) (p : ℕ) (x : Settled) (bytes : List ℕ) → setTo t p x ≡ got bytes → ⊥
-unfolding setTo
-set-to-not-got t p NoSetting bytes e = no-got e
-set-to-not-got t p (To y) bytes e = done-not-got e
+-- a Set of the control at index p
+module _ (t : Table) (s d : List ℕ) (q : soundOf t ≡ true) (p : ℕ) (f : whereIs t (namedBy s) ≡ found.At p) where
+  abbrev here : Control
+  here = at t p
 
-set-not-got : (t : Table) (a : Addressed) (n : ℕ) (d : List ℕ) (bytes : List ℕ) → setFrom t a n d ≡ got bytes → ⊥
-unfolding setFrom setBy
-set-not-got t (Refused m) n d bytes e = no-got e
-set-not-got t (At p) n d bytes e =
-    let k = senseOf (at t p .selector) in
-    let a = passed-got (unready k (at t p)) 36 _ bytes e in
-    let b = passed-got (missized k n d) 37 _ bytes (a .1) in
-    set-to-not-got t p _ bytes (b .1)
-
--- a Get stores nothing
-get-not-done : (t : Table) (a : Addressed) (part : Part) (n room : ℕ) (v : Table) → getFrom t a part n room ≡ done v → ⊥
-unfolding getFrom getBy
-get-not-done t (Refused m) part n room v e = no-done e
-get-not-done t (At p) part n room v e =
-    let k = senseOf (at t p .selector) in
-    let a = passed-done (lacking k part) 35 _ v e in
-    let b = passed-done (unready k (at t p)) 36 _ v (a .1) in
-    let c = passed-done (not (eqb n (sizeOf k))) 37 _ v (b .1) in
-    let d = passed-done (ltb room (sizeOf k)) 39 _ v (c .1) in
-    done-not-got (sym (d .1))
-
-stored-taken : (t : Table) (p : ℕ) (x : Settled) (v : Table) → setTo t p x ≡ done v → (y : ℕ) × ((x ≡ To y) × (v ≡ placed t p (withCur y (at t p))))
-unfolding setTo
-stored-taken t p NoSetting v e = no-done e
-stored-taken t p (To y) v e = (y, (refl, sym (done-one e)))
-
-module _ (t : Table) (s d : List ℕ) (q : soundOf t ≡ true) where
-  set-from : (g : Target) → askedOf s ≡ asks.Set g → (v : Table) (a : Addressed)
-      → ((p : ℕ) → a ≡ At p → foundIn t (g .unit) (g .channel) (g .selector) ≡ found.At p)
-      → setFrom t a (g .length) d ≡ done v → SetTaken t s d v
-  unfolding setFrom setBy
-  set-from g i v (Refused m) f e = no-done e
-  set-from g i v (At p) f e =
-      let k = senseOf (at t p .selector) in
-      let a = passed-done (unready k (at t p)) 36 _ v e in
-      let b = passed-done (missized k (g .length) d) 37 _ v (a .1) in
-      let c = stored-taken t p (settledOf k (at t p) (valueIn d)) v (b .1) in
+  set-changed : AsksSet s → (n : ℕ) (v : Table) (cs : List Control) → setOne here n d ≡ changed cs → v ≡ storedAt t (p ∷ []) cs → SetTaken t s d v
+  unfolding storedAt
+  set-changed a n v cs e i =
+      let x = passed-change (unready (heldBy here) here) 36 _ cs e in
+      let y = passed-change (not (eqb n (sizeIn here)) || not (eqb (length d) (sizeIn here))) 37 _ cs (x .1) in
+      let z = kept-change (takes (heldBy here) here (sentTo here d)) 38 _ cs (y .1) in
+      let l = missized-not (sizeIn here) n d (y .0) in
+      let w : sentTo here d ≡ valueIn d = ap valueIn (take-all (sizeIn here) d (omega arith)) in
       record {
         sound = q;
-        target = g;
-        asked = i;
-        place = p;
-        there = f p refl;
-        ready = a .0;
-        sized = missized-not k (g .length) d (b .0);
-        value = c .0;
-        settled = c .1 .0;
-        table = c .1 .1;
+        asked = a;
+        index = p;
+        there = f;
+        ready = x .0;
+        sized = l;
+        taken = ap (takes (heldBy here) here) (sym w) ∙ z .0;
+        table = i ∙ ap (storedAt t (p ∷ [])) (z .1) ∙ ap (λ (y : ℕ). placed t p (withCur (storedFor (heldBy here) here y) here)) w;
       }
 
-  get-from : (part : Part) (g : Target) → askedOf s ≡ asks.Get part g → (room : ℕ) (bytes : List ℕ) (a : Addressed)
-      → ((p : ℕ) → a ≡ At p → foundIn t (g .unit) (g .channel) (g .selector) ≡ found.At p)
-      → getFrom t a part (g .length) room ≡ got bytes → GetTaken t s room bytes
-  unfolding getFrom getBy
-  get-from part g i room bytes (Refused m) f e = no-got e
-  get-from part g i room bytes (At p) f e =
-      let k = senseOf (at t p .selector) in
-      let a = passed-got (lacking k part) 35 _ bytes e in
-      let b = passed-got (unready k (at t p)) 36 _ bytes (a .1) in
-      let c = passed-got (not (eqb (g .length) (sizeOf k))) 37 _ bytes (b .1) in
-      let h = passed-got (ltb room (sizeOf k)) 39 _ bytes (c .1) in
+  get-gave : AsksGet s → (part : Part) → byte s 1 ≡ codeOf part → (room : ℕ) (bytes : List ℕ) → getOne here part (word s 6) room ≡ given bytes → GetTaken t s room bytes
+  get-gave a part c room bytes e =
+      let x = passed-gift (lacking (heldBy here) part) 35 _ bytes e in
+      let y = passed-gift (unready (heldBy here) here) 36 _ bytes (x .1) in
+      let z = passed-gift (not (eqb (word s 6) (sizeIn here))) 37 _ bytes (y .1) in
+      let w = passed-gift (ltb room (sizeIn here)) 39 _ bytes (z .1) in
       record {
         sound = q;
+        asked = a;
         part = part;
-        target = g;
-        asked = i;
-        place = p;
-        there = f p refl;
-        has = a .0;
-        ready = b .0;
-        sized = eqb-true _ _ (not-false _ (c .0));
-        fits = ltb-false _ _ (h .0);
-        given = got-one (sym (h .1));
+        code = c;
+        index = p;
+        there = f;
+        has = x .0;
+        ready = y .0;
+        sized = eqb-true _ _ (not-false _ (z .0));
+        fits = ltb-false _ _ (w .0);
+        given = given-one (sym (w .1));
       }
     where
-      got-one : {x y : List ℕ} → got x ≡ got y → x ≡ y
-      got-one z = cc
+      given-one : {x y : List ℕ} → given x ≡ given y → x ≡ y
+      given-one i = cc
 
-  set-asked : (n : ℕ) (k : Asked) → askedOf s ≡ k → (room : ℕ) (v : Table) → answerAsked t n k d room ≡ done v → SetTaken t s d v
+-- a Set is not answered with bytes, and a Get stores nothing
+set-no-gift : (c : Control) (n : ℕ) (d : List ℕ) (bytes : List ℕ) → setOne c n d ≡ given bytes → ⊥
+set-no-gift c n d bytes e =
+    let x = passed-gift (unready (heldBy c) c) 36 _ bytes e in
+    let y = passed-gift (not (eqb n (sizeIn c)) || not (eqb (length d) (sizeIn c))) 37 _ bytes (x .1) in
+    ⊎-elim (λ h. change-no-gift (h .1)) (λ h. no-gift (h .1)) (picked (takes (heldBy c) c (sentTo c d)) _ _ (given bytes) (y .1))
+
+get-no-change : (c : Control) (part : Part) (n room : ℕ) (cs : List Control) → getOne c part n room ≡ changed cs → ⊥
+get-no-change c part n room cs e =
+    let x = passed-change (lacking (heldBy c) part) 35 _ cs e in
+    let y = passed-change (unready (heldBy c) c) 36 _ cs (x .1) in
+    let z = passed-change (not (eqb n (sizeIn c))) 37 _ cs (y .1) in
+    let w = passed-change (ltb room (sizeIn c)) 39 _ cs (z .1) in
+    change-no-gift (sym (w .1))
+
+module _ (st : State) (s d : List ℕ) (room : ℕ) (q : soundOf (st .table) ≡ true) where
+  abbrev t : Table
+  t = st .table
+
+  -- what is done where the named control was found
+  set-found : AsksSet s → (f : Found) → whereIs t (namedBy s) ≡ f → (v : Table) → doneAt t (byte s 5) (placesOf f) (λ cs. setOf cs (word s 6) d) ≡ done v → SetTaken t s d v
+  unfolding doneAt
+  set-found a found.Nothing i v e = no-done e
+  set-found a (found.At p) i v e =
+      let x = done-changed t (p ∷ []) (setOf (at t p ∷ []) (word s 6) d) v e in
+      set-changed t s d q p i a (word s 6) v (x .0) (sym (set-one (at t p) (word s 6) d) ∙ x .1 .0) (x .1 .1)
+
+  set-found-not : (f : Found) (bytes : List ℕ) → doneAt t (byte s 5) (placesOf f) (λ cs. setOf cs (word s 6) d) ≡ got bytes → ⊥
+  unfolding doneAt
+  set-found-not found.Nothing bytes e = no-got e
+  set-found-not (found.At p) bytes e =
+      set-no-gift (at t p) (word s 6) d bytes (sym (set-one (at t p) (word s 6) d) ∙ got-given t (p ∷ []) (setOf (at t p ∷ []) (word s 6) d) bytes e)
+
+  get-found : AsksGet s → (part : Part) → byte s 1 ≡ codeOf part → (f : Found) → whereIs t (namedBy s) ≡ f → (bytes : List ℕ)
+      → doneAt t (byte s 5) (placesOf f) (λ cs. getOf part cs (word s 6) room) ≡ got bytes → GetTaken t s room bytes
+  unfolding doneAt
+  get-found a part c found.Nothing i bytes e = no-got e
+  get-found a part c (found.At p) i bytes e =
+      get-gave t s d q p i a part c room bytes (sym (get-one (at t p) part (word s 6) room) ∙ got-given t (p ∷ []) (getOf part (at t p ∷ []) (word s 6) room) bytes e)
+
+  get-found-not : (part : Part) (f : Found) (v : Table) → doneAt t (byte s 5) (placesOf f) (λ cs. getOf part cs (word s 6) room) ≡ done v → ⊥
+  unfolding doneAt
+  get-found-not part found.Nothing v e = no-done e
+  get-found-not part (found.At p) v e =
+      let x = done-changed t (p ∷ []) (getOf part (at t p ∷ []) (word s 6) room) v e in
+      get-no-change (at t p) part (word s 6) room (x .0) (sym (get-one (at t p) part (word s 6) room) ∙ x .1 .0)
+
+  set-asked : (k : Asked) → Asking s k → (v : Table) → answerAsked st k d room ≡ done v → SetTaken t s d v
   unfolding answerAsked
-  set-asked n asks.Unknown i room v e = no-done e
-  set-asked n (asks.Set g) i room v e = set-from g i v (addressedIn t n g) (λ p a. address-taken t n g p a) e
-  set-asked n (asks.Get part g) i room v e = absurd (get-not-done t _ part (g .length) room v e)
+  set-asked _ (none w) v e = no-done e
+  set-asked _ (sets l a) v e =
+      ⊎-elim (λ h. set-found a (whereIs t (namedBy s)) refl v (h .1)) (λ h. no-done (h .1)) (picked (eqb (barredBy (asks.Set _) (st .control)) 0) _ _ (done v) e)
+  set-asked _ (gets part l a c) v e =
+      ⊎-elim (λ h. absurd (get-found-not part (whereIs t (namedBy s)) v (h .1))) (λ h. no-done (h .1)) (picked (eqb (barredBy (asks.Get part _) (st .control)) 0) _ _ (done v) e)
 
-  get-asked : (n : ℕ) (k : Asked) → askedOf s ≡ k → (room : ℕ) (bytes : List ℕ) → answerAsked t n k d room ≡ got bytes → GetTaken t s room bytes
+  get-asked : (k : Asked) → Asking s k → (bytes : List ℕ) → answerAsked st k d room ≡ got bytes → GetTaken t s room bytes
   unfolding answerAsked
-  get-asked n asks.Unknown i room bytes e = no-got e
-  get-asked n (asks.Set g) i room bytes e = absurd (set-not-got t _ (g .length) d bytes e)
-  get-asked n (asks.Get part g) i room bytes e = get-from part g i room bytes (addressedIn t n g) (λ p a. address-taken t n g p a) e
+  get-asked _ (none w) bytes e = no-got e
+  get-asked _ (sets l a) bytes e =
+      ⊎-elim (λ h. absurd (set-found-not (whereIs t (namedBy s)) bytes (h .1))) (λ h. no-got (h .1)) (picked (eqb (barredBy (asks.Set _) (st .control)) 0) _ _ (got bytes) e)
+  get-asked _ (gets part l a c) bytes e =
+      ⊎-elim (λ h. get-found a part c (whereIs t (namedBy s)) refl bytes (h .1)) (λ h. no-got (h .1)) (picked (eqb (barredBy (asks.Get part _) (st .control)) 0) _ _ (got bytes) e)
 
-pub set-taken : (t : Table) (n : ℕ) (s d : List ℕ) (room : ℕ) (v : Table) → requestOf t n s d room ≡ done v → SetTaken t s d v
+pub set-taken : (st : State) (s d : List ℕ) (room : ℕ) (v : Table) → requestOf st s d room ≡ done v → SetTaken (st .table) s d v
 unfolding requestOf
-set-taken t n s d room v e =
+set-taken st s d room v e =
     ⊎-elim
-    (λ h. set-asked t s d (h .0) n (askedOf s) refl room v (h .1))
+    (λ h. set-asked st s d room (h .0) (askedOf s) (asking s) v (h .1))
     (λ h. no-done (h .1))
-    (picked (soundOf t) _ _ (done v) e)
+    (picked (soundOf (st .table)) _ _ (done v) e)
 
-pub get-taken : (t : Table) (n : ℕ) (s d : List ℕ) (room : ℕ) (bytes : List ℕ) → requestOf t n s d room ≡ got bytes → GetTaken t s room bytes
+pub get-taken : (st : State) (s d : List ℕ) (room : ℕ) (bytes : List ℕ) → requestOf st s d room ≡ got bytes → GetTaken (st .table) s room bytes
 unfolding requestOf
-get-taken t n s d room bytes e =
+get-taken st s d room bytes e =
     ⊎-elim
-    (λ h. get-asked t s d (h .0) n (askedOf s) refl room bytes (h .1))
+    (λ h. get-asked st s d room (h .0) (askedOf s) (asking s) bytes (h .1))
     (λ h. no-got (h .1))
-    (picked (soundOf t) _ _ (got bytes) e)
+    (picked (soundOf (st .table)) _ _ (got bytes) e)
 
 -- a load is not answered with bytes
-load-range-not-got : (t : Table) (p : ℕ) (r : Sort) (range : Range) (w : ℕ) (bytes : List ℕ) → loadRange t p r range w ≡ got bytes → ⊥
-unfolding loadRange
-load-range-not-got t p r range w bytes e = ⊎-elim (λ h. done-not-got (h .1)) (λ h. no-got (h .1)) (picked (legalOf r range && fitsOf r w) _ _ (got bytes) e)
+load-by-no-gift : (k : Sense) (c : Control) (range : Range) (w : ℕ) (bytes : List ℕ) → loadBy k c range w ≡ given bytes → ⊥
+unfolding loadBy loadRange
+load-by-no-gift Unknown c range w bytes e = no-gift e
+load-by-no-gift YesNo c range w bytes e = no-gift e
+load-by-no-gift (Ranged r) c range w bytes e = ⊎-elim (λ h. change-no-gift (h .1)) (λ h. no-gift (h .1)) (picked (legalOf r range && fitsOf r w) _ _ (given bytes) e)
+load-by-no-gift Pin c range w bytes e = no-gift e
 
-load-by-not-got : (t : Table) (p : ℕ) (k : Sense) (range : Range) (w : ℕ) (bytes : List ℕ) → loadBy t p k range w ≡ got bytes → ⊥
-unfolding loadBy
-load-by-not-got t p Unknown range w bytes e = no-got e
-load-by-not-got t p YesNo range w bytes e = no-got e
-load-by-not-got t p (Ranged r) range w bytes e = load-range-not-got t p r range w bytes e
-load-by-not-got t p Pin range w bytes e = no-got e
-
-load-at-not-got : (t : Table) (k : Sense) (f : Found) (range : Range) (w : ℕ) (bytes : List ℕ) → loadAt t k f range w ≡ got bytes → ⊥
+load-at-not-got : (t : Table) (f : Found) (range : Range) (w : ℕ) (bytes : List ℕ) → loadAt t (placesOf f) range w ≡ got bytes → ⊥
 unfolding loadAt
-load-at-not-got t k found.Nothing range w bytes e = no-got e
-load-at-not-got t k (found.At p) range w bytes e = load-by-not-got t p k range w bytes e
+load-at-not-got t found.Nothing range w bytes e = no-got e
+load-at-not-got t (found.At p) range w bytes e = load-by-no-gift (senseOf (at t p .selector)) (at t p) range w bytes (got-given t (p ∷ []) (loadOn (at t p) range w) bytes e)
 
-pub load-not-got : (t : Table) (u ch s : ℕ) (range : Range) (w : ℕ) (bytes : List ℕ) → loadOf t u ch s range w ≡ got bytes → ⊥
+pub load-not-got : (st : State) (k : Key) (range : Range) (w : ℕ) (bytes : List ℕ) → loadOf st (k .unit) (k .channel) (k .selector) range w ≡ got bytes → ⊥
 unfolding loadOf
-load-not-got t u ch s range w bytes e =
-    ⊎-elim (λ h. load-at-not-got t _ _ range w bytes (h .1)) (λ h. no-got (h .1)) (picked (soundOf t) _ _ (got bytes) e)
+load-not-got st k range w bytes e =
+    ⊎-elim (λ h. load-at-not-got (st .table) (whereIs (st .table) k) range w bytes (h .1)) (λ h. no-got (h .1)) (picked (soundOf (st .table)) _ _ (got bytes) e)

@@ -1,7 +1,7 @@
 -- What is read of a setup is what its bytes ask.
 --   Asking s k             ==  the bytes of the setup s ask k: nothing, a Set, or a Get of a part
 --   asking                 ==  what is read is asked so
---   set-no-get             ==  no setup asks both
+--   set-no-get             ==  no setup asks both; reads-set: the test of a Set decides
 --   set-bytes, get-bytes   ==  a setup that is read as a Set, or as a Get of a part, has the type and the request of that, and what it
 --                              is about is what its bytes name
 use Prim.Native.Nat.{ℕ}
@@ -12,19 +12,22 @@ use mathlib.Core.Logic.{⊎-elim}
 use native.Mathlib.Omega.{arith}
 use lib.Dec.{eqb, leb}
 use lib.ListN.{length}
-use Rattle.ground.specs.Pick.{pick, Reads, reads-eq, reads-le}
+use Rattle.ground.specs.Pick.{pick, Reads, reads-and, reads-eq, reads-le}
 use Rattle.ground.specs.Numbers.{byte}
 use Rattle.setup.specs.declared.Target.{Target}
 use Rattle.setup.specs.declared.Part.{Part}
 use Rattle.setup.specs.declared.Part.the-variants.{Cur, Min, Max, Res}
 use Rattle.setup.specs.declared.Asked.{Asked}
 use Rattle.setup.specs.declared.Asked.the-variants as asks
-use Rattle.setup.specs.Setup.{AsksSet, AsksGet, codeOf, WellAsked, targetOf, getAsked, askedBy, askedOf}
+use Rattle.setup.specs.Setup.{AsksSet, asksSet, AsksGet, codeOf, WellAsked, targetOf, getAsked, askedBy, askedOf}
 
 pub data Asking (s : List ℕ) : Asked → Type 0 where
   none : (WellAsked s → ⊥) → Asking s asks.Unknown
   sets : length s ≡ 8 → AsksSet s → Asking s (asks.Set (targetOf s))
   gets : (part : Part) → length s ≡ 8 → AsksGet s → byte s 1 ≡ codeOf part → Asking s (asks.Get part (targetOf s))
+
+pub reads-set : (s : List ℕ) → Reads (asksSet s) (AsksSet s)
+reads-set s = reads-and _ _ (reads-eq (byte s 0) 0x21) (reads-eq (byte s 1) 1)
 
 pub set-no-get : (s : List ℕ) → AsksSet s → AsksGet s → ⊥
 set-no-get s a b = let e = a .0 in let f = b .0 in omega arith

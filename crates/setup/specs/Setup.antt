@@ -1,5 +1,6 @@
 -- What a setup asks: by its bytes, in document 01's words, and as it is read.
 --   AsksSet s, AsksGet s  ==  type and request of the setup s are 21/01; A1/81 to A1/84
+--   asksSet s          ==  the test of a Set
 --   codeOf part        ==  the request of a Get of that part: 81 CUR, 82 MIN, 83 MAX, 84 RES
 --   WellAsked s        ==  31 is not given: 8 bytes, and "21/01, A1/81, A1/82, A1/83 or A1/84"
 --   targetOf s         ==  what a setup's wIndex, wValue and wLength name: "wIndex low byte" the interface, "wIndex high byte" the unit,
@@ -11,6 +12,7 @@
 use Prim.Native.Nat.{ℕ, _≤_}
 use mathlib.Core.Path.{_≡_}
 use mathlib.Core.List.{List}
+use mathlib.Core.Bool.{Bool, _&&_}
 use mathlib.Core.Logic.{_⊎_}
 use lib.Dec.{eqb}
 use lib.ListN.{length}
@@ -24,6 +26,9 @@ use Rattle.setup.specs.declared.Asked.the-variants.{Unknown, Set, Get}
 
 abbrev pub AsksSet : List ℕ → Type 0
 AsksSet s = (byte s 0 ≡ 0x21) × (byte s 1 ≡ 1)
+
+abbrev pub asksSet : List ℕ → Bool
+asksSet s = eqb (byte s 0) 0x21 && eqb (byte s 1) 1
 
 abbrev pub AsksGet : List ℕ → Type 0
 AsksGet s = (byte s 0 ≡ 0xA1) × ((0x81 ≤ byte s 1) × (byte s 1 ≤ 0x84))

@@ -6,3 +6,4 @@ pub mod Placed
 pub mod Fresh
 pub mod Rising
 pub mod Sought
+pub mod Keys
