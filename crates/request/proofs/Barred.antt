@@ -11,9 +11,9 @@ use lib.Dec.{eqb}
 use borrow.Author.Tests.{eq-eqb, ne-eqb}
 use Rattle.ground.specs.Pick.{pick, yes, no, decided, reads-eq}
 use Rattle.table.specs.declared.Table.{Table}
-use Rattle.table.specs.declared.Lookup.{Lookup}
-use Rattle.table.specs.declared.Lookup.the-variants as lookup
-use Rattle.table.specs.First.{lookedUp}
+use Rattle.address.specs.declared.Lookup.{Lookup}
+use Rattle.address.specs.declared.Lookup.the-variants as lookup
+use Rattle.address.specs.LookedUp.{lookedUp}
 use Rattle.request.specs.declared.Target.{Target}
 use Rattle.request.specs.declared.Part.{Part}
 use Rattle.request.specs.declared.Asked.{Asked}

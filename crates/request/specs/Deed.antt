@@ -19,9 +19,9 @@ use lib.Seq.{set-getD}
 use Rattle.ground.specs.Pick.{pick}
 use Rattle.table.specs.declared.Control.{Control}
 use Rattle.table.specs.declared.Table.{Table}
-use Rattle.table.specs.declared.Lookup.the-variants as lookup
+use Rattle.address.specs.declared.Lookup.the-variants as lookup
 use Rattle.table.specs.Controls.{blankControl, at, placed}
-use Rattle.table.specs.First.{lookedUp}
+use Rattle.address.specs.LookedUp.{lookedUp}
 use Rattle.request.specs.declared.Answer.{Answer}
 use Rattle.request.specs.declared.Deed.{Deed}
 use Rattle.request.specs.declared.Target.{Target}

@@ -20,7 +20,7 @@ use Rattle.table.specs.declared.Found.{Found}
 use Rattle.table.specs.declared.Found.the-variants.{Nothing, At}
 use Rattle.table.specs.Controls.{at, placed, senseOf}
 use Rattle.table.specs.First.{foundIn}
-use Rattle.table.specs.Sound.{soundOf}
+use Rattle.sound.specs.Sound.{soundOf}
 use Rattle.request.specs.Outcome.{Outcome}
 use Rattle.request.specs.Outcome.Outcome.{refused, done}
 

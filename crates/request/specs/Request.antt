@@ -5,7 +5,7 @@
 --   getAsked b g            ==  the Gets of them
 --   askedOf s               ==  31: "setup not 8 bytes, or type and request not 21/01, A1/81, A1/82, A1/83 or A1/84"
 --   placeOf l               ==  the place that a lookup found, or its number: 33: "wIndex high byte is no unit with controls"; 34: "no
---                               such control" (lookupNumber, of crate table)
+--                               such control" (lookupNumber, of crate address)
 --   addressedIn t n g       ==  32: "wIndex low byte is not the AudioControl number"; else what the lookup of unit, channel and
 --                               selector says
 --   isRanged k, ofRange part, partOf part c  ==  k is a range's; the part is MIN, MAX or RES; the number that the part of c is
@@ -33,11 +33,11 @@ use Rattle.table.specs.declared.Control.{Control}
 use Rattle.table.specs.declared.Table.{Table}
 use Rattle.table.specs.declared.Sense.{Sense}
 use Rattle.table.specs.declared.Sense.the-variants.{Unknown, YesNo, Ranged, Pin}
-use Rattle.table.specs.declared.Lookup.{Lookup}
-use Rattle.table.specs.declared.Lookup.the-variants as lookup
+use Rattle.address.specs.declared.Lookup.{Lookup}
+use Rattle.address.specs.declared.Lookup.the-variants as lookup
 use Rattle.table.specs.Controls.{at, senseOf, sizeOf, rangeOf}
-use Rattle.table.specs.First.{lookedUp, lookupNumber}
-use Rattle.table.specs.Sound.{soundOf}
+use Rattle.address.specs.LookedUp.{lookedUp, lookupNumber}
+use Rattle.sound.specs.Sound.{soundOf}
 use Rattle.request.specs.declared.Target.{Target}
 use Rattle.request.specs.declared.Part.{Part}
 use Rattle.request.specs.declared.Part.the-variants.{Cur, Min, Max, Res}

@@ -8,12 +8,12 @@ ghost use Rattle.request.specs.Outcome.{answerOf, Answered, laid, lowFir
 ghost use Rattle.request.specs.Load.{storedIn, loadRange, loadBy, loadOf};
 ghost use Rattle.request.specs.Request.{askedBy, askedOf, isRanged, ofRange, lacking, partOf, unready, valueIn, settledBetween, settledOf, requestOf};
 ghost use Rattle.request.specs.Deed.{idleDeed, deedAnswer, SetOn, GetOn, ActOn, askedFor, elsewhereBy, barredBy, lostBy};
+use address::Sought;
 use setting::Range;
 use setting::Sort;
 use table::Control;
 use table::Found;
 use table::Sense;
-use table::Sought;
 use table::Table;
 
 // What a load or a request comes to: 0 or the number of the refusal, how many bytes of the reply were written, and the table
@@ -131,7 +131,7 @@ pub fn load(
 ) -> Answer
     ensures { λ r. ⌜ r ≡ answerOf table (loadOf table unit channel selector (record { min = min; max = max; res = res }) cur) ⌝ }
 {
-    if !table::sound(table) {
+    if !sound::sound(table) {
         return refused(table, 30);
     }
     let range = Range { min, max, res };
@@ -438,7 +438,7 @@ pub fn request(table: Table, number: u8, setup: &[u8], data: &[u8], reply: &mut 
 {
     let asked = read_setup(setup);
     let target = target_of(asked);
-    match table::seek(table, target.unit, target.channel, target.selector) {
+    match address::seek(table, target.unit, target.channel, target.selector) {
         Sought::Unsound => refused(table, 30),
         Sought::NoUnit => refused(table, lost(asked, number, 33)),
         Sought::NoControl => refused(table, lost(asked, number, 34)),

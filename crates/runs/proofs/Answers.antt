@@ -30,7 +30,7 @@ use Rattle.table.specs.declared.Sense.{Sense}
 use Rattle.table.specs.declared.Sense.the-variants.{Unknown, YesNo, Ranged, Pin}
 use Rattle.table.specs.declared.Found.the-variants as found
 use Rattle.table.specs.Controls.{at, senseOf, sizeOf, rangeOf}
-use Rattle.table.specs.Meaning.{SoundAs, Sound, loaded-legal, loaded-fits, loaded-setting}
+use Rattle.sound.specs.Meaning.{SoundAs, Sound, loaded-legal, loaded-fits, loaded-setting}
 use Rattle.table.specs.Placed.{kept-found}
 use Rattle.request.specs.declared.Part.{Part}
 use Rattle.request.specs.declared.Part.the-variants.{Cur, Min, Max, Res}

@@ -25,10 +25,11 @@ use Rattle.table.specs.declared.Sense.the-variants.{Unknown, YesNo, Ranged, Pin
 use Rattle.table.specs.declared.Found.{Found}
 use Rattle.table.specs.declared.Found.the-variants as found
 use Rattle.table.specs.Controls.{at, senseOf, sizeOf}
-use Rattle.table.specs.declared.Lookup.{Lookup}
-use Rattle.table.specs.declared.Lookup.the-variants as lookup
-use Rattle.table.specs.First.{foundIn, lookedUp}
-use Rattle.table.specs.Sound.{soundOf}
+use Rattle.address.specs.declared.Lookup.{Lookup}
+use Rattle.address.specs.declared.Lookup.the-variants as lookup
+use Rattle.table.specs.First.{foundIn}
+use Rattle.address.specs.LookedUp.{lookedUp}
+use Rattle.sound.specs.Sound.{soundOf}
 use Rattle.request.specs.declared.Answer.{Answer}
 use Rattle.request.specs.declared.Target.{Target}
 use Rattle.request.specs.declared.Part.{Part}

@@ -28,9 +28,10 @@ use Rattle.table.specs.declared.Found.{Found}
 use Rattle.table.specs.declared.Found.the-variants as found
 use Rattle.table.specs.Controls.{at, senseOf, sizeOf}
 use Rattle.ground.specs.Places.{reads-somewhere}
-use Rattle.table.specs.First.{places, foundIn, unitIn, lookupBy, lookedUp}
-use Rattle.table.specs.Sound.{soundOf}
-use Rattle.table.specs.Meaning.{SoundAs, Sound, sound-reads}
+use Rattle.table.specs.First.{places, foundIn}
+use Rattle.address.specs.LookedUp.{unitIn, lookupBy, lookedUp}
+use Rattle.sound.specs.Sound.{soundOf}
+use Rattle.sound.specs.Meaning.{SoundAs, Sound, sound-reads}
 use Rattle.request.specs.declared.Target.{Target}
 use Rattle.request.specs.declared.Part.{Part}
 use Rattle.request.specs.declared.Part.the-variants.{Cur, Min, Max, Res}

@@ -23,8 +23,9 @@ use Rattle.table.specs.declared.Sense.the-variants.{Unknown, YesNo, Ranged, Pin
 use Rattle.table.specs.declared.Found.{Found}
 use Rattle.table.specs.declared.Found.the-variants as found
 use Rattle.table.specs.Controls.{at, placed, senseOf, sizeOf}
-use Rattle.table.specs.First.{foundIn, unitIn, lookupBy, lookedUp}
-use Rattle.table.specs.Sound.{soundOf}
+use Rattle.table.specs.First.{foundIn}
+use Rattle.address.specs.LookedUp.{unitIn, lookupBy, lookedUp}
+use Rattle.sound.specs.Sound.{soundOf}
 use Rattle.request.specs.declared.Target.{Target}
 use Rattle.request.specs.declared.Part.{Part}
 use Rattle.request.specs.declared.Asked.{Asked}

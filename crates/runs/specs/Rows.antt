@@ -34,7 +34,7 @@ use Rattle.table.specs.declared.Table.{Table}
 use Rattle.table.specs.declared.Sense.{Sense}
 use Rattle.table.specs.declared.Sense.the-variants.{Unknown, YesNo, Ranged, Pin}
 use Rattle.table.specs.Controls.{at, senseOf, sizeOf}
-use Rattle.table.specs.Meaning.{Sound}
+use Rattle.sound.specs.Meaning.{Sound}
 use Rattle.request.specs.declared.Part.{Part}
 use Rattle.request.specs.declared.Part.the-variants.{Cur, Min, Max, Res}
 use Rattle.request.specs.Request.{valueIn}

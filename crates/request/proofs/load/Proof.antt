@@ -12,7 +12,7 @@ use Rattle.table.specs.declared.Found.{Found}
 use Rattle.table.specs.declared.Found.the-variants.{Nothing, At}
 use Rattle.table.specs.Controls.{senseOf}
 use Rattle.table.specs.First.{foundIn}
-use Rattle.table.specs.Sound.{soundOf}
+use Rattle.sound.specs.Sound.{soundOf}
 use Rattle.request.specs.declared.Answer.{Answer}
 use Rattle.request.specs.Outcome.{answerOf}
 use Rattle.request.specs.Load.{loadBy, loadAt, loadOf}

@@ -9,14 +9,14 @@ use lib.ListN.{length}
 use Rattle.ground.specs.Pick.{yes, no}
 use Rattle.table.specs.declared.Control.{Control}
 use Rattle.table.specs.declared.Table.{Table}
-use Rattle.table.specs.declared.Lookup.{Lookup}
-use Rattle.table.specs.declared.Lookup.the-variants as lookup
-use Rattle.table.specs.declared.Sought.{Sought}
-use Rattle.table.specs.declared.Sought.the-variants as sought
+use Rattle.address.specs.declared.Lookup.{Lookup}
+use Rattle.address.specs.declared.Lookup.the-variants as lookup
+use Rattle.address.specs.declared.Sought.{Sought}
+use Rattle.address.specs.declared.Sought.the-variants as sought
 use Rattle.table.specs.Controls.{at}
-use Rattle.table.specs.First.{lookedUp}
-use Rattle.table.specs.Sound.{soundOf}
-use Rattle.table.specs.Sought.{soughtIn, Standing, against, no-unit, no-control, stands, standing}
+use Rattle.address.specs.LookedUp.{lookedUp}
+use Rattle.sound.specs.Sound.{soundOf}
+use Rattle.address.specs.Sought.{soughtIn, Standing, against, no-unit, no-control, stands, standing}
 use Rattle.request.specs.declared.Answer.{Answer}
 use Rattle.request.specs.declared.Deed.{Deed}
 use Rattle.request.specs.declared.Target.{Target}
