@@ -1,5 +1,5 @@
 -- A request's two questions in one: whether 30 has nothing against the table, and where the control stands in it.
---   Looking t u ch s seen p  ==  the search has come to place p, and what is left of it, with what was seen, is the whole search
+--   Looking t u ch s seen p  ==  the search has come to index p, and what is left of it, with what was seen, is the whole search
 --   looking-start, looking-over, looking-here, looking-on  ==  its start, its end and its turns
 --   soughtBy t l      ==  what a lookup found, with the control that stands there
 --   soughtIn t u ch s ==  30, or that of the control of unit u, channel ch and selector s
@@ -40,7 +40,7 @@ module _ (t : Table) (u ch s : ℕ) where
   abbrev owned : ℕ → Bool
   owned p = eqb (at t p .unit) u
 
-  -- whether a place from p on is the unit's
+  -- whether a control from index p on is the unit's
   abbrev later : ℕ → Bool
   later p = firstIn owned (λ i. true) false p (places t - p)
 

@@ -49,17 +49,17 @@ pub fn look_up(table: Table, unit: u8, channel: u8, selector: u8) -> Lookup
 {
     let count = table.count;
     let mut seen = false;
-    let mut place = 0;
-    while place < table::CONTROLS {
-        if count <= place {
+    let mut index = 0;
+    while index < table::CONTROLS {
+        if count <= index {
             return missing(seen);
         }
-        let control = table.controls[place];
+        let control = table.controls[index];
         if table::answers(control, unit, channel, selector) {
-            return Lookup::At(place);
+            return Lookup::At(index);
         }
         seen = saw(seen, control, unit);
-        place += 1;
+        index += 1;
     }
     missing(seen)
 }
@@ -74,7 +74,7 @@ fn seek_slowly(table: Table, unit: u8, channel: u8, selector: u8) -> Sought
     match look_up(table, unit, channel, selector) {
         Lookup::NoUnit => Sought::NoUnit,
         Lookup::NoControl => Sought::NoControl,
-        Lookup::At(place) => Sought::At(place, table::control_at(table, place)),
+        Lookup::At(index) => Sought::At(index, table::control_at(table, index)),
     }
 }
 
@@ -83,28 +83,28 @@ fn seek_slowly(table: Table, unit: u8, channel: u8, selector: u8) -> Sought
 pub fn seek(table: Table, unit: u8, channel: u8, selector: u8) -> Sought
     ensures { λ r. ⌜ r ≡ soughtIn table unit channel selector ⌝ }
 {
-    let n = table.count;
-    if table::CONTROLS < n {
+    let count = table.count;
+    if table::CONTROLS < count {
         return Sought::Unsound;
     }
     let mut tops = [0u32; 256];
-    let mut place = 0;
-    while place < n {
-        let control = table.controls[place];
+    let mut index = 0;
+    while index < count {
+        let control = table.controls[index];
         if !sound::sound_control(control) {
             return Sought::Unsound;
         }
         let own = ground::index_of(control.unit);
-        let k = sound::key_of(control);
-        if k < tops[own] {
+        let key = sound::key_of(control);
+        if key < tops[own] {
             return seek_slowly(table, unit, channel, selector);
         }
-        tops[own] = k + 1;
-        place += 1;
+        tops[own] = key + 1;
+        index += 1;
     }
     let mut seen = false;
     let mut next = 0;
-    while next < n {
+    while next < count {
         let here = table.controls[next];
         if table::answers(here, unit, channel, selector) {
             return Sought::At(next, here);

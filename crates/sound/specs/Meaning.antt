@@ -146,7 +146,7 @@ module _ (c : Control) where
   sound-control = reads-as (senseOf (c .selector))
 
 module _ (t : Table) (few : t .count ≤ mostControls) where
-  -- a control stands at no earlier place than where the search finds it
+  -- a control stands at no earlier index than where the search finds it
   reads-first : (p : ℕ) → p < t .count → Reads (firstThere t p (at t p)) ((q : ℕ) → q < p → Same (at t q) (at t p) → ⊥)
   unfolding firstThere foundIn
   reads-first p l = record { says = λ e. alone (firstIn twin At Nothing 0 (places t)) refl e; denies = λ e h. true≠false (sym (found h) ∙ e) }
@@ -171,10 +171,10 @@ module _ (t : Table) (few : t .count ≤ mostControls) where
           }))
           ∙ shows (reads-eq p p) refl
 
-  reads-place : (p : ℕ) (l : p < t .count)
+  reads-index : (p : ℕ) (l : p < t .count)
       → Reads (soundPlace t p) (SoundAs (senseOf (at t p .selector)) (at t p) × ((q : ℕ) → q < p → Same (at t q) (at t p) → ⊥))
   unfolding soundPlace
-  reads-place p l = reads-and _ _ (sound-control (at t p)) (reads-first p l)
+  reads-index p l = reads-and _ _ (sound-control (at t p)) (reads-first p l)
 
 pub sound-reads : (t : Table) → Reads (soundOf t) (Sound t)
 unfolding soundOf
@@ -182,10 +182,10 @@ sound-reads t =
     reads-same (reads-and _ _ (reads-le _ _) (reads-everywhere (soundPlace t) (λ p. soundPlace t p ≡ true) (t .count) (λ p l. reads-true (soundPlace t p))))
     (λ h. record {
       few = h .0;
-      once = λ p q l m. reads-place t (h .0) q m .says (h .1 q m) .1 p l;
-      each = λ p l. reads-place t (h .0) p l .says (h .1 p l) .0;
+      once = λ p q l m. reads-index t (h .0) q m .says (h .1 q m) .1 p l;
+      each = λ p l. reads-index t (h .0) p l .says (h .1 p l) .0;
     })
-    (λ h. (h .few, λ p l. shows (reads-place t (h .few) p l) (h .each p l, λ q m. h .once q p m l)))
+    (λ h. (h .few, λ p l. shows (reads-index t (h .few) p l) (h .each p l, λ q m. h .once q p m l)))
 
 -- past the array's end the model reads a spare place, and 30 has something against that as a control
 pub sound-counted : (t : Table) → Sound t → (p : ℕ) → p < t .count → p < length (t .controls)

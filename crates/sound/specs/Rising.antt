@@ -1,4 +1,4 @@
--- Refusal 30's "a control twice", asked in one pass: where in each unit a later place has a higher channel or the same and a
+-- Refusal 30's "a control twice", asked in one pass: where in each unit a later index has a higher channel or the same and a
 -- higher selector, no control stands twice. Where that is not so, each control is looked for among all earlier ones.
 --   keyOf c            ==  unit, channel and selector as one number; Keyed c k: k is that, of bytes
 --   same-key, key-same ==  controls have one key exactly where they are the same
@@ -7,7 +7,7 @@
 --   passed-many        ==  "over 128 controls"
 --   passed-start, passed-on, passed-unsound, passed-twin, passed-over  ==  a loop's start, its turns and its end
 --   Rising t tops n    ==  .. and tops has for each unit a number above the keys of its controls among them
---   rising-alone       ==  a control whose key is not below its unit's top stands at no earlier place: where keys rise, none stands twice
+--   rising-alone       ==  a control whose key is not below its unit's top stands at no earlier index: where keys rise, none stands twice
 --   rising-start, rising-few, rising-inside, rising-unsound, rising-on, rising-over  ==  the loop that asks while keys rise
 --   Kept t keys n      ==  .. and keys has their keys
 --   kept-start, kept-inside, kept-unsound, kept-twin, kept-on, kept-over  ==  the loop that looks among all earlier ones

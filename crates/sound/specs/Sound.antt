@@ -5,9 +5,9 @@
 --   soundRanged s c     ==  nor against the ranged control c of sort s
 --   soundBy k c         ==  nor against the control c, which holds k
 --   soundControl c      ==  nor against the control c, whatever it holds
---   isAt p f            ==  the search found place p
---   firstThere t p c    ==  the control c, at place p, stands at no earlier place
---   soundPlace t p      ==  30 has nothing against the control at place p
+--   isAt p f            ==  the search found index p
+--   firstThere t p c    ==  the control c, at index p, stands at no earlier index
+--   soundPlace t p      ==  30 has nothing against the control at index p
 --   soundOf t           ==  30 has nothing against the table
 use Prim.Native.Nat.{ℕ}
 use mathlib.Core.Bool.{Bool, false, not, _&&_, _||_}

@@ -108,17 +108,17 @@ fn among(keys: &[u32; table::CONTROLS], n: usize, wanted: u32) -> bool
     requires { ⌜ n ≤ mostControls ⌝ }
     ensures { λ r. ⌜ r ≡ keyAmong (now (keys .entry)) n wanted ⌝ }
 {
-    let mut index = 0;
-    while index < n {
-        if keys[index] == wanted {
+    let mut earlier = 0;
+    while earlier < n {
+        if keys[earlier] == wanted {
             return true;
         }
-        index += 1;
+        earlier += 1;
     }
     false
 }
 
-// As `sound`, for a table in any order: each control's key is looked for among those of all earlier places.
+// As `sound`, for a table in any order: each control's key is looked for among those of all earlier ones.
 pub fn sound_any_order(table: Table) -> bool
     ensures { λ r. ⌜ r ≡ soundOf table ⌝ }
 {
@@ -127,25 +127,25 @@ pub fn sound_any_order(table: Table) -> bool
     }
     let count = table.count;
     let mut keys = [0u32; table::CONTROLS];
-    let mut place = 0;
-    while place < count {
-        let control = table.controls[place];
+    let mut index = 0;
+    while index < count {
+        let control = table.controls[index];
         if !sound_control(control) {
             return false;
         }
         let key = key_of(control);
-        if among(&keys, place, key) {
+        if among(&keys, index, key) {
             return false;
         }
-        keys[place] = key;
-        place += 1;
+        keys[index] = key;
+        index += 1;
     }
     true
 }
 
-// Whether refusal 30 has nothing against the table. One pass as long as the keys of each unit rise from place to place, as in
+// Whether refusal 30 has nothing against the table. One pass as long as the keys of each unit rise from index to index, as in
 // every table that the reader makes: tops has one more than each unit's last key, and a key that is not below it stands at no
-// earlier place. A function that takes the table copies it, so none is called in the loop.
+// earlier index. A function that takes the table copies it, so none is called in the loop.
 pub fn sound(table: Table) -> bool
     ensures { λ r. ⌜ r ≡ soundOf table ⌝ }
 {
@@ -154,9 +154,9 @@ pub fn sound(table: Table) -> bool
         return false;
     }
     let mut tops = [0u32; 256];
-    let mut place = 0;
-    while place < count {
-        let control = table.controls[place];
+    let mut index = 0;
+    while index < count {
+        let control = table.controls[index];
         if !sound_control(control) {
             return false;
         }
@@ -166,7 +166,7 @@ pub fn sound(table: Table) -> bool
             return sound_any_order(table);
         }
         tops[own] = key + 1;
-        place += 1;
+        index += 1;
     }
     true
 }

@@ -1,7 +1,7 @@
 -- Where a control stands in a table.
---   places t            ==  how many places of the table hold a control: "over 128" of them are no table's
+--   places t            ==  the indices below it hold a control: as many as the table counts, and no more than 128
 --   foundIn t u ch s    ==  where the control of unit u, channel ch and selector s first stands
---   found-first, none-found  ==  a search that answers At p has its first place there; one that answers Nothing has none
+--   found-first, none-found  ==  a search that answers At p has its first index there; one that answers Nothing has none
 use Prim.Native.Nat.{ℕ, _<_, min}
 use mathlib.Core.Path.{_≡_, subst}
 use mathlib.Core.Bool.{Bool, false}

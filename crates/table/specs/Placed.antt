@@ -1,8 +1,8 @@
 -- What a control that is put in the place of the same control changes: nothing else.
---   placed-here      ==  the control stands at its place
---   placed-elsewhere ==  at every other place stands what stood there, spare places among them
---   placed-keeps     ==  each place holds the control that it held
---   kept-found       ==  tables whose places hold the same controls find each where the other does
+--   placed-here      ==  the control stands at its index
+--   placed-elsewhere ==  at every other index stands what stood there, spare places among them
+--   placed-keeps     ==  each index holds the control that it held
+--   kept-found       ==  tables whose indices hold the same controls find each where the other does
 --   placed-found     ==  each control is found where it was
 use Prim.Native.Nat.{ℕ, _<_, min}
 use mathlib.Core.Path.{_≡_, refl, ap, _∙_}
@@ -19,7 +19,7 @@ use Rattle.ground.specs.Places.{firstIn, first-same}
 use Rattle.table.specs.First.{places, foundIn}
 use Rattle.table.specs.Same.{Same, same-self, same-answers}
 
--- tables whose places hold the same controls find each where the other does
+-- tables whose indices hold the same controls find each where the other does
 pub kept-found : (t v : Table) → v .count ≡ t .count → ((q : ℕ) → Same (at v q) (at t q)) → (u ch s : ℕ) → foundIn v u ch s ≡ foundIn t u ch s
 unfolding foundIn
 kept-found t v e h u ch s =

@@ -1,7 +1,7 @@
--- When two places of a table hold one control: "a control twice" (document 01, row 30).
+-- When two indices of a table hold one control: "a control twice" (document 01, row 30).
 --   Same a b        ==  the two have one unit, channel and selector
 --   same-self, same-back, same-by  ==  Same is reflexive, symmetric and transitive
---   answers-same    ==  the search's test of a place decides that
+--   answers-same    ==  the search's test of an index decides that
 --   same-answers    ==  the same controls answer to the same
 use Prim.Native.Nat.{ℕ}
 use mathlib.Core.Path.{_≡_, refl, sym, _∙_}

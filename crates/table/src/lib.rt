@@ -22,7 +22,7 @@ pub struct Control {
     pub cur: u16,
 }
 
-// The first count places hold the controls; the others are spare.
+// The first count controls are the table's; the others are spare places.
 pub struct Table {
     pub count: usize,
     pub controls: [Control; CONTROLS],
@@ -70,23 +70,23 @@ pub fn empty() -> Table
     }
 }
 
-// What stands at a place; past the last place, what a spare place holds.
-pub fn control_at(table: Table, place: usize) -> Control
-    ensures { λ r. ⌜ r ≡ at table place ⌝ }
+// What stands at an index; past the last, what a spare place holds.
+pub fn control_at(table: Table, index: usize) -> Control
+    ensures { λ r. ⌜ r ≡ at table index ⌝ }
 {
-    if CONTROLS <= place {
+    if CONTROLS <= index {
         return blank();
     }
-    table.controls[place]
+    table.controls[index]
 }
 
-// The table with the control at a place, and else as it was; past the last place nothing can be put.
-pub fn put(table: Table, place: usize, control: Control) -> Table
-    ensures { λ r. ⌜ r ≡ placed table place control ⌝ }
+// The table with the control at an index, and else as it was; past the last nothing can be put.
+pub fn put(table: Table, index: usize, control: Control) -> Table
+    ensures { λ r. ⌜ r ≡ placed table index control ⌝ }
 {
     let mut changed = table;
-    if place < CONTROLS {
-        changed.controls[place] = control;
+    if index < CONTROLS {
+        changed.controls[index] = control;
     }
     changed
 }
@@ -144,16 +144,16 @@ pub fn find(table: Table, unit: u8, channel: u8, selector: u8) -> Found
     ensures { λ r. ⌜ r ≡ foundIn table unit channel selector ⌝ }
 {
     let count = table.count;
-    let mut place = 0;
-    while place < CONTROLS {
-        if count <= place {
+    let mut index = 0;
+    while index < CONTROLS {
+        if count <= index {
             return Found::Nothing;
         }
-        let control = table.controls[place];
+        let control = table.controls[index];
         if answers(control, unit, channel, selector) {
-            return Found::At(place);
+            return Found::At(index);
         }
-        place += 1;
+        index += 1;
     }
     Found::Nothing
 }

@@ -1,4 +1,4 @@
--- The search has come to a place, and what is left of it, with what was seen, is the whole search.
+-- The search has come to an index, and what is left of it, with what was seen, is the whole search.
 use borrow.Author.Needs.{needs}
 use Prim.Native.Nat.{ℕ, _-_, _≤_}
 use mathlib.Core.Path.{_≡_}
@@ -16,16 +16,16 @@ module _ (t : Table) (u ch s : ℕ) (seen : Bool) (p : ℕ) (g : Looking t u ch 
   none-left : t .count ≤ p → (r : Lookup) → r ≡ missingBy seen → r ≡ lookedUp t u ch s
   none-left h = looking-over t u ch s seen p g (omega arith)
 
-  no-place : mostControls ≤ p → (r : Lookup) → r ≡ missingBy seen → r ≡ lookedUp t u ch s
-  no-place h = looking-over t u ch s seen p g (omega arith)
+  no-index : mostControls ≤ p → (r : Lookup) → r ≡ missingBy seen → r ≡ lookedUp t u ch s
+  no-index h = looking-over t u ch s seen p g (omega arith)
 
-ruleset laws = (looking-start, none-left, no-place, looking-here, looking-on, needs)
+ruleset laws = (looking-start, none-left, no-index, looking-here, looking-on, needs)
 
 abbrev Inv-loop : tie.InvT-loop
-Inv-loop unit channel selector table count seen₀ place₀ seen place = Looking table unit channel selector seen place
+Inv-loop unit channel selector table count seen₀ index₀ seen index = Looking table unit channel selector seen index
 
 abbrev μ-loop : tie.MeasureT-loop
-μ-loop unit channel selector table count seen₀ place₀ seen place = mostControls - place
+μ-loop unit channel selector table count seen₀ index₀ seen index = mostControls - index
 
 loop-holds : tie.Need-loop-holds Inv-loop μ-loop
 loop-holds c = search laws
@@ -51,8 +51,8 @@ returns-2 c = search laws
 saw-requires : tie.Need-saw-requires Inv-loop μ-loop
 saw-requires c κs = search laws
 
-add-place : tie.Need-add-place Inv-loop μ-loop
-add-place c = search laws
+add-index : tie.Need-add-index Inv-loop μ-loop
+add-index c = search laws
 
 loop-less : tie.Need-loop-less Inv-loop μ-loop
 loop-less c = search laws
@@ -80,7 +80,7 @@ look-up-spec =
     answers-requires
     returns-2
     saw-requires
-    add-place
+    add-index
     loop-less
     loop-again
     missing-requires-2

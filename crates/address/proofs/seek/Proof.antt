@@ -11,16 +11,16 @@ ruleset first = (passed-many, sought-unsound, rising-start, rising-inside, risin
 ruleset next = (rising-few, rising-over, seeking-start, seeking-inside, seeking-no-control, seeking-no-unit, seeking-here, seeking-on, needs)
 
 abbrev Inv-loop : tie.InvT-loop
-Inv-loop unit channel selector table n tops₀ place₀ tops place = Rising table tops place
+Inv-loop unit channel selector table count tops₀ index₀ tops index = Rising table tops index
 
 abbrev μ-loop : tie.MeasureT-loop
-μ-loop unit channel selector table n tops₀ place₀ tops place = table .count - place
+μ-loop unit channel selector table count tops₀ index₀ tops index = table .count - index
 
 abbrev Inv-loop2 : tie.InvT-loop2
-Inv-loop2 unit channel selector table n place seen₀ next₀ seen next = Seeking table unit channel selector seen next
+Inv-loop2 unit channel selector table count index seen₀ next₀ seen next = Seeking table unit channel selector seen next
 
 abbrev μ-loop2 : tie.MeasureT-loop2
-μ-loop2 unit channel selector table n place seen₀ next₀ seen next = table .count - next
+μ-loop2 unit channel selector table count index seen₀ next₀ seen next = table .count - next
 
 returns : tie.Need-returns Inv-loop μ-loop Inv-loop2 μ-loop2
 returns c = search first
@@ -67,8 +67,8 @@ mul-tops c = search first
 array-write-tops : tie.Need-array-write-tops Inv-loop μ-loop Inv-loop2 μ-loop2
 array-write-tops c = search first
 
-add-place : tie.Need-add-place Inv-loop μ-loop Inv-loop2 μ-loop2
-add-place c = search first
+add-index : tie.Need-add-index Inv-loop μ-loop Inv-loop2 μ-loop2
+add-index c = search first
 
 loop-less : tie.Need-loop-less Inv-loop μ-loop Inv-loop2 μ-loop2
 loop-less c = search first
@@ -132,7 +132,7 @@ seek-spec =
     add-tops
     mul-tops
     array-write-tops
-    add-place
+    add-index
     loop-less
     loop-again
     loop2-holds

@@ -50,8 +50,8 @@ enum-told c = search laws
 enum-told-2 : tie.Need-enum-told-2
 enum-told-2 c = search laws
 
-enum-known-place : tie.Need-enum-known-place
-enum-known-place c = search laws
+enum-known-index : tie.Need-enum-known-index
+enum-known-index c = search laws
 
 control-at-requires : tie.Need-control-at-requires
 control-at-requires c κs = search laws
@@ -74,7 +74,7 @@ seek-slowly-spec =
     look-up-requires
     enum-told
     enum-told-2
-    enum-known-place
+    enum-known-index
     control-at-requires
     returns-2
     returns-3

@@ -38,10 +38,10 @@ module _ (keys : List ℕ) (n k : ℕ) where
 ruleset laws = (start, over, here, on, needs)
 
 abbrev Inv-loop : tie.InvT-loop
-Inv-loop keys n wanted index₀ index = Here keys n wanted index
+Inv-loop keys n wanted earlier₀ earlier = Here keys n wanted earlier
 
 abbrev μ-loop : tie.MeasureT-loop
-μ-loop keys n wanted index₀ index = n - index
+μ-loop keys n wanted earlier₀ earlier = n - earlier
 
 loop-holds : tie.Need-loop-holds Inv-loop μ-loop
 loop-holds c = search laws
@@ -55,8 +55,8 @@ element-copy-out-if1 c = search laws
 returns : tie.Need-returns Inv-loop μ-loop
 returns c = search laws
 
-add-index : tie.Need-add-index Inv-loop μ-loop
-add-index c = search laws
+add-earlier : tie.Need-add-earlier Inv-loop μ-loop
+add-earlier c = search laws
 
 loop-less : tie.Need-loop-less Inv-loop μ-loop
 loop-less c = search laws
@@ -77,7 +77,7 @@ among-spec =
     mul-if1
     element-copy-out-if1
     returns
-    add-index
+    add-earlier
     loop-less
     loop-again
     returns-2)

@@ -1,4 +1,4 @@
--- The pass has come to a place: the controls before it are right, and each unit's top is above their keys, so that none stands twice.
+-- The pass has come to an index: the controls before it are right, and each unit's top is above their keys, so that none stands twice.
 use borrow.Author.Needs.{needs}
 use Prim.Native.Nat.{_-_}
 use Rattle.sound.specs.Rising.{passed-many, Rising, rising-start, rising-inside, rising-unsound, rising-on, rising-over}
@@ -8,10 +8,10 @@ use Rattle.sound.proofs.sound.Tie as tie
 ruleset laws = (passed-many, rising-start, rising-inside, rising-unsound, rising-on, rising-over, needs)
 
 abbrev Inv-loop : tie.InvT-loop
-Inv-loop table count tops₀ place₀ tops place = Rising table tops place
+Inv-loop table count tops₀ index₀ tops index = Rising table tops index
 
 abbrev μ-loop : tie.MeasureT-loop
-μ-loop table count tops₀ place₀ tops place = table .count - place
+μ-loop table count tops₀ index₀ tops index = table .count - index
 
 returns : tie.Need-returns Inv-loop μ-loop
 returns c = search laws
@@ -58,8 +58,8 @@ mul-tops c = search laws
 array-write-tops : tie.Need-array-write-tops Inv-loop μ-loop
 array-write-tops c = search laws
 
-add-place : tie.Need-add-place Inv-loop μ-loop
-add-place c = search laws
+add-index : tie.Need-add-index Inv-loop μ-loop
+add-index c = search laws
 
 loop-less : tie.Need-loop-less Inv-loop μ-loop
 loop-less c = search laws
@@ -91,7 +91,7 @@ sound-spec =
     add-tops
     mul-tops
     array-write-tops
-    add-place
+    add-index
     loop-less
     loop-again
     returns-4)

@@ -1,4 +1,4 @@
--- The pass has come to a place: the controls before it are right and none stands twice, and their keys are kept.
+-- The pass has come to an index: the controls before it are right and none stands twice, and their keys are kept.
 use borrow.Author.Needs.{needs}
 use Prim.Native.Nat.{_-_}
 use Rattle.sound.specs.Rising.{passed-many, Kept, kept-start, kept-inside, kept-unsound, kept-twin, kept-on, kept-over}
@@ -8,10 +8,10 @@ use Rattle.sound.proofs.sound_any_order.Tie as tie
 ruleset laws = (passed-many, kept-start, kept-inside, kept-unsound, kept-twin, kept-on, kept-over, needs)
 
 abbrev Inv-loop : tie.InvT-loop
-Inv-loop table count keys₀ place₀ keys place = Kept table keys place
+Inv-loop table count keys₀ index₀ keys index = Kept table keys index
 
 abbrev μ-loop : tie.MeasureT-loop
-μ-loop table count keys₀ place₀ keys place = table .count - place
+μ-loop table count keys₀ index₀ keys index = table .count - index
 
 returns : tie.Need-returns Inv-loop μ-loop
 returns c = search laws
@@ -46,8 +46,8 @@ mul-keys c = search laws
 array-write-keys : tie.Need-array-write-keys Inv-loop μ-loop
 array-write-keys c = search laws
 
-add-place : tie.Need-add-place Inv-loop μ-loop
-add-place c = search laws
+add-index : tie.Need-add-index Inv-loop μ-loop
+add-index c = search laws
 
 loop-less : tie.Need-loop-less Inv-loop μ-loop
 loop-less c = search laws
@@ -75,7 +75,7 @@ sound-any-order-spec =
     returns-3
     mul-keys
     array-write-keys
-    add-place
+    add-index
     loop-less
     loop-again
     returns-4)
