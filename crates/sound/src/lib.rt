@@ -12,6 +12,9 @@ use table::Control;
 use table::Sense;
 use table::Table;
 
+// The last channel that a control may have: row 30 has something against "a channel over 16".
+const LAST_CHANNEL: u8 = 16;
+
 // Whether no number of the control is too wide for one byte.
 fn narrow(control: Control) -> bool
     ensures { λ r. ⌜ r ≡ narrowOf control ⌝ }
@@ -31,7 +34,7 @@ fn narrow(control: Control) -> bool
 fn sound_yes_no(control: Control) -> bool
     ensures { λ r. ⌜ r ≡ soundYesNo control ⌝ }
 {
-    if 16 < control.channel {
+    if LAST_CHANNEL < control.channel {
         return false;
     }
     if !narrow(control) {
@@ -43,7 +46,7 @@ fn sound_yes_no(control: Control) -> bool
 fn sound_pin(control: Control) -> bool
     ensures { λ r. ⌜ r ≡ soundPin control ⌝ }
 {
-    if control.channel != 0 {
+    if 0 < control.channel {
         return false;
     }
     if control.pins < 1 {
@@ -64,7 +67,7 @@ fn sound_pin(control: Control) -> bool
 fn sound_ranged(sort: Sort, control: Control) -> bool
     ensures { λ r. ⌜ r ≡ soundRanged sort control ⌝ }
 {
-    if 16 < control.channel {
+    if LAST_CHANNEL < control.channel {
         return false;
     }
     if !control.loaded {

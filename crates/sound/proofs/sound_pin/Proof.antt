@@ -4,6 +4,7 @@ use borrow.Author.Needs.{needs}
 use Prim.Native.Nat.{_≤_, _<_}
 use mathlib.Core.Path.{_≡_, sym, _∙_}
 use mathlib.Core.Bool.{Bool, true, false, not}
+use native.Mathlib.Omega.{arith}
 use lib.Dec.{leb}
 use borrow.Author.Tests.{le-leb, lt-leb, eq-eqb, ne-eqb, not-true, not-false}
 use Rattle.table.specs.declared.Control.{Control}
@@ -14,11 +15,14 @@ use Rattle.sound.proofs.sound_pin.Tie as tie
 
 -- one law for each way out
 module _ (c : Control) where
-  has-channel : (c .channel ≡ 0 → ⊥) → false ≡ soundPin c
+  has-channel : 0 < c .channel → false ≡ soundPin c
   unfolding soundPin
-  has-channel h = simp (ne-eqb _ _ h)
+  has-channel h = simp (ne-eqb (c .channel) 0 (λ e. omega arith))
 
-  module _ (master : c .channel ≡ 0) where
+  module _ (low : c .channel ≤ 0) where
+    master : c .channel ≡ 0
+    master = omega arith
+
     no-pin : c .pins < 1 → false ≡ soundPin c
     unfolding soundPin
     no-pin h = simp (eq-eqb _ _ master, lt-leb _ _ h)
