@@ -22,7 +22,7 @@ use Rattle.layout.specs.Layout.{LaidOut}
 use Rattle.edition.specs.Edition.{ownId, DistinctIds}
 use Rattle.table.specs.declared.Control.{Control}
 use Rattle.table.specs.Controls.{mostControls}
-use Rattle.table.specs.Meaning.{Same}
+use Rattle.table.specs.Same.{Same}
 use Rattle.controls.specs.Controls.{controlsOf, breach15}
 use Rattle.controls.specs.Growth.{tableOf}
 use Rattle.controls.specs.Standing.{Stands, stands-of, control-stands}

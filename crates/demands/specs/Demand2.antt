@@ -28,8 +28,8 @@ use Rattle.sources.specs.OwnIds.{distinct-ids}
 use Rattle.clusters.specs.Rules.{entering, Connected}
 use Rattle.clusters.specs.Topology.{source-of}
 use Rattle.table.specs.declared.Table.{Table}
-use Rattle.table.specs.Meaning.{Sound}
-use Rattle.table.specs.Fresh.{Fresh, fresh-sound, fresh-empty}
+use Rattle.sound.specs.Meaning.{Sound}
+use Rattle.sound.specs.Fresh.{Fresh, fresh-sound, fresh-empty}
 use Rattle.controls.specs.Growth.{tableOf}
 use Rattle.controls.specs.Reader.{reader-fresh}
 use Rattle.request.specs.Outcome.{numberOf, bytesOf}

@@ -18,8 +18,9 @@ use Rattle.setting.specs.Setting.{fitsOf, legalOf, wholeSteps, onGrid, availabl
 use Rattle.table.specs.declared.Table.{Table}
 use Rattle.table.specs.Controls.{senseOf, answersTo}
 use Rattle.ground.specs.Places.{firstIn, somewhere, everywhere}
-use Rattle.table.specs.First.{foundIn, unitIn, lookedUp}
-use Rattle.table.specs.Sound.{narrowOf, soundYesNo, soundPin, soundRanged, soundBy, soundControl, firstThere, soundPlace, soundOf}
+use Rattle.table.specs.First.{foundIn}
+use Rattle.address.specs.LookedUp.{unitIn, lookedUp}
+use Rattle.sound.specs.Sound.{narrowOf, soundYesNo, soundPin, soundRanged, soundBy, soundControl, firstThere, soundPlace, soundOf}
 use Rattle.request.specs.declared.Answer.{Answer}
 use Rattle.request.specs.Outcome.{numberOf, bytesOf, tableAfter, answerOf, laid, Answered, lowFirst}
 use Rattle.request.specs.Request.{getAsked, askedBy, askedOf, placeOf, addressedIn, lacking, unready, valueIn, settledBetween, settledOf, setTo, setBy, getBy, setFrom, getFrom, answerAsked, requestOf}

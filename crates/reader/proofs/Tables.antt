@@ -22,7 +22,7 @@ use Rattle.edition.specs.Audio.{firstOf, giveOut, Keeps, audio}
 use Rattle.sources.specs.OwnIds.{distinct-ids}
 use Rattle.clusters.specs.Rules.{entering, Connected}
 use Rattle.clusters.specs.Topology.{source-of}
-use Rattle.table.specs.Fresh.{Fresh, fresh-empty}
+use Rattle.sound.specs.Fresh.{Fresh, fresh-empty}
 use Rattle.controls.specs.Growth.{tableOf}
 use Rattle.controls.specs.Reader.{reader-fresh}
 use Rattle.topology.specs.declared.Reading.{Reading}

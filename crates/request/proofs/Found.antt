@@ -10,13 +10,14 @@ use Rattle.table.specs.declared.Control.{Control}
 use Rattle.table.specs.declared.Table.{Table}
 use Rattle.table.specs.declared.Found.{Found}
 use Rattle.table.specs.declared.Found.the-variants as found
-use Rattle.table.specs.declared.Lookup.the-variants as lookup
-use Rattle.table.specs.declared.Sought.{Sought}
-use Rattle.table.specs.declared.Sought.the-variants as sought
+use Rattle.address.specs.declared.Lookup.the-variants as lookup
+use Rattle.address.specs.declared.Sought.{Sought}
+use Rattle.address.specs.declared.Sought.the-variants as sought
 use Rattle.table.specs.Controls.{at}
-use Rattle.table.specs.First.{foundIn, unitIn, lookupBy, lookedUp}
-use Rattle.table.specs.Sound.{soundOf}
-use Rattle.table.specs.Sought.{soughtIn, Standing, against, no-unit, no-control, stands, standing}
+use Rattle.table.specs.First.{foundIn}
+use Rattle.address.specs.LookedUp.{unitIn, lookupBy, lookedUp}
+use Rattle.sound.specs.Sound.{soundOf}
+use Rattle.address.specs.Sought.{soughtIn, Standing, against, no-unit, no-control, stands, standing}
 
 pub record There (t : Table) (u ch s p : ℕ) (c : Control) : Type 0 where
   pub sound : soundOf t ≡ true

@@ -7,7 +7,7 @@ use Rattle.ground.specs.Pick.{pick}
 use Rattle.setting.specs.declared.Range.{Range}
 use Rattle.table.specs.declared.Table.{Table}
 use Rattle.table.specs.Controls.{at}
-use Rattle.table.specs.Sound.{soundOf}
+use Rattle.sound.specs.Sound.{soundOf}
 use Rattle.loads.specs.Load.{loadOn}
 use Rattle.request.specs.declared.State.{State}
 use Rattle.request.specs.Outcome.{Outcome}

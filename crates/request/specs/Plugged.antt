@@ -7,7 +7,7 @@ use Prim.Native.Nat.{ℕ}
 use mathlib.Core.Path.{_≡_}
 use mathlib.Core.List.{List}
 use lib.ListN.{length}
-use Rattle.table.specs.Meaning.{Sound}
+use Rattle.sound.specs.Meaning.{Sound}
 use Rattle.topology.specs.declared.Reading.{Reading}
 use Rattle.topology.specs.Reading.{readingOf, sheetOf}
 use Rattle.request.specs.declared.State.{State}

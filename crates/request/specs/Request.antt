@@ -15,8 +15,8 @@ use Rattle.ground.specs.Pick.{pick}
 use Rattle.table.specs.declared.Control.{Control}
 use Rattle.table.specs.declared.Table.{Table}
 use Rattle.table.specs.Controls.{at}
-use Rattle.table.specs.First.{unitIn}
-use Rattle.table.specs.Sound.{soundOf}
+use Rattle.address.specs.LookedUp.{unitIn}
+use Rattle.sound.specs.Sound.{soundOf}
 use Rattle.setup.specs.declared.Target.{Target}
 use Rattle.setup.specs.declared.Asked.{Asked}
 use Rattle.setup.specs.declared.Asked.the-variants as asks

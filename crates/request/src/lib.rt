@@ -9,6 +9,7 @@ ghost use Rattle.request.specs.Outcome.{refusal, deedAnswer, answerOf, A
 ghost use Rattle.request.specs.Plugged.{PluggedIn};
 ghost use Rattle.request.specs.Load.{loadOf};
 ghost use Rattle.request.specs.Request.{elsewhereBy, barredBy, lostBy, actOf, requestOf};
+use address::Sought;
 use deed::Deed;
 use deed::idle;
 use setting::Range;
@@ -16,7 +17,6 @@ use setup::Asked;
 use setup::Target;
 use table::Control;
 use table::Found;
-use table::Sought;
 use table::Table;
 use topology::Reading;
 
@@ -87,7 +87,7 @@ pub fn load(
 ) -> Answer
     ensures { λ r. ⌜ r ≡ answerOf state (loadOf state unit channel selector (record { min = min; max = max; res = res }) cur) ⌝ }
 {
-    if !table::sound(state.table) {
+    if !sound::sound(state.table) {
         return refused(state, 30);
     }
     let range = Range { min, max, res };
@@ -154,7 +154,7 @@ pub fn request(state: State, setup: &[u8], data: &[u8], reply: &mut [u8]) -> Ans
 {
     let asked = setup::read(setup);
     let target = setup::target_of(asked);
-    match table::seek(state.table, target.unit, target.channel, target.selector) {
+    match address::seek(state.table, target.unit, target.channel, target.selector) {
         Sought::Unsound => refused(state, 30),
         Sought::NoUnit => refused(state, lost(asked, state.control, 33)),
         Sought::NoControl => refused(state, lost(asked, state.control, 34)),

@@ -17,9 +17,10 @@ use Rattle.table.specs.declared.Table.{Table}
 use Rattle.table.specs.declared.Found.the-variants as found
 use Rattle.table.specs.Controls.{at, placed}
 use Rattle.table.specs.Keys.{Key, whereIs, StandsAt}
-use Rattle.table.specs.Sound.{soundOf}
-use Rattle.table.specs.Meaning.{Same, Sound, sound-reads}
-use Rattle.table.specs.Placed.{same-self, placed-here, placed-elsewhere}
+use Rattle.sound.specs.Sound.{soundOf}
+use Rattle.table.specs.Same.{Same, same-self}
+use Rattle.sound.specs.Meaning.{Sound, sound-reads}
+use Rattle.table.specs.Placed.{placed-here, placed-elsewhere}
 use Rattle.request.specs.declared.State.{State}
 use Rattle.request.specs.Outcome.{Outcome, tableAfter}
 use Rattle.request.specs.Outcome.Outcome.{refused, got, done}

@@ -31,7 +31,8 @@ use Rattle.table.specs.declared.Found.the-variants as found
 use Rattle.table.specs.Controls.{at, senseOf, sizeOf, rangeOf, answersTo}
 use Rattle.table.specs.First.{places, foundIn, found-first, none-found}
 use Rattle.table.specs.Keys.{Key, whereIs, Bears, StandsAt}
-use Rattle.table.specs.Meaning.{Same, SoundAs, SoundRanged, SoundLoaded, Sound, loaded-legal, loaded-tested, sound-counted}
+use Rattle.table.specs.Same.{Same}
+use Rattle.sound.specs.Meaning.{SoundAs, SoundRanged, SoundLoaded, Sound, loaded-legal, loaded-tested, sound-counted}
 use Rattle.answers.specs.Held.{unready, valueIn, takes, storedFor, withCur}
 use Rattle.loads.specs.Load.{loadedWith}
 use Rattle.runs.specs.Runs.{Bytes}

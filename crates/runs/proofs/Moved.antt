@@ -19,8 +19,10 @@ use Rattle.table.specs.declared.Sense.{Sense}
 use Rattle.table.specs.declared.Sense.the-variants as sense
 use Rattle.table.specs.declared.Found.the-variants as found
 use Rattle.table.specs.Controls.{at, placed, senseOf, sizeOf, rangeOf}
-use Rattle.table.specs.Meaning.{Same, SoundAs, Sound, loaded-legal}
-use Rattle.table.specs.Placed.{same-self, same-by, placed-here, placed-elsewhere, placed-found, placed-sound}
+use Rattle.table.specs.Same.{Same, same-self, same-by}
+use Rattle.sound.specs.Meaning.{SoundAs, Sound, loaded-legal}
+use Rattle.table.specs.Placed.{placed-here, placed-elsewhere, placed-found}
+use Rattle.sound.specs.Placed.{placed-sound}
 use Rattle.table.specs.Keys.{Key, whereIs, StandsAt}
 use Rattle.setup.specs.Setup.{AsksSet, asksSet}
 use Rattle.setup.specs.Asking.{set-no-get, reads-set}

@@ -26,8 +26,8 @@ use Rattle.table.specs.declared.Sense.{Sense}
 use Rattle.table.specs.declared.Sense.the-variants.{Unknown, YesNo, Ranged, Pin}
 use Rattle.table.specs.Controls.{at, senseOf}
 use Rattle.table.specs.Keys.{Key}
-use Rattle.table.specs.First.{unitIn}
-use Rattle.table.specs.Sound.{soundOf}
+use Rattle.address.specs.LookedUp.{unitIn}
+use Rattle.sound.specs.Sound.{soundOf}
 use Rattle.setup.specs.declared.Target.{Target}
 use Rattle.setup.specs.declared.Part.{Part}
 use Rattle.setup.specs.declared.Asked.{Asked}

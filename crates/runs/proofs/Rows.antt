@@ -28,9 +28,10 @@ use Rattle.table.specs.declared.Found.{Found}
 use Rattle.table.specs.declared.Found.the-variants as found
 use Rattle.table.specs.Controls.{at, senseOf}
 use Rattle.table.specs.Keys.{Key, whereIs, Bears, StandsAt, InTable}
-use Rattle.table.specs.First.{places, unitIn}
-use Rattle.table.specs.Sound.{soundOf}
-use Rattle.table.specs.Meaning.{SoundAs, Sound, sound-reads}
+use Rattle.table.specs.First.{places}
+use Rattle.address.specs.LookedUp.{unitIn}
+use Rattle.sound.specs.Sound.{soundOf}
+use Rattle.sound.specs.Meaning.{SoundAs, Sound, sound-reads}
 use Rattle.setup.specs.declared.Part.{Part}
 use Rattle.setup.specs.declared.Part.the-variants.{Cur, Min, Max, Res}
 use Rattle.setup.specs.declared.Asked.{Asked}

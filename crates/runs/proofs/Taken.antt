@@ -28,7 +28,7 @@ use Rattle.table.specs.declared.Found.the-variants as found
 use Rattle.table.specs.Controls.{at, placed, senseOf}
 use Rattle.table.specs.Keys.{Key, whereIs}
 use Rattle.table.specs.First.{foundIn}
-use Rattle.table.specs.Sound.{soundOf}
+use Rattle.sound.specs.Sound.{soundOf}
 use Rattle.setup.specs.declared.Part.{Part}
 use Rattle.setup.specs.declared.Asked.{Asked}
 use Rattle.setup.specs.declared.Asked.the-variants as asks

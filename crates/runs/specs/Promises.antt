@@ -33,7 +33,8 @@ use Rattle.table.specs.declared.Sense.the-variants.{Unknown, YesNo, Ranged, Pin
 use Rattle.table.specs.declared.Table.{Table}
 use Rattle.table.specs.Controls.{at, senseOf, sizeOf, rangeOf}
 use Rattle.table.specs.Keys.{Key, StandsAt}
-use Rattle.table.specs.Meaning.{Same, Sound}
+use Rattle.table.specs.Same.{Same}
+use Rattle.sound.specs.Meaning.{Sound}
 use Rattle.setup.specs.declared.Part.{Part}
 use Rattle.setup.specs.declared.Part.the-variants.{Cur, Min, Max, Res}
 use Rattle.setup.specs.Setup.{codeOf}

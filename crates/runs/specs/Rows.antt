@@ -37,7 +37,7 @@ use Rattle.table.specs.declared.Sense.{Sense}
 use Rattle.table.specs.declared.Sense.the-variants.{Unknown, YesNo, Ranged, Pin}
 use Rattle.table.specs.Controls.{at, senseOf}
 use Rattle.table.specs.Keys.{Key, Bears, InTable}
-use Rattle.table.specs.Meaning.{Sound}
+use Rattle.sound.specs.Meaning.{Sound}
 use Rattle.setup.specs.Setup.{AsksSet, AsksGet, WellAsked}
 use Rattle.answers.specs.Answers.{heldBy, sizesOf, sentTo, restOf}
 use Rattle.request.specs.declared.State.{State}

@@ -1,9 +1,5 @@
 pub mod Controls
 pub mod First
-pub mod Sound
-pub mod Meaning
-pub mod Placed
-pub mod Fresh
-pub mod Rising
-pub mod Sought
 pub mod Keys
+pub mod Same
+pub mod Placed

@@ -1,13 +1,11 @@
--- What a control that is put in the place of the same control changes: nothing else, and not what 30 says.
---   same-by, same-back, same-self  ==  Same is transitive, symmetric and reflexive
---   placed-here      ==  the control stands at its place
---   placed-elsewhere ==  at every other place stands what stood there, spare places among them
---   placed-keeps     ==  each place holds the control that it held
---   kept-found       ==  tables whose places hold the same controls find each where the other does
+-- What a control that is put in the place of the same control changes: nothing else.
+--   placed-here      ==  the control stands at its index
+--   placed-elsewhere ==  at every other index stands what stood there, spare places among them
+--   placed-keeps     ==  each index holds the control that it held
+--   kept-found       ==  tables whose indices hold the same controls find each where the other does
 --   placed-found     ==  each control is found where it was
---   placed-sound     ==  30 has nothing against the table if it had nothing and has nothing against the control
 use Prim.Native.Nat.{ℕ, _<_, min}
-use mathlib.Core.Path.{_≡_, refl, sym, ap, _∙_}
+use mathlib.Core.Path.{_≡_, refl, ap, _∙_}
 use mathlib.Core.Logic.{⊎-elim}
 use lib.Dec.{eqb}
 use lib.ListN.{length}
@@ -15,26 +13,13 @@ use lib.Seq.{getD-set-same, getD-set-other}
 use Rattle.ground.specs.Pick.{decided, reads-eq}
 use Rattle.table.specs.declared.Control.{Control}
 use Rattle.table.specs.declared.Table.{Table}
-use Rattle.table.specs.Controls.{mostControls, blankControl, at, placed, senseOf, answersTo}
+use Rattle.table.specs.Controls.{mostControls, blankControl, at, placed, answersTo}
 use Rattle.table.specs.declared.Found.the-variants.{Nothing, At}
 use Rattle.ground.specs.Places.{firstIn, first-same}
 use Rattle.table.specs.First.{places, foundIn}
-use Rattle.table.specs.Meaning.{Same, SoundAs, Sound}
+use Rattle.table.specs.Same.{Same, same-self, same-answers}
 
-pub same-self : (a : Control) → Same a a
-same-self a = record { unit = refl; channel = refl; selector = refl }
-
-pub same-back : {a b : Control} → Same a b → Same b a
-same-back h = record { unit = sym (h .unit); channel = sym (h .channel); selector = sym (h .selector) }
-
-pub same-by : {a b c : Control} → Same a b → Same b c → Same a c
-same-by h k = record { unit = h .unit ∙ k .unit; channel = h .channel ∙ k .channel; selector = h .selector ∙ k .selector }
-
-same-answers : (u ch s : ℕ) (a b : Control) → Same a b → answersTo u ch s a ≡ answersTo u ch s b
-unfolding answersTo
-same-answers u ch s a b h = rw (h .unit, h .channel, h .selector)
-
--- tables whose places hold the same controls find each where the other does
+-- tables whose indices hold the same controls find each where the other does
 pub kept-found : (t v : Table) → v .count ≡ t .count → ((q : ℕ) → Same (at v q) (at t q)) → (u ch s : ℕ) → foundIn v u ch s ≡ foundIn t u ch s
 unfolding foundIn
 kept-found t v e h u ch s =
@@ -58,15 +43,3 @@ module _ (t : Table) (p : ℕ) (inside : p < length (t .controls)) (c : Control)
 
     pub placed-found : (u ch s : ℕ) → foundIn (placed t p c) u ch s ≡ foundIn t u ch s
     placed-found u ch s = kept-found t (placed t p c) refl placed-keeps u ch s
-
-    pub placed-sound : Sound t → SoundAs (senseOf (c .selector)) c → Sound (placed t p c)
-    placed-sound s k = record {
-      few = s .few;
-      once = λ i j l m n.
-          s .once i j l m (same-by (same-back (placed-keeps i)) (same-by n (placed-keeps j)));
-      each = λ i l.
-          ⊎-elim
-          (λ (e : i ≡ p). rw (e, placed-here) k)
-          (λ (e : i ≡ p → ⊥). rw (placed-elsewhere t p c i e) (s .each i l))
-          (decided (eqb i p) (reads-eq i p));
-    }

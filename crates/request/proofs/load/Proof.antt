@@ -13,7 +13,7 @@ use Rattle.table.specs.declared.Found.{Found}
 use Rattle.table.specs.declared.Found.the-variants as found
 use Rattle.table.specs.Controls.{at}
 use Rattle.table.specs.First.{foundIn}
-use Rattle.table.specs.Sound.{soundOf}
+use Rattle.sound.specs.Sound.{soundOf}
 use Rattle.deed.specs.declared.Deed.{Deed}
 use Rattle.deed.specs.Doing.{deedOf}
 use Rattle.loads.specs.Load.{loadOn, load-of-one}

@@ -4,8 +4,8 @@ use Prim.Native.Nat.{ℕ}
 use mathlib.Core.Path.{_≡_, refl, ap}
 use mathlib.Core.List.{List}
 use lib.ListN.{length}
-use Rattle.table.specs.Meaning.{Sound}
-use Rattle.table.specs.Fresh.{fresh-sound}
+use Rattle.sound.specs.Meaning.{Sound}
+use Rattle.sound.specs.Fresh.{fresh-sound}
 use Rattle.topology.specs.declared.Reading.{Reading}
 use Rattle.topology.specs.Reading.{readingOf, sheetOf}
 use Rattle.reader.proofs.Tables.{reader-table}

@@ -13,12 +13,12 @@ use Rattle.table.specs.declared.Control.{Control}
 use Rattle.table.specs.declared.Table.{Table}
 use Rattle.table.specs.declared.Found.{Found}
 use Rattle.table.specs.declared.Found.the-variants as found
-use Rattle.table.specs.declared.Sought.{Sought}
-use Rattle.table.specs.declared.Sought.the-variants as sought
+use Rattle.address.specs.declared.Sought.{Sought}
+use Rattle.address.specs.declared.Sought.the-variants as sought
 use Rattle.table.specs.Controls.{at}
 use Rattle.table.specs.First.{foundIn}
-use Rattle.table.specs.Sound.{soundOf}
-use Rattle.table.specs.Sought.{soughtIn}
+use Rattle.sound.specs.Sound.{soundOf}
+use Rattle.address.specs.Sought.{soughtIn}
 use Rattle.setup.specs.declared.Target.{Target}
 use Rattle.setup.specs.declared.Part.{Part}
 use Rattle.setup.specs.declared.Asked.{Asked}

@@ -1,4 +1,4 @@
--- Below the last place the array is read; past it the model, too, reads a spare place.
+-- Up to the last index the array is read; past it the model, too, reads a spare place.
 use Prim.Native.Nat.{ℕ, _≤_}
 use mathlib.Core.Path.{_≡_, sym, _∙_}
 use mathlib.Core.List.{List}

@@ -1,4 +1,4 @@
--- The search has come to a place, and what is left of it is the whole search.
+-- The search has come to an index, and what is left of it is the whole search.
 use borrow.Author.Needs.{needs}
 use Prim.Native.Nat.{ℕ, _+_, _-_, _≤_, _<_}
 use mathlib.Core.Path.{_≡_}
@@ -27,9 +27,9 @@ module _ (t : Table) (u ch s : ℕ) where
     unfolding foundIn
     none-left h = come-over wanted At Nothing (places t) p g (omega arith)
 
-    no-place : mostControls ≤ p → Nothing ≡ foundIn t u ch s
+    no-index : mostControls ≤ p → Nothing ≡ foundIn t u ch s
     unfolding foundIn
-    no-place h = come-over wanted At Nothing (places t) p g (omega arith)
+    no-index h = come-over wanted At Nothing (places t) p g (omega arith)
 
     module _ (h : p < mostControls) (k : p < t .count) (b : Bool) (e : b ≡ wanted p) where
       here : b ≡ true → At p ≡ foundIn t u ch s
@@ -39,13 +39,13 @@ module _ (t : Table) (u ch s : ℕ) where
       on : b ≡ false → Here (p + 1)
       on = come-more wanted At Nothing (places t) p g (omega arith) b e
 
-ruleset laws = (start, none-left, no-place, here, on, needs)
+ruleset laws = (start, none-left, no-index, here, on, needs)
 
 abbrev Inv-loop : tie.InvT-loop
-Inv-loop unit channel selector table count place₀ place = Here table unit channel selector place
+Inv-loop unit channel selector table count index₀ index = Here table unit channel selector index
 
 abbrev μ-loop : tie.MeasureT-loop
-μ-loop unit channel selector table count place₀ place = mostControls - place
+μ-loop unit channel selector table count index₀ index = mostControls - index
 
 loop-holds : tie.Need-loop-holds Inv-loop μ-loop
 loop-holds c = search laws
@@ -65,8 +65,8 @@ answers-requires c κs = search laws
 returns-2 : tie.Need-returns-2 Inv-loop μ-loop
 returns-2 c = search laws
 
-add-place : tie.Need-add-place Inv-loop μ-loop
-add-place c = search laws
+add-index : tie.Need-add-index Inv-loop μ-loop
+add-index c = search laws
 
 loop-less : tie.Need-loop-less Inv-loop μ-loop
 loop-less c = search laws
@@ -89,7 +89,7 @@ find-spec =
     element-copy-out-control
     answers-requires
     returns-2
-    add-place
+    add-index
     loop-less
     loop-again
     returns-3)

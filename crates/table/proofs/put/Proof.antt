@@ -1,4 +1,4 @@
--- Below the last place the array is written; past it writing a list changes nothing.
+-- Up to the last index the array is written; past it writing a list changes nothing.
 use Prim.Native.Nat.{ℕ, _≤_}
 use mathlib.Core.Path.{_≡_, sym, ap}
 use mathlib.Core.List.{List}

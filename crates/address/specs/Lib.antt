@@ -1,0 +1,2 @@
+pub mod LookedUp
+pub mod Sought
