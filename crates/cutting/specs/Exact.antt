@@ -29,9 +29,12 @@ use Rattle.layout.specs.Layout.{LaidOut, entityOf, isUnknown}
 use Rattle.layout.specs.LayoutLaws.{reads-unknown, laid-out}
 use Rattle.edition.specs.Audio.{audio}
 use Rattle.entities.specs.Run.{mostEntities}
-use Rattle.groups.specs.Rules.{mostBytes, Rule1, Rule2, Rule4, Broken4, Rule5, listedOf, Rule6, Rule7}
-use Rattle.groups.specs.Reading.{frameOf, breach1, breach2, breach4, breach5, breach6, breach7, groupJudged, judged, headerOf}
-use Rattle.groups.specs.InterfaceLaws.{rule4-kept, rule4-broken}
+use Rattle.interfaces.specs.Rules.{mostBytes, Rule1, Rule2, Rule4, Broken4}
+use Rattle.interfaces.specs.Reading.{breach1, breach2, breach4, interfacesJudged}
+use Rattle.interfaces.specs.InterfaceLaws.{rule4-kept, rule4-broken}
+use Rattle.collection.specs.Rules.{Rule7}
+use Rattle.groups.specs.Rules.{Rule5, listedOf, Rule6}
+use Rattle.groups.specs.Reading.{frameOf, breach5, breach6, breach7, groupJudged, judged, headerOf}
 use Rattle.groups.specs.FrameLaws.{Framed, framed}
 use Rattle.cutting.specs.Rules.{Rule8, Rule9, Opened, headerPlace, Opening, opened, Kept, groupRows, cuttingRows}
 use Rattle.cutting.specs.Survey.{runOf, breach8, breach9, runJudged, verdictThen, verdict}
@@ -169,7 +172,7 @@ module _ (s : List ℕ) where
     )
 
     pub cutting-answers : Answers (cuttingRows s behind) (verdictThen s r)
-    unfolding verdictThen judged
+    unfolding verdictThen judged interfacesJudged
     cutting-answers = (
       breach1 s,
       _,

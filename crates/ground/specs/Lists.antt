@@ -10,6 +10,8 @@
 --   drop-take  ==  a part in the kit's form, lib.Seq's slice
 --   flatten-append, total-append, length-flatten  ==  parts laid end to end, and their length
 --   reads-any  ==  any t l decides Some P l, where t decides P
+--   any-append, any-snoc  ==  some element of two lists in a row, of a list and one element more
+--   replicate-at  ==  what is read of a list of one value, past its end too
 --   split-of, of-split  ==  an element stands somewhere in its list, and what stands somewhere in a list is an element
 --   member-at, member-index  ==  what stands at an index is an element, and an element stands at an index
 --   split-inside, split-front, split-here  ==  of a list that is x, then a, then y: x's length is an index of it, before which x stands and
@@ -21,7 +23,7 @@
 --   pad-set    ==  filling the next spare place; past the last place nothing changes
 use Prim.Native.Nat.{ℕ, zero, suc, _+_, _-_, _≤_, _<_}
 use mathlib.Core.Path.{_≡_, refl, sym, ap, _∙_}
-use mathlib.Core.Bool.{Bool, true, false, _||_}
+use mathlib.Core.Bool.{Bool, true, false, _||_, or-false, or-assoc}
 use mathlib.Core.List.{List, [], _∷_, _++_, flatten, append-assoc, List·Memᴰ, List·Memᴰ·head, List·Memᴰ·tail, List·Memᴰ·not-nil, List·Memᴰ·cases-cons, Memᴰ·append-right, nil≢cons, head-eq-of-cons-eq, tail-eq-of-cons-eq}
 use mathlib.Core.Logic.{_⊎_, inl, inr, ⊎-elim}
 use lib.ListN.{length, getD, set, replicate, take, drop, take-append-drop, length-append, length-take, length-drop}
@@ -101,6 +103,20 @@ reads-any {A} t P r (x ∷ l) = go (t x) (r x) (reads-any t P r l)
         split : any t l ≡ false → (h : Some P (x ∷ l)) → (h .one ≡ x) ⊎ List·Memᴰ (h .one) l → ⊥
         split e h (inl m) = q .denies refl (rw m at (h .has))
         split e h (inr m) = ih .denies e (record { one = h .one; among = m; has = h .has })
+
+pub any-append : {A : Type 0} (t : A → Bool) (x y : List A) → any t (x ++ y) ≡ (any t x || any t y)
+unfolding any
+any-append t [] y = refl
+any-append t (a ∷ x) y = ap (λ (b : Bool). t a || b) (any-append t x y) ∙ sym (or-assoc (t a) (any t x) (any t y))
+
+pub any-snoc : {A : Type 0} (t : A → Bool) (x : List A) (a : A) → any t (x ++ a ∷ []) ≡ (any t x || t a)
+unfolding any
+any-snoc t x a = any-append t x (a ∷ []) ∙ ap (λ (b : Bool). any t x || b) (or-false (t a))
+
+pub replicate-at : {A : Type 0} (a : A) (n i : ℕ) → getD (replicate n a) i a ≡ a
+replicate-at a zero i = refl
+replicate-at a (suc n) zero = refl
+replicate-at a (suc n) (suc i) = replicate-at a n i
 
 pub split-of : {A : Type 0} {a : A} {l : List A} → List·Memᴰ a l → (x : List A) × (y : List A) × (l ≡ x ++ a ∷ y)
 split-of (List·Memᴰ·head {xs = l} e) = ([], l, ap (λ b. b ∷ l) (sym e))

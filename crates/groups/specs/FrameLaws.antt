@@ -1,5 +1,4 @@
 -- Where the AudioControl group's parts stand, and rule 5 on them, both ways.
---   nine          ==  where rule 4 is kept, an interface descriptor is 9 long
 --   Framed s before control tail ==  the AudioControl interface control stands behind the descriptors before, in front of tail,
 --                                    and the frame is where that is
 --   framed        ==  where rule 4 is kept, so it is
@@ -9,24 +8,23 @@ use Prim.Native.Nat.{ℕ, _+_, _-_, _≤_}
 use mathlib.Core.Path.{_≡_, refl, sym, ap, _∙_}
 use mathlib.Core.Bool.{true}
 use mathlib.Core.List.{List, [], _∷_, _++_, nil≢cons, head-eq-of-cons-eq, tail-eq-of-cons-eq}
-use mathlib.Core.Logic.{⊎-elim}
 use lib.ListN.{length}
 use lib.Seq.{append-snoc}
-use lib.Dec.{eqb}
 use native.Mathlib.Omega.{arith}
 use Rattle.ground.specs.declared.Place.{Place}
 use Rattle.ground.specs.declared.Place.the-variants.{Nowhere, At}
-use Rattle.ground.specs.Pick.{Reads, reads-same, reads-eq, decided, shows, true≠false}
+use Rattle.ground.specs.Pick.{Reads, reads-same, shows, true≠false}
 use Rattle.ground.specs.Numbers.{byte}
 use Rattle.ground.specs.Lists.{part, part-none, part-length, total, total-append, any, Some, reads-any}
-use Rattle.ground.specs.First.{Sound}
 use Rattle.ground.specs.Refuse.{placeOr}
 use Rattle.scan.specs.Cutting.{endAt, rest}
 use Rattle.scan.specs.CuttingLaws.{rest-none, rest-more, end-off}
-use Rattle.scan.specs.Want.{Interface, Audio, isAudio, reads-audio, wants, foundFrom}
+use Rattle.scan.specs.Want.{Audio, isAudio, reads-audio, wants, foundFrom}
 use Rattle.scan.specs.Found.{found, found-none, rest-split}
 use Rattle.scan.specs.declared.Want.the-variants as want
-use Rattle.groups.specs.Rules.{not-nine, Rule4, Header, Rule5}
+use Rattle.interfaces.specs.Rules.{Rule4}
+use Rattle.interfaces.specs.InterfaceLaws.{nine}
+use Rattle.groups.specs.Rules.{Header, Rule5}
 use Rattle.groups.specs.Reading.{frameOf, frameFrom, headerOf, isHeader}
 use Rattle.groups.specs.Opening.{reads-header}
 
@@ -62,10 +60,6 @@ module _ (s : List ℕ) (k : Rule4 (rest s 0)) where
       go Nowhere e = absurd (true≠false (sym stands ∙ found-none (want.Audio 1) s 0 e))
       go (At q) e = (q, e)
 
-  pub nine : (b : List (List ℕ)) (i : List ℕ) (a : List (List ℕ)) → rest s 0 ≡ b ++ i ∷ a → Interface i → length i ≡ 9
-  unfolding Sound
-  nine b i a e h = ⊎-elim (λ n. n) (λ n. absurd (k .right b i a e (not-nine h n))) (decided (eqb (length i) 9) (reads-eq (length i) 9))
-
   pub framed : (before : List (List ℕ)) × (control : List ℕ) × (tail : List (List ℕ)) × Framed s before control tail
   unfolding wants placeOr
   framed = go (control-found .0) (control-found .1)
@@ -74,7 +68,7 @@ module _ (s : List ℕ) (k : Rule4 (rest s 0)) where
       go q e =
           let f = found (want.Audio 1) s 0 q (omega arith) e in
           let c = reads-audio 1 (f .wanted) .says (f .meets) in
-          let n : length (f .wanted) ≡ 9 = nine (f .passed) (f .wanted) (f .behind) (f .whole) (c .0) in
+          let n : length (f .wanted) ≡ 9 = nine s k (f .passed) (f .wanted) (f .behind) (f .whole) (c .0) in
           let p = f .place in
           let a : frameOf s .control ≡ q = control-place s ∙ ap (λ (r : Place). placeOr r (length s)) e in
           let b : frameOf s .header ≡ frameOf s .control + 9 = header-place s in

@@ -11,11 +11,12 @@ use borrow.Author.Tests.{eq-eqb}
 use native.Mathlib.Omega.{arith}
 use Rattle.ground.specs.declared.Refusal.{Refusal}
 use Rattle.ground.specs.Pick.{yes, no}
-use Rattle.ground.specs.Refuse.{none, Chain, chain-end, chain-more}
-use Rattle.scan.specs.Cutting.{breach3}
+use Rattle.ground.specs.Refuse.{none, Chain, chain-end, chain-more, chain-both}
+use Rattle.interfaces.specs.Reading.{interfacesJudged}
+use Rattle.interfaces.specs.Judged.{interfaces-chain}
 use Rattle.groups.specs.declared.Frame.{Frame}
 use Rattle.groups.specs.declared.Framing.{Framing}
-use Rattle.groups.specs.Reading.{breach1, breach2, breach4, breach5, breach6, breach7, frameOf, groupJudged, judged, unframed, framedAs, framedOf}
+use Rattle.groups.specs.Reading.{breach5, breach6, breach7, frameOf, groupJudged, judged, unframed, framedAs, framedOf}
 
 pub group-chain : (s : List ℕ) (f : Frame) → Chain (groupJudged s f)
 unfolding groupJudged
@@ -24,10 +25,7 @@ group-chain s f =
 
 pub judged-chain : (s : List ℕ) → Chain (judged s)
 unfolding judged
-judged-chain s =
-    chain-more 1 (λ e. omega arith) (breach1 s) _
-    (chain-more 2 (λ e. omega arith) (breach2 s) _
-    (chain-more 3 (λ e. omega arith) (breach3 s) _ (chain-more 4 (λ e. omega arith) (breach4 s) _ (group-chain s (frameOf s)))))
+judged-chain s = chain-both (interfacesJudged s) (groupJudged s (frameOf s)) (interfaces-chain s) (group-chain s (frameOf s))
 
 pub framed-refused : (n p : ℕ) (f : Frame) (q : Refusal) → eqb n 0 ≡ false → record { number = n; place = p } ≡ q → (r : Framing)
     → r ≡ unframed n p → r ≡ framedAs q f

@@ -1,12 +1,6 @@
 pub mod Rules
 pub mod Reading
 pub mod Opening
-pub mod InterfaceLaws
-pub mod CollectionLaws
 pub mod FrameLaws
 pub mod TotalLaws
 pub mod Judged
-pub mod Before
-pub mod Pairs
-pub mod Tops
-pub mod Marks

@@ -1,8 +1,5 @@
--- What the reader computes for the rules 1 to 7: for each, nowhere or the place of the refusal (document 01's table).
---   breach1, breach2, breach4 ==  where rule 1, 2, 4 is broken (breach3 stands with the cutting)
---   breach5, breach6, breach7 ==  the same of s and its frame f: where the AudioControl group's parts stand
---   wrongInterface b i        ==  the test that i, behind the descriptors b, is an interface descriptor that refusal 4 names
---   wrongAt s p i             ==  the same of i at place p of s, where two searches from the first byte on tell what stands before
+-- What the reader computes for the rules 5 to 7, and for all seven: for each, nowhere or the place of the refusal (document 01's table).
+--   breach5, breach6, breach7 ==  where rule 5, 6, 7 is broken in s with the frame f: where the AudioControl group's parts stand
 --   frameOf s                 ==  control: the AudioControl interface; header: 9 bytes behind it, where the header should stand;
 --                                 run: where the header ends; end: where the run of type 24 descriptors behind it ends
 --   frameFrom s c             ==  the frame, where the AudioControl interface stands at place c
@@ -11,10 +8,6 @@
 --   opens h                   ==  the test that bytes 1 to 4 of h are 24 01 00 01
 --   isHeader h                ==  the test that h opens so and is 8+n long, where byte 7 is n
 --   straysFrom s p            ==  the test that a type 24 descriptor stands in the group from place p on
---   isDistinct l              ==  the test that the numbers l are distinct
---   allKnown ds l             ==  the test that each of l is the number of a streaming or MIDI group of ds
---   unlisted l d              ==  the test that d is the interface descriptor of such a group, and its number is not among l
---   collects s l              ==  the test that the listed numbers l keep rule 7
 --   groupJudged s f r         ==  the lowest number of 5 to 7 that applies, with its place; r where none does
 --   judged s r                ==  the lowest number of 1 to 7 that applies, with its place; r where none does
 --   noFrame                   ==  a frame of zeros
@@ -22,53 +15,25 @@
 --   framedAs r f              ==  r, with the frame f where r refuses nothing
 --   framedOf s                ==  what the rules 1 to 7 say of s, with its frame where they are kept
 use Prim.Native.Nat.{ℕ, _+_}
-use mathlib.Core.Bool.{Bool, true, false, not, _&&_, _||_}
-use mathlib.Core.List.{List, [], _∷_}
+use mathlib.Core.Bool.{Bool, false, not, _&&_}
+use mathlib.Core.List.{List}
 use lib.ListN.{length}
 use lib.Dec.{eqb}
 use Rattle.ground.specs.declared.Place.{Place}
 use Rattle.ground.specs.declared.Place.the-variants.{Nowhere, At}
-use Rattle.ground.specs.Pick.{pick, within}
-use Rattle.ground.specs.Numbers.{byte, word}
-use Rattle.ground.specs.Lists.{part, any}
 use Rattle.ground.specs.declared.Refusal.{Refusal}
-use Rattle.ground.specs.First.{isBefore}
+use Rattle.ground.specs.Pick.{pick}
+use Rattle.ground.specs.Numbers.{byte, word}
+use Rattle.ground.specs.Lists.{part}
 use Rattle.ground.specs.Refuse.{none, keptAt, refuse, placeOr}
-use Rattle.scan.specs.Cutting.{endAt, rest, breach3}
-use Rattle.scan.specs.Search.{searched}
-use Rattle.scan.specs.Want.{isInterface, isAudio, isSetting, isMember, foundFrom}
+use Rattle.scan.specs.Cutting.{endAt}
+use Rattle.scan.specs.Want.{foundFrom}
 use Rattle.scan.specs.declared.Want.the-variants as want
-use Rattle.groups.specs.Rules.{mostBytes, listedOf}
+use Rattle.interfaces.specs.Reading.{controlAt, interfacesJudged}
+use Rattle.collection.specs.Reading.{collects}
+use Rattle.groups.specs.Rules.{listedOf}
 use Rattle.groups.specs.declared.Frame.{Frame}
 use Rattle.groups.specs.declared.Framing.{Framing}
-
-unfoldable pub breach1 : List ℕ → Place
-breach1 s = keptAt (within 9 (length s) mostBytes) 0
-
-unfoldable pub breach2 : List ℕ → Place
-breach2 s = keptAt (eqb (byte s 0) 9 && (eqb (byte s 1) 2 && eqb (word s 2) (length s))) 0
-
-unfoldable pub wrongInterface : List (List ℕ) → List ℕ → Bool
-wrongInterface earlier i =
-    isInterface i
-    && (not (eqb (length i) 9)
-    || (any (isSetting (byte i 2) (byte i 3)) earlier
-    || (isAudio 1 i && (any (isAudio 1) earlier || not (eqb (byte i 3) 0)))))
-
-unfoldable pub wrongAt : List ℕ → ℕ → List ℕ → Bool
-wrongAt s at i =
-    isInterface i
-    && (not (eqb (length i) 9)
-    || (isBefore (foundFrom s 0 (want.Setting (byte i 2) (byte i 3))) at
-    || (isAudio 1 i && (isBefore (foundFrom s 0 (want.Audio 1)) at || not (eqb (byte i 3) 0)))))
-
--- first such descriptor; L if only the AudioControl one is missing
-unfoldable pub breach4 : List ℕ → Place
-breach4 s =
-    elim (searched wrongInterface s 0) [
-      | Nowhere ↦ keptAt (any (isAudio 1) (rest s 0)) (length s)
-      | At p ↦ At p
-    ]
 
 unfoldable pub runEnd : List ℕ → ℕ → ℕ
 runEnd s run = placeOr (foundFrom s run want.NotClass) (length s)
@@ -77,7 +42,7 @@ unfoldable pub frameFrom : List ℕ → ℕ → Frame
 frameFrom s control = record { control = control; header = control + 9; run = endAt s (control + 9); end = runEnd s (endAt s (control + 9)) }
 
 unfoldable pub frameOf : List ℕ → Frame
-frameOf s = frameFrom s (placeOr (foundFrom s 0 (want.Audio 1)) (length s))
+frameOf s = frameFrom s (controlAt s)
 
 abbrev pub headerOf : List ℕ → Frame → List ℕ
 headerOf s f = part s (f .header) (f .run)
@@ -97,20 +62,6 @@ straysFrom s e = elim (foundFrom s e want.ClassOrInterface) [ Nowhere ↦ false 
 unfoldable pub breach6 : List ℕ → Frame → Place
 breach6 s f = keptAt (eqb (f .header + word (headerOf s f) 5) (f .end) && not (straysFrom s (f .end))) (f .header)
 
-unfoldable pub isDistinct : List ℕ → Bool
-isDistinct [] = true
-isDistinct (k ∷ l) = not (any (eqb k) l) && isDistinct l
-
-unfoldable pub allKnown : List (List ℕ) → List ℕ → Bool
-allKnown ds [] = true
-allKnown ds (k ∷ l) = any (isMember k) ds && allKnown ds l
-
-unfoldable pub unlisted : List ℕ → List ℕ → Bool
-unlisted listed d = (isAudio 2 d || isAudio 3 d) && not (any (eqb (byte d 2)) listed)
-
-unfoldable pub collects : List ℕ → List ℕ → Bool
-collects s listed = isDistinct listed && (allKnown (rest s 0) listed && not (any (unlisted listed) (rest s 0)))
-
 unfoldable pub breach7 : List ℕ → Frame → Place
 breach7 s f = keptAt (collects s (listedOf (headerOf s f))) (f .header)
 
@@ -118,7 +69,7 @@ unfoldable pub groupJudged : List ℕ → Frame → Refusal → Refusal
 groupJudged s f r = refuse 5 (breach5 s f) (refuse 6 (breach6 s f) (refuse 7 (breach7 s f) r))
 
 unfoldable pub judged : List ℕ → Refusal → Refusal
-judged s r = refuse 1 (breach1 s) (refuse 2 (breach2 s) (refuse 3 (breach3 s) (refuse 4 (breach4 s) (groupJudged s (frameOf s) r))))
+judged s r = interfacesJudged s (groupJudged s (frameOf s) r)
 
 abbrev pub noFrame : Frame
 noFrame = record { control = 0; header = 0; run = 0; end = 0 }

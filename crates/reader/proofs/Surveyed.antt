@@ -24,8 +24,8 @@ use Rattle.edition.specs.Audio.{audio}
 use Rattle.entities.specs.Run.{runIn}
 use Rattle.entities.specs.Represents.{Represents}
 use Rattle.entities.specs.RepresentsLaws.{run-represents}
+use Rattle.interfaces.specs.InterfaceLaws.{nine}
 use Rattle.groups.specs.Reading.{frameOf}
-use Rattle.groups.specs.FrameLaws.{nine}
 use Rattle.cutting.specs.declared.Survey.{Survey}
 use Rattle.cutting.specs.Rules.{headerPlace, Kept}
 use Rattle.cutting.specs.Survey.{runOf, surveyed, surveyOf}

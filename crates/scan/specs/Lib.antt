@@ -3,3 +3,4 @@ pub mod CuttingLaws
 pub mod Search
 pub mod Want
 pub mod Found
+pub mod Before

@@ -13,9 +13,10 @@ use Rattle.ground.specs.Pick.{yes, no}
 use Rattle.ground.specs.Numbers.{word}
 use Rattle.ground.specs.Lists.{part}
 use Rattle.ground.specs.Refuse.{none, refuse, refuse-at, refuse-on}
+use Rattle.collection.specs.Reading.{collects}
 use Rattle.groups.specs.declared.Frame.{Frame}
 use Rattle.groups.specs.Rules.{listedOf}
-use Rattle.groups.specs.Reading.{breach5, breach6, breach7, headerOf, isHeader, straysFrom, collects, groupJudged}
+use Rattle.groups.specs.Reading.{breach5, breach6, breach7, headerOf, isHeader, straysFrom, groupJudged}
 use Rattle.groups.proofs.judge_group.Statement.{statement}
 use Rattle.groups.proofs.judge_group.Tie as tie
 
@@ -72,8 +73,8 @@ returns-2 c = search laws
 stretch-requires-2 : tie.Need-stretch-requires-2
 stretch-requires-2 c κs = search laws
 
-collection-right-requires : tie.Need-collection-right-requires
-collection-right-requires c κs = search laws
+is-right-requires : tie.Need-is-right-requires
+is-right-requires c κs = search laws
 
 returns-3 : tie.Need-returns-3
 returns-3 c = search laws
@@ -91,6 +92,6 @@ judge-group-spec =
     total-right-requires
     returns-2
     stretch-requires-2
-    collection-right-requires
+    is-right-requires
     returns-3
     returns-4)

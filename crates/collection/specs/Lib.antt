@@ -1,0 +1,4 @@
+pub mod Rules
+pub mod Reading
+pub mod CollectionLaws
+pub mod Marks
