@@ -4,55 +4,25 @@
 -- 500 gives 0, −32768 stays. Bass −10..9 by 4: 9 gives 6."
 --   caseA            ==  the document's 109 bytes
 --   Configurations   ==  the six configurations, each with the number that the document gives, 0 for accepted
---   Together         ==  the single statement; together: its proof, computed from the definitions
+--   Together         ==  the single statement
 --   PrintedA         ==  the whole answer for case A, and the sheet as the document prints it
 --   caseB, AnswerB   ==  case A with a second Output Terminal and volume on the master channel too, and what is answered to it
---   lent             ==  the sheet of 512 bytes that the program lends; printed-a, answer-b: the proofs of the two
+--   caseTable        ==  the table of case A before any load
+--   lent             ==  the sheet of 512 bytes that the program lends
 use Prim.Native.Nat.{ℕ}
-use mathlib.Core.Path.{_≡_, refl}
+use mathlib.Core.Path.{_≡_}
 use mathlib.Core.Bool.{true, false}
 use mathlib.Core.List.{List, [], _∷_, map}
 use lib.ListN.{take, set, replicate}
-use lib.Count.{ones, onesIn}
-use Rattle.ground.specs.Numbers.{byte}
-use Rattle.ground.specs.Refuse.{refuse, placeOr}
-use Rattle.ground.specs.First.{firstFrom, isBefore}
-use Rattle.ground.specs.Lists.{total, any, pad}
-use Rattle.scan.specs.Cutting.{endAt, restFrom, rest, reach, breach3}
-use Rattle.scan.specs.Search.{searched}
-use Rattle.scan.specs.Want.{isInterface, isClass, isAudio, isSetting, isMember, wants, foundFrom}
-use Rattle.layout.specs.Layout.{entityOf, kindOf, isUnknown}
-use Rattle.layout.specs.Sources.{pinsOf, sourcesFrom, feedsOf}
-use Rattle.entities.specs.Run.{nodeOf, nodesFrom, blankNode, runIn}
-use Rattle.interfaces.specs.Reading.{breach1, breach2, wrongInterface, breach4, interfacesJudged}
-use Rattle.collection.specs.Reading.{isDistinct, allKnown, unlisted, collects}
-use Rattle.groups.specs.Reading.{runEnd, frameFrom, frameOf, opens, isHeader, breach5, straysFrom, breach6, breach7, groupJudged}
-use Rattle.groups.specs.Reading as groups
-use Rattle.cutting.specs.Survey.{runOf, breach8, breach9, verdictThen, verdict, refusedSurvey, surveyed, surveyOf}
-use Rattle.cutting.specs.Survey as cutting
-use Rattle.graph.specs.Members.{all, mem}
-use Rattle.graph.specs.Passes.{joins, step, passFrom, passes}
-use Rattle.graph.specs.Along.{put, given}
-use Rattle.graph.specs.Tables.{tabulateFrom}
-use Rattle.ground.specs.Places.{firstIn, somewhere}
-use Rattle.sources.specs.Lookup.{lookupBelow, sourceNumber}
-use Rattle.sources.specs.Breaches.{wrongId, breach10, wrongSource, breach11}
-use Rattle.ranks.specs.Order.{ordered}
-use Rattle.ranks.specs.Breach.{breach12}
-use Rattle.clusters.specs.Sweep.{givesBy, givenIn, keepsBy, breach13, clustersOf}
-use Rattle.edition.specs.Audio.{firstOf, channelsIn, giveOut, mixerLength, featureLength, alike, alikeIn, mixerKept, featureKept, keeps}
-use Rattle.channels.specs.Declared.{clusterKept, namesKept}
-use Rattle.channels.specs.Cases.{cluster}
-use Rattle.connections.specs.Judgement.{judged}
-use Rattle.streaming.specs.Terminals.{terminalOf, terminalsFrom, terminalsOf, bearerIn, terminalNumber, channelsOf}
-use Rattle.streaming.specs.Tests.{opensAs, isGeneral, isFormat, samplesRight, ratesRight, isTypeOne, formatRight, bearerRight, describedBy, holdsClass, broken, wrongStream, firstBroken, breach14}
-use Rattle.controls.specs.Controls.{bitCarries, bitSet, bitControls, bitsFrom, maskControls, channelsFrom, featureControls, entityControls, controlsTo, controlsOfRun, breach15}
-use Rattle.controls.specs.Growth.{tableOf}
-use Rattle.records.specs.Records.{headOf, recordOf, recordsTo, roomFor, shownIn}
 use lib.IntN.{pos}
-use Rattle.setting.specs.Cases.{minus, found, volume, bass, cases-hold}
-use Rattle.topology.specs.Reading.{restJudged, surveyJudged, judgedThen, roomJudged, verdictOf, refusedReading, takenReading, readingOf, sheetOf}
-use Rattle.runs.proofs.Case.{caseTable}
+use Rattle.ground.specs.Numbers.{byte}
+use Rattle.channels.specs.Declared.{clusterKept}
+use Rattle.channels.specs.Cases.{cluster}
+use Rattle.setting.specs.Cases.{minus, found, volume, bass}
+use Rattle.table.specs.declared.Control.{Control}
+use Rattle.table.specs.declared.Table.{Table}
+use Rattle.table.specs.Controls.{blankControl}
+use Rattle.topology.specs.Reading.{readingOf, sheetOf}
 
 unfoldable pub caseA : List ℕ
 caseA =
@@ -88,6 +58,13 @@ pub record Together : Type 0 where
 abbrev pub lent : List ℕ
 lent = replicate 512 0
 
+-- the table of case A before any load: Feature Unit 2 has mute on the master channel and volume on channel 1
+abbrev made : ℕ → ℕ → ℕ → Control
+made u ch s = record { unit = u; channel = ch; selector = s; pins = 0; loaded = false; min = 0; max = 0; res = 0; cur = 0 }
+
+abbrev pub caseTable : Table
+caseTable = record { count = 2; controls = made 2 0 1 ∷ made 2 1 2 ∷ replicate 126 blankControl }
+
 pub record PrintedA : Type 0 where
   pub answer : readingOf caseA 512 ≡ record { number = 0; place = 0; control = 0; entities = 3; controls = 2; table = caseTable }
   pub sheet : sheetOf caseA lent
@@ -118,26 +95,3 @@ pub record AnswerB : Type 0 where
   pub entities : readingOf caseB 512 .entities ≡ 4
   pub controls : readingOf caseB 512 .controls ≡ 3
   pub fourth : byte (sheetOf caseB lent) 48 ≡ 4
-
-record Computed : Type 0 where
-  configurations : Configurations
-  printed : PrintedA
-  other : AnswerB
-
-computed : Computed
-unfolding caseA caseB refuse placeOr firstFrom isBefore total any pad endAt restFrom rest reach breach3 searched isInterface isClass isAudio isSetting isMember wants foundFrom entityOf kindOf isUnknown pinsOf sourcesFrom feedsOf nodeOf nodesFrom blankNode runIn breach1 breach2 wrongInterface breach4 interfacesJudged runEnd frameFrom frameOf opens isHeader breach5 straysFrom breach6 isDistinct allKnown unlisted collects breach7 groupJudged groups.judged runOf breach8 breach9 verdictThen verdict cutting.runJudged refusedSurvey surveyed surveyOf all mem joins step passFrom passes put given tabulateFrom firstIn somewhere lookupBelow sourceNumber wrongId breach10 wrongSource breach11 ordered breach12 givesBy givenIn keepsBy breach13 clustersOf firstOf channelsIn giveOut mixerLength featureLength alike alikeIn mixerKept featureKept keeps clusterKept namesKept ones onesIn judged terminalOf terminalsFrom terminalsOf bearerIn terminalNumber channelsOf opensAs isGeneral isFormat samplesRight ratesRight isTypeOne formatRight bearerRight describedBy holdsClass broken wrongStream firstBroken breach14 bitSet bitControls bitsFrom maskControls channelsFrom featureControls entityControls controlsTo controlsOfRun breach15 tableOf headOf recordOf recordsTo roomFor shownIn restJudged surveyJudged judgedThen roomJudged verdictOf refusedReading takenReading readingOf sheetOf bitCarries
-computed = record {
-  configurations = record { accepted = refl; length-wrong = refl; eight-bytes = refl; sources-itself = refl; same-id = refl; sources-output = refl };
-  printed = record { answer = refl; sheet = refl };
-  other = record { accepted = refl; entities = refl; controls = refl; fourth = refl };
-}
-
-pub together : Together
-unfolding clusterKept namesKept ones onesIn
-together = record { configurations = computed .configurations; clusters = refl; settings = cases-hold }
-
-pub printed-a : PrintedA
-printed-a = computed .printed
-
-pub answer-b : AnswerB
-answer-b = computed .other

@@ -1,0 +1,69 @@
+-- Demand 1, proved.
+use Prim.Native.Nat.{ℕ}
+use mathlib.Core.Path.{_≡_, refl, sym, ap, _∙_}
+use mathlib.Core.List.{List}
+use mathlib.Core.Logic.{_⊎_, inl, inr}
+use lib.ListN.{length}
+use lib.Dec.{eqb}
+use borrow.Author.Tests.{ne-eqb}
+use Rattle.ground.specs.Pick.{no, decided, reads-eq}
+use Rattle.topology.specs.declared.Reading.{Reading}
+use Rattle.topology.specs.Reading.{verdictOf, refusedReading, readingOf, sheetOf}
+use Rattle.reader.specs.Refusals.{Shown}
+use Rattle.reader.proofs.Exactly.{accepted-exactly, refused-exactly}
+use Rattle.reader.proofs.Shows.{number-told}
+use Rattle.request.specs.declared.State.{State}
+use Rattle.request.specs.declared.Answer.{Answer}
+use Rattle.request.specs.Outcome.{Outcome, numberOf, answerOf}
+use Rattle.request.specs.Outcome.Outcome.{refused, got, done}
+use Rattle.request.specs.Load.{loadOf}
+use Rattle.request.specs.Request.{requestOf}
+use Rattle.runs.specs.Rows.{requestRows, loadRows}
+use Rattle.runs.proofs.Rows.{request-rows, load-rows}
+use Rattle.runs.proofs.Refusals.{refused-keeps}
+use Rattle.demands.specs.Demand1.{RefusedReading, RefusedAnswer, Demand1}
+
+module _ (s d : List ℕ) where
+  refuses : (readingOf s (length d) .number ≡ 0 → ⊥) → RefusedReading s d
+  unfolding refusedReading readingOf sheetOf
+  refuses n = record {
+    named = rw answer (refused-exactly s (length d) (verdictOf s (length d) .number) (verdictOf s (length d) .place) given .0 refl);
+    interface = ap (λ (r : Reading). r .control) answer;
+    no-entities = ap (λ (r : Reading). r .entities) answer;
+    no-controls = ap (λ (r : Reading). r .controls) answer;
+    no-table = ap (λ (r : Reading). r .table) answer;
+    sheet = no _ _ (ne-eqb _ _ given);
+  }
+    where
+      given : verdictOf s (length d) .number ≡ 0 → ⊥
+      given e = n (number-told s (length d) ∙ e)
+
+      answer : readingOf s (length d) ≡ refusedReading (verdictOf s (length d))
+      answer = no _ _ (ne-eqb _ _ given)
+
+  answers : ((readingOf s (length d) .number ≡ 0) × Shown s (length d)) ⊎ RefusedReading s d
+  answers = go (decided (eqb (readingOf s (length d) .number) 0) (reads-eq (readingOf s (length d) .number) 0))
+    where
+      go : (readingOf s (length d) .number ≡ 0) ⊎ (readingOf s (length d) .number ≡ 0 → ⊥) → ((readingOf s (length d) .number ≡ 0) × Shown s (length d)) ⊎ RefusedReading s d
+      go (inl e) = inl (e, accepted-exactly s (length d) .0 (sym (number-told s (length d)) ∙ e))
+      go (inr n) = inr (refuses n)
+
+answer-refuses : (Rows : ℕ → Type 0) (st : State) (o : Outcome) → Rows (numberOf o) → (r : Answer) → r ≡ answerOf st o → (r .number ≡ 0 → ⊥) → RefusedAnswer Rows st r
+unfolding answerOf
+answer-refuses Rows st (refused n) row r e h = record { row = rw e row; none-written = ap (λ (x : Answer). x .written) e; state = ap (λ (x : Answer). x .state) e }
+answer-refuses Rows st (got bytes) row r e h = absurd (h (ap (λ (x : Answer). x .number) e))
+answer-refuses Rows st (done u) row r e h = absurd (h (ap (λ (x : Answer). x .number) e))
+
+pub demand-1 : Demand1
+unfolding answerOf
+demand-1 = record {
+  reader-answers = answers;
+  reader-refuses = refuses;
+  load-refuses = λ st k range w r e h.
+      answer-refuses (loadRows st k range w) st (loadOf st (k .unit) (k .channel) (k .selector) range w) (load-rows st k range w) r e h;
+  request-refuses = λ st setup «data» b r a k h.
+      let o = requestOf st setup «data» (length b) in (
+        answer-refuses (requestRows st setup «data» (length b)) st o (request-rows st setup «data» (length b)) r (k .result) h,
+        k .lent ∙ refused-keeps (st .table) b o (λ e. h (ap (λ (x : Answer). x .number) (k .result) ∙ e)) .reply,
+      );
+}

@@ -1,0 +1,38 @@
+-- Demand 2, proved.
+use mathlib.Core.Path.{_≡_, sym, ap, subst}
+use mathlib.Core.List.{List}
+use Prim.Native.Nat.{ℕ}
+use lib.ListN.{length}
+use Rattle.sound.specs.Meaning.{Sound}
+use Rattle.sound.specs.Fresh.{Fresh}
+use Rattle.topology.specs.Reading.{readingOf}
+use Rattle.reader.proofs.Tables.{reader-table}
+use Rattle.request.specs.declared.State.{State}
+use Rattle.request.specs.declared.Plugged.{Plugged}
+use Rattle.request.specs.Plugged.{PluggedIn}
+use Rattle.runs.specs.Runs.{Step, after, Wired}
+use Rattle.runs.proofs.Alone.{alone, run-sound}
+use Rattle.runs.proofs.Answers.{next-get, next-set, next-load, get-answers}
+use Rattle.runs.proofs.Moved.{whole-run}
+use Rattle.runs.proofs.Rows.{step-rows}
+use Rattle.demands.specs.Demand2.{EveryRun, Demand2}
+
+runs-so : (st : State) → Sound (st .table) → (run : List Step) → Wired run → EveryRun st run
+runs-so st h run w =
+    let s = run-sound st run w h in
+    record {
+      sound = s;
+      numbers = step-rows (after st run);
+      next-get = next-get (after st run);
+      next-set = next-set (after st run) s;
+      next-load = next-load (after st run) s;
+      alone = alone (after st run);
+      stored = λ k i f. whole-run st k i run h f w;
+      gets = get-answers st run h w;
+    }
+
+pub demand-2 : Demand2
+demand-2 = record {
+  plugged-fresh = λ s d r a p. subst (λ (st : State). Fresh (st .table)) (sym (p .state)) (reader-table s (length d));
+  every-run = λ s d r a p run w. runs-so (r .state) (p .sound) run w;
+}

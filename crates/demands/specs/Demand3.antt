@@ -1,0 +1,79 @@
+-- Demand 3: "With a sheet of 512 bytes or more lent, a configuration is accepted exactly when there exist a cutting into descriptors, a
+-- rank on each entity, lower at a source than at its user, and a channel cluster on each entity's output, that keep every rule of
+-- document 01, written without the reader's search. For accepted bytes only one cutting and one set of clusters keep them, and the
+-- sheet shows those." What there must be is Configuration (reader/specs).
+--   wholeSheet      ==  512 bytes
+--   run t, cluster t, controls t  ==  of the configuration t: the run's descriptors, the clusters on IDs, the controls
+--   Demand3         ==  accepted: the reader's number is 0 exactly where the bytes are a configuration
+--                       one-cutting, one-descriptors, one-clusters: what keeps the rules is one: the cutting, the run's descriptors byte
+--                       by byte, the cluster on each ID
+--                       answer-shows: the whole answer: the AudioControl number, the count of entities, the controls
+--                       sheet-shows: the sheet: the records of the run's descriptors with those clusters, then the lent bytes as they
+--                       stood; record-shows: of which the 16 bytes at 16·i are the record of the i-th descriptor with the cluster on
+--                       its ID; record-bytes: byte by byte: the ID and the kind that the descriptor has, the cluster's numbers, the
+--                       pins, the source IDs at the offsets that its layout has
+--                       controls-stand, controls-order: a control is in the table exactly where an entity carries it; and the
+--                       table's order
+--                       controls-counted: the answer's count of controls is the table's, whatever the configuration and the sheet
+use Prim.Native.Nat.{ℕ, _*_, _≤_, _<_}
+use mathlib.Core.Path.{_≡_}
+use mathlib.Core.List.{List, [], _++_}
+use mathlib.Core.Logic.{_↔_}
+use lib.ListN.{length, getD, take, drop}
+use Rattle.ground.specs.Numbers.{byte}
+use Rattle.graph.specs.Members.{_∈_}
+use Rattle.layout.specs.declared.Cluster.{Cluster}
+use Rattle.edition.specs.Edition.{ownId}
+use Rattle.table.specs.declared.Control.{Control}
+use Rattle.table.specs.Controls.{at}
+use Rattle.table.specs.Keys.{InTable}
+use Rattle.controls.specs.Controls.{controlsOf}
+use Rattle.controls.specs.Growth.{tableOf}
+use Rattle.controls.specs.Standing.{Stands}
+use Rattle.controls.specs.Order.{Before}
+use Rattle.records.specs.Records.{recordSize, recordIn}
+use Rattle.records.specs.Sheet.{recordsOf}
+use Rattle.records.specs.Bytes.{RecordBytes}
+use Rattle.topology.specs.Reading.{readingOf, sheetOf}
+use Rattle.reader.specs.Configuration.{runOf, Configuration, Rule16}
+
+-- a sheet that holds 32 records
+abbrev pub wholeSheet : ℕ
+wholeSheet = 512
+
+module _ {s : List ℕ} (t : Configuration s) where
+  abbrev pub run : List (List ℕ)
+  run = runOf (t .kept)
+
+  abbrev pub cluster : ℕ → Cluster
+  cluster = t .connected .cluster
+
+  abbrev pub controls : List Control
+  controls = controlsOf run cluster
+
+pub record Demand3 (s : List ℕ) : Type 0 where
+  pub accepted : (d : List ℕ) → wholeSheet ≤ length d → (readingOf s (length d) .number ≡ 0) ↔ Configuration s
+  pub one-cutting : (t u : Configuration s) → t .kept .opened .descriptors ≡ u .kept .opened .descriptors
+  pub one-descriptors : (t u : Configuration s) → run t ≡ run u
+  pub one-clusters : (t u : Configuration s) (d : List ℕ) → d ∈ run t → cluster t (ownId d) ≡ cluster u (ownId d)
+  pub answer-shows : (t : Configuration s) (room : ℕ) → Rule16 (run t) room
+      → readingOf s room
+      ≡ record {
+        number = 0;
+        place = 0;
+        control = byte (t .kept .opened .control) 2;
+        entities = length (run t);
+        controls = length (controls t);
+        table = tableOf (controls t);
+      }
+  pub sheet-shows : (t : Configuration s) (d : List ℕ) → Rule16 (run t) (length d)
+      → sheetOf s d ≡ recordsOf (run t) (cluster t) ++ drop (length (run t) * recordSize) d
+  pub record-shows : (t : Configuration s) (d : List ℕ) → Rule16 (run t) (length d) → (i : ℕ) → i < length (run t)
+      → take recordSize (drop (i * recordSize) (sheetOf s d)) ≡ recordIn (getD (run t) i []) (cluster t (ownId (getD (run t) i [])))
+  pub record-bytes : (t : Configuration s) (d : List ℕ) → Rule16 (run t) (length d) → (i : ℕ) → i < length (run t)
+      → RecordBytes (getD (run t) i []) (cluster t (ownId (getD (run t) i []))) (take recordSize (drop (i * recordSize) (sheetOf s d)))
+  pub controls-stand : (t : Configuration s) (room : ℕ) → Rule16 (run t) room → (x : Control)
+      → InTable (readingOf s room .table) x ↔ Stands (run t) (cluster t) x
+  pub controls-order : (t : Configuration s) (room : ℕ) → Rule16 (run t) room → (p q : ℕ) → p < q → q < readingOf s room .table .count
+      → Before (run t) (at (readingOf s room .table) p) (at (readingOf s room .table) q)
+  pub controls-counted : (room : ℕ) → readingOf s room .controls ≡ readingOf s room .table .count
