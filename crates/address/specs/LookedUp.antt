@@ -10,10 +10,9 @@ use lib.Dec.{eqb}
 use Rattle.ground.specs.Places.{somewhere}
 use Rattle.table.specs.declared.Control.{Control}
 use Rattle.table.specs.declared.Table.{Table}
-use Rattle.table.specs.declared.Found.{Found}
-use Rattle.table.specs.declared.Found.the-variants.{Nothing, At}
+use Rattle.table.specs.First.{Seat, places, foundIn}
+use Rattle.table.specs.First.Seat.{absent, seat}
 use Rattle.table.specs.Controls.{at}
-use Rattle.table.specs.First.{places, foundIn}
 use Rattle.address.specs.declared.Lookup.{Lookup}
 use Rattle.address.specs.declared.Lookup.the-variants as lookup
 
@@ -27,9 +26,9 @@ abbrev pub missingBy : Bool → Lookup
 missingBy true = lookup.NoControl
 missingBy false = lookup.NoUnit
 
-abbrev pub lookupBy : Found → Bool → Lookup
-lookupBy Nothing seen = missingBy seen
-lookupBy (At p) seen = lookup.At p
+abbrev pub lookupBy : Seat → Bool → Lookup
+lookupBy absent seen = missingBy seen
+lookupBy (seat p) seen = lookup.At p
 
 unfoldable pub lookedUp : Table → ℕ → ℕ → ℕ → Lookup
 lookedUp t u ch s = lookupBy (foundIn t u ch s) (unitIn t u)

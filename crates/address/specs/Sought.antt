@@ -16,8 +16,8 @@ use native.Mathlib.Omega.{arith}
 use lib.Dec.{eqb}
 use Rattle.table.specs.declared.Control.{Control}
 use Rattle.table.specs.declared.Table.{Table}
-use Rattle.table.specs.declared.Found.{Found}
-use Rattle.table.specs.declared.Found.the-variants.{Nothing, At}
+use Rattle.table.specs.First.{Seat, places, foundIn}
+use Rattle.table.specs.First.Seat.{absent, seat}
 use Rattle.address.specs.declared.Lookup.{Lookup}
 use Rattle.address.specs.declared.Lookup.the-variants as lookup
 use Rattle.address.specs.declared.Sought.{Sought}
@@ -25,7 +25,6 @@ use Rattle.address.specs.declared.Sought.the-variants as sought
 use Rattle.table.specs.Controls.{mostControls, at, answersTo}
 use Rattle.ground.specs.Pick.{pick, yes, no}
 use Rattle.ground.specs.Places.{firstIn, Come, come-none, come-here, come-more, come-over, somewhere}
-use Rattle.table.specs.First.{places, foundIn}
 use Rattle.address.specs.LookedUp.{unitIn, sawUnit, missingBy, lookupBy, lookedUp}
 use Rattle.sound.specs.Sound.{soundOf}
 
@@ -45,12 +44,12 @@ module _ (t : Table) (u ch s : ℕ) where
   later p = firstIn owned (λ i. true) false p (places t - p)
 
   pub record Looking (seen : Bool) (p : ℕ) : Type 0 where
-    pub come : Come wanted At Nothing (places t) p
+    pub come : Come wanted seat absent (places t) p
     pub some : unitIn t u ≡ (seen || later p)
 
   pub looking-start : Looking false 0
   unfolding unitIn somewhere
-  looking-start = record { come = come-none wanted At Nothing (places t); some = rw sub-zero }
+  looking-start = record { come = come-none wanted seat absent (places t); some = rw sub-zero }
 
   later-over : (p : ℕ) → places t ≤ p → later p ≡ false
   unfolding firstIn
@@ -64,18 +63,18 @@ module _ (t : Table) (u ch s : ℕ) where
     pub looking-over : places t ≤ p → (r : Lookup) → r ≡ missingBy seen → r ≡ lookedUp t u ch s
     unfolding lookedUp foundIn
     looking-over h r e =
-        let a : Nothing ≡ foundIn t u ch s = come-over wanted At Nothing (places t) p (g .come) h in
+        let a : absent ≡ foundIn t u ch s = come-over wanted seat absent (places t) p (g .come) h in
         let b : unitIn t u ≡ seen = g .some ∙ ap (λ (x : Bool). seen || x) (later-over p h) ∙ or-false seen in
         rw (← a, b) e
 
     module _ (h : p < mostControls) (k : p < t .count) (b : Bool) (e : b ≡ wanted p) where
       pub looking-here : b ≡ true → lookup.At p ≡ lookedUp t u ch s
       unfolding lookedUp foundIn
-      looking-here f = ap (λ (x : Found). lookupBy x (unitIn t u)) (come-here wanted At Nothing (places t) p (g .come) (omega arith) b e f)
+      looking-here f = ap (λ (x : Seat). lookupBy x (unitIn t u)) (come-here wanted seat absent (places t) p (g .come) (omega arith) b e f)
 
       pub looking-on : b ≡ false → (c : Bool) → c ≡ sawUnit seen u (at t p) → Looking c (p + 1)
       looking-on f c i = record {
-        come = come-more wanted At Nothing (places t) p (g .come) (omega arith) b e f;
+        come = come-more wanted seat absent (places t) p (g .come) (omega arith) b e f;
         some = g .some ∙ ap (λ (x : Bool). seen || x) (later-on p (omega arith)) ∙ sym (or-assoc seen (owned p) (later (p + 1))) ∙ ap (λ (x : Bool). x || later (p + 1)) (sym i);
       }
 

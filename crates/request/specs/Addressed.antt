@@ -7,18 +7,17 @@ use Prim.Native.Nat.{ℕ}
 use mathlib.Core.List.{List, [], _∷_}
 use Rattle.table.specs.declared.Control.{Control}
 use Rattle.table.specs.declared.Table.{Table}
-use Rattle.table.specs.declared.Found.{Found}
-use Rattle.table.specs.declared.Found.the-variants.{Nothing, At}
+use Rattle.table.specs.First.{Seat, foundIn}
+use Rattle.table.specs.First.Seat.{absent, seat}
 use Rattle.table.specs.Controls.{placed}
-use Rattle.table.specs.First.{foundIn}
 use Rattle.deed.specs.Doing.{Doing}
 use Rattle.deed.specs.Doing.Doing.{denied, given, changed}
 use Rattle.request.specs.Outcome.{Outcome}
 use Rattle.request.specs.Outcome.Outcome.{refused, got, done}
 
-abbrev pub placesOf : Found → List ℕ
-placesOf Nothing = []
-placesOf (At p) = p ∷ []
+abbrev pub placesOf : Seat → List ℕ
+placesOf absent = []
+placesOf (seat p) = p ∷ []
 
 abbrev pub addressedIn : Table → ℕ → ℕ → ℕ → List ℕ
 addressedIn t u ch s = placesOf (foundIn t u ch s)

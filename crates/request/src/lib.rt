@@ -16,7 +16,7 @@ use setting::Range;
 use setup::Asked;
 use setup::Target;
 use table::Control;
-use table::Found;
+use table::Held;
 use table::Table;
 use topology::Reading;
 
@@ -92,11 +92,8 @@ pub fn load(
     }
     let range = Range { min, max, res };
     match table::find(state.table, unit, channel, selector) {
-        Found::Nothing => refused(state, 20),
-        Found::At(index) => {
-            let control = table::control_at(state.table, index);
-            done(state, index, loads::load_on(control, range, cur))
-        }
+        Held::Nothing => refused(state, 20),
+        Held::At(index, control) => done(state, index, loads::load_on(control, range, cur)),
     }
 }
 

@@ -14,7 +14,7 @@ use Rattle.ground.specs.Pick.{decided, reads-eq}
 use Rattle.setting.specs.declared.Range.{Range}
 use Rattle.table.specs.declared.Control.{Control}
 use Rattle.table.specs.declared.Table.{Table}
-use Rattle.table.specs.declared.Found.the-variants as found
+use Rattle.table.specs.First.Seat.{absent, seat}
 use Rattle.table.specs.Controls.{at, placed}
 use Rattle.table.specs.Keys.{Key, whereIs, StandsAt}
 use Rattle.sound.specs.Sound.{soundOf}
@@ -36,12 +36,12 @@ use Rattle.runs.proofs.Moved.{one-step}
 untouched : (t : Table) (k : Key) → Alone t k t
 untouched t k = record { count = refl; room = refl; others = λ q h. refl; same = λ q. same-self (at t q); pins = λ q. refl }
 
-stored-alone : (t : Table) (k : Key) (p : ℕ) → Sound t → whereIs t k ≡ found.At p → (c : Control) → Same c (at t p) → c .pins ≡ at t p .pins
+stored-alone : (t : Table) (k : Key) (p : ℕ) → Sound t → whereIs t k ≡ seat p → (c : Control) → Same c (at t p) → c .pins ≡ at t p .pins
     → Alone t k (placed t p c)
 stored-alone t k p s f c h e = record {
   count = refl;
   room = length-set (t .controls) p c;
-  others = λ q n. placed-elsewhere t p c q (λ i. n (found-stands t k q (f ∙ ap found.At (sym i))));
+  others = λ q n. placed-elsewhere t p c q (λ i. n (found-stands t k q (f ∙ ap seat (sym i))));
   same = λ q.
       ⊎-elim
       (λ (i : q ≡ p). rw (i, placed-here t p (place-inside t k p f s) c) h)

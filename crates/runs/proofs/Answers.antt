@@ -24,7 +24,7 @@ use Rattle.table.specs.declared.Control.{Control}
 use Rattle.table.specs.declared.Table.{Table}
 use Rattle.table.specs.declared.Sense.{Sense}
 use Rattle.table.specs.declared.Sense.the-variants.{Unknown, YesNo, Ranged, Pin}
-use Rattle.table.specs.declared.Found.the-variants as found
+use Rattle.table.specs.First.Seat.{absent, seat}
 use Rattle.table.specs.Controls.{at, placed, senseOf, sizeOf, rangeOf}
 use Rattle.table.specs.Keys.{Key, whereIs}
 use Rattle.sound.specs.Meaning.{SoundAs, Sound, sound-reads, loaded-legal, loaded-fits, loaded-setting}
@@ -231,7 +231,7 @@ got-answers st run h w s room bytes a = record {
     now : Control
     now = at v (a .index)
 
-    there : whereIs t0 (namedBy s) ≡ found.At (a .index)
+    there : whereIs t0 (namedBy s) ≡ seat (a .index)
     there = sym (run-found st run (namedBy s)) ∙ a .there
 
     m : Moved t0 (namedBy s) (a .index) (told (rangesIn (namedBy s)) st run) (told (numbersIn (namedBy s)) st run) v

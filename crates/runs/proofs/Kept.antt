@@ -26,10 +26,9 @@ use Rattle.table.specs.declared.Control.{Control}
 use Rattle.table.specs.declared.Table.{Table}
 use Rattle.table.specs.declared.Sense.{Sense}
 use Rattle.table.specs.declared.Sense.the-variants.{Unknown, YesNo, Ranged, Pin}
-use Rattle.table.specs.declared.Found.{Found}
-use Rattle.table.specs.declared.Found.the-variants as found
+use Rattle.table.specs.First.{Seat, places, foundIn, found-first, none-found}
+use Rattle.table.specs.First.Seat.{absent, seat}
 use Rattle.table.specs.Controls.{at, senseOf, sizeOf, rangeOf, answersTo}
-use Rattle.table.specs.First.{places, foundIn, found-first, none-found}
 use Rattle.table.specs.Keys.{Key, whereIs, Bears, StandsAt}
 use Rattle.table.specs.Same.{Same}
 use Rattle.sound.specs.Meaning.{SoundAs, SoundRanged, SoundLoaded, Sound, loaded-legal, loaded-tested, sound-counted}
@@ -45,7 +44,7 @@ pub set-same : (x : ℕ) (c : Control) → Same (withCur x c) c
 set-same x c = record { unit = refl; channel = refl; selector = refl }
 
 -- a place that was found
-module _ (t : Table) (k : Key) (p : ℕ) (f : whereIs t k ≡ found.At p) where
+module _ (t : Table) (k : Key) (p : ℕ) (f : whereIs t k ≡ seat p) where
   place-answers : answersTo (k .unit) (k .channel) (k .selector) (at t p) ≡ true
   unfolding foundIn
   place-answers = found-first _ (places t) p f .passes
@@ -66,7 +65,7 @@ answers-reads : (k : Key) (c : Control) → Reads (answersTo (k .unit) (k .chann
 unfolding answersTo
 answers-reads k c = reads-and _ _ (reads-eq (c .unit) (k .unit)) (reads-and _ _ (reads-eq (c .channel) (k .channel)) (reads-eq (c .selector) (k .selector)))
 
-pub found-stands : (t : Table) (k : Key) (p : ℕ) → whereIs t k ≡ found.At p → StandsAt t k p
+pub found-stands : (t : Table) (k : Key) (p : ℕ) → whereIs t k ≡ seat p → StandsAt t k p
 found-stands t k p f =
     let h = answers-reads k (at t p) .says (place-answers t k p f) in
     record { inside = place-below t k p f; bears = record { unit = h .0; channel = h .1 .0; selector = h .1 .1 } }
@@ -81,7 +80,7 @@ module _ (t : Table) (sound : Sound t) (k : Key) where
   stands-one p q a b =
       ⊎-elim (λ (i : p ≡ q). i) (λ (i : p ≡ q → ⊥). absurd (apart p q i (stands-once q p b a) (stands-once p q a b))) (decided (eqb p q) (reads-eq p q))
 
-  pub none-stands : whereIs t k ≡ found.Nothing → (p : ℕ) → StandsAt t k p → ⊥
+  pub none-stands : whereIs t k ≡ absent → (p : ℕ) → StandsAt t k p → ⊥
   unfolding foundIn
   none-stands e p h =
       let few = sound .few in
@@ -89,12 +88,12 @@ module _ (t : Table) (sound : Sound t) (k : Key) where
       let n = none-found (λ q. answersTo (k .unit) (k .channel) (k .selector) (at t q)) (places t) e p (omega arith) in
       let b = h .bears in answers-reads k (at t p) .denies n (b .unit, (b .channel, b .selector))
 
-  pub stands-found : (p : ℕ) → StandsAt t k p → whereIs t k ≡ found.At p
+  pub stands-found : (p : ℕ) → StandsAt t k p → whereIs t k ≡ seat p
   stands-found p h = go (whereIs t k) refl
     where
-      go : (f : Found) → whereIs t k ≡ f → whereIs t k ≡ found.At p
-      go found.Nothing e = absurd (none-stands e p h)
-      go (found.At q) e = e ∙ ap found.At (stands-one q p (found-stands t k q e) h)
+      go : (f : Seat) → whereIs t k ≡ f → whereIs t k ≡ seat p
+      go absent e = absurd (none-stands e p h)
+      go (seat q) e = e ∙ ap seat (stands-one q p (found-stands t k q e) h)
 
 -- the number of one byte, and of two
 one-byte : (d : List ℕ) → Bytes d → length d ≡ 1 → valueIn d < 256

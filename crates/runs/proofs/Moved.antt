@@ -17,7 +17,7 @@ use Rattle.table.specs.declared.Control.{Control}
 use Rattle.table.specs.declared.Table.{Table}
 use Rattle.table.specs.declared.Sense.{Sense}
 use Rattle.table.specs.declared.Sense.the-variants as sense
-use Rattle.table.specs.declared.Found.the-variants as found
+use Rattle.table.specs.First.Seat.{absent, seat}
 use Rattle.table.specs.Controls.{at, placed, senseOf, sizeOf, rangeOf}
 use Rattle.table.specs.Same.{Same, same-self, same-by}
 use Rattle.sound.specs.Meaning.{SoundAs, Sound, loaded-legal}
@@ -60,7 +60,7 @@ some-not-none : {A : Type 0} (x : A) (xs : List A) → (x ∷ xs) ≡ [] → ⊥
 some-not-none x xs e = let z : _≡_ {A = ℕ} 0 1 = cc in omega arith
 
 -- nothing told, nothing changed
-pub still : (t : Table) (k : Key) (p : ℕ) → Sound t → whereIs t k ≡ found.At p → Moved t k p [] [] t
+pub still : (t : Table) (k : Key) (p : ℕ) → Sound t → whereIs t k ≡ seat p → Moved t k p [] [] t
 unfolding lastOf
 still t k p s f = record {
   sound = s;
@@ -101,11 +101,11 @@ reads-key k l =
       denies = λ e h. r .denies e (h .unit, (h .channel, h .selector));
     }
 
-found-at-one : {p q : ℕ} → found.At p ≡ found.At q → p ≡ q
+found-at-one : {p q : ℕ} → seat p ≡ seat q → p ≡ q
 found-at-one e = cc
 
 -- two keys are one exactly where they are found at one place
-module _ (t : Table) (k l : Key) (p q : ℕ) (f : whereIs t k ≡ found.At p) (g : whereIs t l ≡ found.At q) where
+module _ (t : Table) (k l : Key) (p q : ℕ) (f : whereIs t k ≡ seat p) (g : whereIs t l ≡ seat q) where
   one-place : sameKey k l ≡ true → q ≡ p
   one-place e =
       let h = reads-key k l .says e in
@@ -120,12 +120,12 @@ module _ (t : Table) (k l : Key) (p q : ℕ) (f : whereIs t k ≡ found.At p) (g
       (let x = a .bears in let y = b .bears in record { unit = sym (x .unit) ∙ y .unit; channel = sym (x .channel) ∙ y .channel; selector = sym (x .selector) ∙ y .selector })
 
 -- a control is stored at another place
-module _ (t : Table) (k : Key) (p : ℕ) (s : Sound t) (f : whereIs t k ≡ found.At p) (l : Key) (q : ℕ) (g : whereIs t l ≡ found.At q) (c : Control)
+module _ (t : Table) (k : Key) (p : ℕ) (s : Sound t) (f : whereIs t k ≡ seat p) (l : Key) (q : ℕ) (g : whereIs t l ≡ seat q) (c : Control)
     (h : Same c (at t q)) (ok : SoundAs (senseOf (c .selector)) c) where
   stored-sound : Sound (placed t q c)
   stored-sound = placed-sound t q (place-inside t l q g s) c h s ok
 
-  stored-there : whereIs (placed t q c) k ≡ found.At p
+  stored-there : whereIs (placed t q c) k ≡ seat p
   stored-there = placed-found t q (place-inside t l q g s) c h (k .unit) (k .channel) (k .selector) ∙ f
 
   elsewhere : sameKey k l ≡ false → Moved t k p [] [] (placed t q c)
@@ -162,10 +162,10 @@ module _ (t : Table) (k : Key) (p : ℕ) (s : Sound t) (f : whereIs t k ≡ foun
       }
 
 -- a key's control has the key's selector
-selector-at : (t : Table) (k : Key) (p : ℕ) → whereIs t k ≡ found.At p → at t p .selector ≡ k .selector
+selector-at : (t : Table) (k : Key) (p : ℕ) → whereIs t k ≡ seat p → at t p .selector ≡ k .selector
 selector-at t k p f = found-stands t k p f .bears .selector
 
-pub sense-at : (t : Table) (k : Key) (p : ℕ) → whereIs t k ≡ found.At p → senseOf (at t p .selector) ≡ senseOf (k .selector)
+pub sense-at : (t : Table) (k : Key) (p : ℕ) → whereIs t k ≡ seat p → senseOf (at t p .selector) ≡ senseOf (k .selector)
 sense-at t k p f = ap senseOf (selector-at t k p f)
 
 -- a load of the control tells it a range and a number
@@ -181,7 +181,7 @@ set-stands (sense.Ranged s) c d h b l =
     λ z. settles-closest s (rangeOf c) (valueIn d) (closestTo s (rangeOf c) (valueIn d)) (loaded-legal s c (h .loaded z)) (sent-fits s d b l) refl
 set-stands sense.Pin c d h b l = refl
 
-module _ (t : Table) (k : Key) (p : ℕ) (s : Sound t) (f : whereIs t k ≡ found.At p) where
+module _ (t : Table) (k : Key) (p : ℕ) (s : Sound t) (f : whereIs t k ≡ seat p) where
   load-moves : (l : Key) (range : Range) (w : ℕ) (v : Table) → LoadTaken t l range w v
       → Moved t k p (pick (sameKey k l) (range ∷ []) []) (pick (sameKey k l) (w ∷ []) []) v
   unfolding lastOf
@@ -232,7 +232,7 @@ module _ (t : Table) (k : Key) (p : ℕ) (s : Sound t) (f : whereIs t k ≡ foun
           here t k p s f l (a .index) (a .there) changed (set-same (storedFor (senseOf (c .selector)) c (valueIn d)) c) ok e [] (valueIn d ∷ []) refl (sym (or-false (c .loaded))) refl (some-not-none (valueIn d) []) (λ x y. stands e)
       go false e = elsewhere t k p s f l (a .index) (a .there) changed (set-same (storedFor (senseOf (c .selector)) c (valueIn d)) c) ok e
 
-module _ (st : State) (k : Key) (p : ℕ) (s : Sound (st .table)) (f : whereIs (st .table) k ≡ found.At p) where
+module _ (st : State) (k : Key) (p : ℕ) (s : Sound (st .table)) (f : whereIs (st .table) k ≡ seat p) where
   abbrev t : Table
   t = st .table
 

@@ -24,11 +24,10 @@ use Rattle.table.specs.declared.Control.{Control}
 use Rattle.table.specs.declared.Table.{Table}
 use Rattle.table.specs.declared.Sense.{Sense}
 use Rattle.table.specs.declared.Sense.the-variants.{Unknown, YesNo, Ranged, Pin}
-use Rattle.table.specs.declared.Found.{Found}
-use Rattle.table.specs.declared.Found.the-variants as found
+use Rattle.table.specs.First.{Seat, places}
+use Rattle.table.specs.First.Seat.{absent, seat}
 use Rattle.table.specs.Controls.{at, senseOf}
 use Rattle.table.specs.Keys.{Key, whereIs, Bears, StandsAt, InTable}
-use Rattle.table.specs.First.{places}
 use Rattle.address.specs.LookedUp.{unitIn}
 use Rattle.sound.specs.Sound.{soundOf}
 use Rattle.sound.specs.Meaning.{SoundAs, Sound, sound-reads}
@@ -232,15 +231,15 @@ module _ (t : Table) (sound : Sound t) where
   bears-stands k c i b = record { inside = i .inside; bears = rw (i .is) b }
 
   -- the control that is found, and no other
-  the-one : (k : Key) (p : ℕ) → whereIs t k ≡ found.At p → (c : Control) → InTable t c → Bears k c → c ≡ at t p
+  the-one : (k : Key) (p : ℕ) → whereIs t k ≡ seat p → (c : Control) → InTable t c → Bears k c → c ≡ at t p
   the-one k p f c i b = sym (i .is) ∙ ap (at t) (stands-one t sound k (i .index) p (bears-stands k c i b) (found-stands t k p f))
 
-  pub addressed-found : (s : List ℕ) (f : Found) → whereIs t (namedBy s) ≡ f → Addressed t s (map (at t) (placesOf f))
-  addressed-found s found.Nothing e = record {
+  pub addressed-found : (s : List ℕ) (f : Seat) → whereIs t (namedBy s) ≡ f → Addressed t s (map (at t) (placesOf f))
+  addressed-found s absent e = record {
     each = λ c. (λ m. absurd (List·Memᴰ·not-nil m), λ h. absurd (none-stands t sound (namedBy s) e (h .0 .index) (bears-stands (namedBy s) c (h .0) (h .1))));
     rising = no-more;
   }
-  addressed-found s (found.At p) e = record {
+  addressed-found s (seat p) e = record {
     each = λ c. (λ m. only c (List·Memᴰ·cases-cons m), λ h. List·Memᴰ·head (the-one (namedBy s) p e c (h .0) (h .1)));
     rising = more (λ x m. absurd (List·Memᴰ·not-nil m)) no-more;
   }
@@ -258,17 +257,17 @@ module _ (st : State) (sound : Sound (st .table)) (s d : List ℕ) (room : ℕ) 
   abbrev t : Table
   t = st .table
 
-  found-rows : (f : Found) → whereIs t (namedBy s) ≡ f → (b : Bool) → Reads b (Owned t (byte s 5)) → unitIn t (byte s 5) ≡ b
+  found-rows : (f : Seat) → whereIs t (namedBy s) ≡ f → (b : Bool) → Reads b (Owned t (byte s 5)) → unitIn t (byte s 5) ≡ b
       → Row 33 (Owned t (byte s 5) → ⊥) (Along t s (addressedRows s d room)) (numberOf (doneAt t (byte s 5) (placesOf f) act))
   unfolding doneAt
-  found-rows (found.At p) e b r h =
+  found-rows (seat p) e b r h =
       let a = found-stands t (namedBy s) p e in
-      let l = addressed-found t sound s (found.At p) e in
+      let l = addressed-found t sound s (seat p) e in
       passed (λ n. n (record { index = p; inside = a .inside; unit = a .bears .unit }))
       (at t p ∷ [], (l, passed (λ i. List·Memᴰ·not-nil (subst (λ (x : List Control). at t p ∈ x) i (List·Memᴰ·head refl))) (rw (same-number t (p ∷ []) (act (at t p ∷ []))) (rows (at t p ∷ []) l))))
-  found-rows found.Nothing e true r h =
-      passed (λ n. n (r .says refl)) (rw h ([], (addressed-found t sound s found.Nothing e, is-given refl refl)))
-  found-rows found.Nothing e false r h = rw h (is-given (r .denies refl) refl)
+  found-rows absent e true r h =
+      passed (λ n. n (r .says refl)) (rw h ([], (addressed-found t sound s absent e, is-given refl refl)))
+  found-rows absent e false r h = rw h (is-given (r .denies refl) refl)
 
   here-rows : Row 33 (Owned t (byte s 5) → ⊥) (Along t s (addressedRows s d room)) (numberOf (doneAt t (byte s 5) (addressedIn t (byte s 5) (byte s 2) (byte s 3)) act))
   here-rows = found-rows (whereIs t (namedBy s)) refl (unitIn t (byte s 5)) (owned-reads t sound (byte s 5)) refl
@@ -334,10 +333,10 @@ module _ (t : Table) (sound : Sound t) (k : Key) (range : Range) (w : ℕ) where
   by-sense c i b (Ranged r) e = passed (λ n. n (record { control = c; there = i; bears = b; ranged = (r, e) })) (by-range r c e _ (in-range r e) _)
   by-sense c i b Pin e = is-given (unranged Pin e refl) refl
 
-  by-place : (f : Found) → whereIs t k ≡ f → rangeRows (numberOf (loadAt t (placesOf f) range w))
+  by-place : (f : Seat) → whereIs t k ≡ f → rangeRows (numberOf (loadAt t (placesOf f) range w))
   unfolding loadAt
-  by-place found.Nothing e = is-given (λ h. none-stands t sound k e (h .there .index) (bears-stands t sound k (h .control) (h .there) (h .bears))) refl
-  by-place (found.At p) e =
+  by-place absent e = is-given (λ h. none-stands t sound k e (h .there .index) (bears-stands t sound k (h .control) (h .there) (h .bears))) refl
+  by-place (seat p) e =
       let a = found-stands t k p e in
       rw (same-number t (p ∷ []) (loadOn (at t p) range w))
       (by-sense (at t p) (record { index = p; inside = a .inside; is = refl }) (a .bears) (senseOf (at t p .selector)) (ap senseOf (sym (a .bears .selector))))

@@ -23,11 +23,10 @@ use Rattle.table.specs.declared.Control.{Control}
 use Rattle.table.specs.declared.Table.{Table}
 use Rattle.table.specs.declared.Sense.{Sense}
 use Rattle.table.specs.declared.Sense.the-variants.{Unknown, YesNo, Ranged, Pin}
-use Rattle.table.specs.declared.Found.{Found}
-use Rattle.table.specs.declared.Found.the-variants as found
+use Rattle.table.specs.First.{Seat, foundIn}
+use Rattle.table.specs.First.Seat.{absent, seat}
 use Rattle.table.specs.Controls.{at, placed, senseOf}
 use Rattle.table.specs.Keys.{Key, whereIs}
-use Rattle.table.specs.First.{foundIn}
 use Rattle.sound.specs.Sound.{soundOf}
 use Rattle.setup.specs.declared.Part.{Part}
 use Rattle.setup.specs.declared.Asked.{Asked}
@@ -99,14 +98,14 @@ kept-change false n cs ds e = no-change e
 pub record LoadTaken (t : Table) (k : Key) (range : Range) (w : ℕ) (v : Table) : Type 0 where
   pub sound : soundOf t ≡ true
   pub index : ℕ
-  pub there : whereIs t k ≡ found.At index
+  pub there : whereIs t k ≡ seat index
   pub sort : Sort
   pub sense : senseOf (at t index .selector) ≡ Ranged sort
   pub legal : legalOf sort range ≡ true
   pub fits : fitsOf sort w ≡ true
   pub table : v ≡ placed t index (loadedWith sort range w (at t index))
 
-module _ (t : Table) (k : Key) (range : Range) (w : ℕ) (v : Table) (q : soundOf t ≡ true) (p : ℕ) (f : whereIs t k ≡ found.At p) where
+module _ (t : Table) (k : Key) (range : Range) (w : ℕ) (v : Table) (q : soundOf t ≡ true) (p : ℕ) (f : whereIs t k ≡ seat p) where
   sense-taken : (h : Sense) → senseOf (at t p .selector) ≡ h → (cs : List Control) → loadBy h (at t p) range w ≡ changed cs → v ≡ storedAt t (p ∷ []) cs → LoadTaken t k range w v
   unfolding loadBy loadRange storedAt
   sense-taken Unknown h cs e i = no-change e
@@ -117,11 +116,11 @@ module _ (t : Table) (k : Key) (range : Range) (w : ℕ) (v : Table) (q : soundO
       record { sound = q; index = p; there = f; sort = r; sense = h; legal = both .0; fits = both .1; table = i ∙ ap (storedAt t (p ∷ [])) (a .1) }
   sense-taken Pin h cs e i = no-change e
 
-found-taken : (t : Table) (k : Key) (range : Range) (w : ℕ) (v : Table) → soundOf t ≡ true → (f : Found) → whereIs t k ≡ f
+found-taken : (t : Table) (k : Key) (range : Range) (w : ℕ) (v : Table) → soundOf t ≡ true → (f : Seat) → whereIs t k ≡ f
     → loadAt t (placesOf f) range w ≡ done v → LoadTaken t k range w v
 unfolding loadAt
-found-taken t k range w v q found.Nothing f e = no-done e
-found-taken t k range w v q (found.At p) f e =
+found-taken t k range w v q absent f e = no-done e
+found-taken t k range w v q (seat p) f e =
     let a = done-changed t (p ∷ []) (loadOn (at t p) range w) v e in
     sense-taken t k range w v q p f (senseOf (at t p .selector)) refl (a .0) (a .1 .0) (a .1 .1)
 
@@ -137,7 +136,7 @@ pub record SetTaken (t : Table) (s d : List ℕ) (v : Table) : Type 0 where
   pub sound : soundOf t ≡ true
   pub asked : AsksSet s
   pub index : ℕ
-  pub there : whereIs t (namedBy s) ≡ found.At index
+  pub there : whereIs t (namedBy s) ≡ seat index
   pub ready : unready (heldBy (at t index)) (at t index) ≡ false
   pub sized : length d ≡ sizeIn (at t index)
   pub taken : takes (heldBy (at t index)) (at t index) (valueIn d) ≡ true
@@ -149,7 +148,7 @@ pub record GetTaken (t : Table) (s : List ℕ) (room : ℕ) (bytes : List ℕ) :
   pub part : Part
   pub code : byte s 1 ≡ codeOf part
   pub index : ℕ
-  pub there : whereIs t (namedBy s) ≡ found.At index
+  pub there : whereIs t (namedBy s) ≡ seat index
   pub has : lacking (heldBy (at t index)) part ≡ false
   pub ready : unready (heldBy (at t index)) (at t index) ≡ false
   pub sized : word s 6 ≡ sizeIn (at t index)
@@ -164,7 +163,7 @@ missized-not size n d e = go (eqb n size) e
     go false h = absurd (true≠false h)
 
 -- a Set of the control at index p
-module _ (t : Table) (s d : List ℕ) (q : soundOf t ≡ true) (p : ℕ) (f : whereIs t (namedBy s) ≡ found.At p) where
+module _ (t : Table) (s d : List ℕ) (q : soundOf t ≡ true) (p : ℕ) (f : whereIs t (namedBy s) ≡ seat p) where
   abbrev here : Control
   here = at t p
 
@@ -230,30 +229,30 @@ module _ (st : State) (s d : List ℕ) (room : ℕ) (q : soundOf (st .table) ≡
   t = st .table
 
   -- what is done where the named control was found
-  set-found : AsksSet s → (f : Found) → whereIs t (namedBy s) ≡ f → (v : Table) → doneAt t (byte s 5) (placesOf f) (λ cs. setOf cs (word s 6) d) ≡ done v → SetTaken t s d v
+  set-found : AsksSet s → (f : Seat) → whereIs t (namedBy s) ≡ f → (v : Table) → doneAt t (byte s 5) (placesOf f) (λ cs. setOf cs (word s 6) d) ≡ done v → SetTaken t s d v
   unfolding doneAt
-  set-found a found.Nothing i v e = no-done e
-  set-found a (found.At p) i v e =
+  set-found a absent i v e = no-done e
+  set-found a (seat p) i v e =
       let x = done-changed t (p ∷ []) (setOf (at t p ∷ []) (word s 6) d) v e in
       set-changed t s d q p i a (word s 6) v (x .0) (sym (set-one (at t p) (word s 6) d) ∙ x .1 .0) (x .1 .1)
 
-  set-found-not : (f : Found) (bytes : List ℕ) → doneAt t (byte s 5) (placesOf f) (λ cs. setOf cs (word s 6) d) ≡ got bytes → ⊥
+  set-found-not : (f : Seat) (bytes : List ℕ) → doneAt t (byte s 5) (placesOf f) (λ cs. setOf cs (word s 6) d) ≡ got bytes → ⊥
   unfolding doneAt
-  set-found-not found.Nothing bytes e = no-got e
-  set-found-not (found.At p) bytes e =
+  set-found-not absent bytes e = no-got e
+  set-found-not (seat p) bytes e =
       set-no-gift (at t p) (word s 6) d bytes (sym (set-one (at t p) (word s 6) d) ∙ got-given t (p ∷ []) (setOf (at t p ∷ []) (word s 6) d) bytes e)
 
-  get-found : AsksGet s → (part : Part) → byte s 1 ≡ codeOf part → (f : Found) → whereIs t (namedBy s) ≡ f → (bytes : List ℕ)
+  get-found : AsksGet s → (part : Part) → byte s 1 ≡ codeOf part → (f : Seat) → whereIs t (namedBy s) ≡ f → (bytes : List ℕ)
       → doneAt t (byte s 5) (placesOf f) (λ cs. getOf part cs (word s 6) room) ≡ got bytes → GetTaken t s room bytes
   unfolding doneAt
-  get-found a part c found.Nothing i bytes e = no-got e
-  get-found a part c (found.At p) i bytes e =
+  get-found a part c absent i bytes e = no-got e
+  get-found a part c (seat p) i bytes e =
       get-gave t s d q p i a part c room bytes (sym (get-one (at t p) part (word s 6) room) ∙ got-given t (p ∷ []) (getOf part (at t p ∷ []) (word s 6) room) bytes e)
 
-  get-found-not : (part : Part) (f : Found) (v : Table) → doneAt t (byte s 5) (placesOf f) (λ cs. getOf part cs (word s 6) room) ≡ done v → ⊥
+  get-found-not : (part : Part) (f : Seat) (v : Table) → doneAt t (byte s 5) (placesOf f) (λ cs. getOf part cs (word s 6) room) ≡ done v → ⊥
   unfolding doneAt
-  get-found-not part found.Nothing v e = no-done e
-  get-found-not part (found.At p) v e =
+  get-found-not part absent v e = no-done e
+  get-found-not part (seat p) v e =
       let x = done-changed t (p ∷ []) (getOf part (at t p ∷ []) (word s 6) room) v e in
       get-no-change (at t p) part (word s 6) room (x .0) (sym (get-one (at t p) part (word s 6) room) ∙ x .1 .0)
 
@@ -297,10 +296,10 @@ load-by-no-gift YesNo c range w bytes e = no-gift e
 load-by-no-gift (Ranged r) c range w bytes e = ⊎-elim (λ h. change-no-gift (h .1)) (λ h. no-gift (h .1)) (picked (legalOf r range && fitsOf r w) _ _ (given bytes) e)
 load-by-no-gift Pin c range w bytes e = no-gift e
 
-load-at-not-got : (t : Table) (f : Found) (range : Range) (w : ℕ) (bytes : List ℕ) → loadAt t (placesOf f) range w ≡ got bytes → ⊥
+load-at-not-got : (t : Table) (f : Seat) (range : Range) (w : ℕ) (bytes : List ℕ) → loadAt t (placesOf f) range w ≡ got bytes → ⊥
 unfolding loadAt
-load-at-not-got t found.Nothing range w bytes e = no-got e
-load-at-not-got t (found.At p) range w bytes e = load-by-no-gift (senseOf (at t p .selector)) (at t p) range w bytes (got-given t (p ∷ []) (loadOn (at t p) range w) bytes e)
+load-at-not-got t absent range w bytes e = no-got e
+load-at-not-got t (seat p) range w bytes e = load-by-no-gift (senseOf (at t p .selector)) (at t p) range w bytes (got-given t (p ∷ []) (loadOn (at t p) range w) bytes e)
 
 pub load-not-got : (st : State) (k : Key) (range : Range) (w : ℕ) (bytes : List ℕ) → loadOf st (k .unit) (k .channel) (k .selector) range w ≡ got bytes → ⊥
 unfolding loadOf

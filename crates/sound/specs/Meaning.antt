@@ -32,12 +32,11 @@ use Rattle.table.specs.declared.Control.{Control}
 use Rattle.table.specs.declared.Table.{Table}
 use Rattle.table.specs.declared.Sense.{Sense}
 use Rattle.table.specs.declared.Sense.the-variants.{Unknown, YesNo, Ranged, Pin}
-use Rattle.table.specs.declared.Found.{Found}
-use Rattle.table.specs.declared.Found.the-variants.{Nothing, At}
+use Rattle.table.specs.First.{Seat, places, foundIn, found-first}
+use Rattle.table.specs.First.Seat.{absent, seat}
 use Rattle.table.specs.Controls.{mostControls, blankControl, at, senseOf, rangeOf, answersTo}
 use Rattle.ground.specs.Places.{firstIn, first-some, reads-everywhere}
 use Rattle.table.specs.Same.{Same, same-self, answers-same}
-use Rattle.table.specs.First.{places, foundIn, found-first}
 use Rattle.sound.specs.Sound.{narrowOf, soundYesNo, soundPin, soundRanged, soundBy, soundControl, isAt, firstThere, soundPlace, soundOf}
 
 pub record Narrow (c : Control) : Type 0 where
@@ -149,21 +148,21 @@ module _ (t : Table) (few : t .count ≤ mostControls) where
   -- a control stands at no earlier index than where the search finds it
   reads-first : (p : ℕ) → p < t .count → Reads (firstThere t p (at t p)) ((q : ℕ) → q < p → Same (at t q) (at t p) → ⊥)
   unfolding firstThere foundIn
-  reads-first p l = record { says = λ e. alone (firstIn twin At Nothing 0 (places t)) refl e; denies = λ e h. true≠false (sym (found h) ∙ e) }
+  reads-first p l = record { says = λ e. alone (firstIn twin seat absent 0 (places t)) refl e; denies = λ e h. true≠false (sym (found h) ∙ e) }
     where
       twin : ℕ → Bool
       twin q = answersTo (at t p .unit) (at t p .channel) (at t p .selector) (at t q)
 
-      alone : (x : Found) → firstIn twin At Nothing 0 (places t) ≡ x → isAt p x ≡ true → (q : ℕ) → q < p → Same (at t q) (at t p) → ⊥
-      alone Nothing e h q m = absurd (true≠false (sym h))
-      alone (At r) e h q m =
+      alone : (x : Seat) → firstIn twin seat absent 0 (places t) ≡ x → isAt p x ≡ true → (q : ℕ) → q < p → Same (at t q) (at t p) → ⊥
+      alone absent e h q m = absurd (true≠false (sym h))
+      alone (seat r) e h q m =
           let k = eqb-true r p h in
           answers-same (at t q) (at t p) .denies (found-first twin (places t) r e .none-before q (omega arith))
 
-      found : ((q : ℕ) → q < p → Same (at t q) (at t p) → ⊥) → isAt p (firstIn twin At Nothing 0 (places t)) ≡ true
+      found : ((q : ℕ) → q < p → Same (at t q) (at t p) → ⊥) → isAt p (firstIn twin seat absent 0 (places t)) ≡ true
       found h =
           ap (isAt p)
-          (first-some twin At Nothing (places t) p
+          (first-some twin seat absent (places t) p
           (record {
             inside = omega arith;
             passes = shows (answers-same (at t p) (at t p)) (same-self (at t p));

@@ -19,11 +19,10 @@ use Rattle.table.specs.declared.Control.{Control}
 use Rattle.table.specs.declared.Table.{Table}
 use Rattle.table.specs.declared.Sense.{Sense}
 use Rattle.table.specs.declared.Sense.the-variants.{Unknown, YesNo, Ranged, Pin}
-use Rattle.table.specs.declared.Found.{Found}
-use Rattle.table.specs.declared.Found.the-variants.{Nothing, At}
+use Rattle.table.specs.First.{Seat, foundIn}
+use Rattle.table.specs.First.Seat.{absent, seat}
 use Rattle.table.specs.Controls.{mostControls, at, senseOf, rangeOf}
 use Rattle.ground.specs.Places.{everywhere}
-use Rattle.table.specs.First.{foundIn}
 
 unfoldable pub narrowOf : Control → Bool
 narrowOf c = leb (c .min) 255 && (leb (c .max) 255 && (leb (c .res) 255 && leb (c .cur) 255))
@@ -48,9 +47,9 @@ soundBy Pin c = soundPin c
 unfoldable pub soundControl : Control → Bool
 soundControl c = soundBy (senseOf (c .selector)) c
 
-abbrev pub isAt : ℕ → Found → Bool
-isAt p Nothing = false
-isAt p (At q) = eqb q p
+abbrev pub isAt : ℕ → Seat → Bool
+isAt p absent = false
+isAt p (seat q) = eqb q p
 
 unfoldable pub firstThere : Table → ℕ → Control → Bool
 firstThere t p c = isAt p (foundIn t (c .unit) (c .channel) (c .selector))

@@ -8,16 +8,15 @@ use Prim.Native.Nat.{ℕ, _<_}
 use mathlib.Core.Path.{_≡_}
 use Rattle.table.specs.declared.Control.{Control}
 use Rattle.table.specs.declared.Table.{Table}
-use Rattle.table.specs.declared.Found.{Found}
+use Rattle.table.specs.First.{Seat, foundIn}
 use Rattle.table.specs.Controls.{at}
-use Rattle.table.specs.First.{foundIn}
 
 pub record Key : Type 0 where
   pub unit : ℕ
   pub channel : ℕ
   pub selector : ℕ
 
-abbrev pub whereIs : Table → Key → Found
+abbrev pub whereIs : Table → Key → Seat
 whereIs t k = foundIn t (k .unit) (k .channel) (k .selector)
 
 pub record Bears (k : Key) (c : Control) : Type 0 where

@@ -14,7 +14,7 @@ use Rattle.ground.specs.Pick.{decided, reads-eq}
 use Rattle.table.specs.declared.Control.{Control}
 use Rattle.table.specs.declared.Table.{Table}
 use Rattle.table.specs.Controls.{mostControls, blankControl, at, placed, answersTo}
-use Rattle.table.specs.declared.Found.the-variants.{Nothing, At}
+use Rattle.table.specs.First.Seat.{absent, seat}
 use Rattle.ground.specs.Places.{firstIn, first-same}
 use Rattle.table.specs.First.{places, foundIn}
 use Rattle.table.specs.Same.{Same, same-self, same-answers}
@@ -23,8 +23,8 @@ use Rattle.table.specs.Same.{Same, same-self, same-answers}
 pub kept-found : (t v : Table) → v .count ≡ t .count → ((q : ℕ) → Same (at v q) (at t q)) → (u ch s : ℕ) → foundIn v u ch s ≡ foundIn t u ch s
 unfolding foundIn
 kept-found t v e h u ch s =
-    ap (λ (n : ℕ). firstIn (λ q. answersTo u ch s (at v q)) At Nothing 0 (min n mostControls)) e
-    ∙ first-same (λ q. answersTo u ch s (at v q)) (λ q. answersTo u ch s (at t q)) At Nothing (places t) (λ j l. same-answers u ch s (at v j) (at t j) (h j))
+    ap (λ (n : ℕ). firstIn (λ q. answersTo u ch s (at v q)) seat absent 0 (min n mostControls)) e
+    ∙ first-same (λ q. answersTo u ch s (at v q)) (λ q. answersTo u ch s (at t q)) seat absent (places t) (λ j l. same-answers u ch s (at v j) (at t j) (h j))
 
 pub placed-elsewhere : (t : Table) (p : ℕ) (c : Control) (q : ℕ) → (q ≡ p → ⊥) → at (placed t p c) q ≡ at t q
 placed-elsewhere t p c q h = getD-set-other (t .controls) p q c blankControl h

@@ -2,7 +2,7 @@
 // crate promises to the layer above: each function answers, for every table whatever, as the definitions of specs/ say.
 ghost use mathlib.Core.Path.{_≡_};
 ghost use Rattle.table.specs.Controls.{blankControl, emptyTable, at, placed, senseOf, sizeOf, answersTo};
-ghost use Rattle.table.specs.First.{foundIn};
+ghost use Rattle.table.specs.First.{heldIn};
 use setting::Sort;
 
 // How many controls a table has room for.
@@ -36,10 +36,10 @@ pub enum Sense {
     Pin,
 }
 
-// Where something stands in a table.
-pub enum Found {
+// What a table holds of the control that is sought: nothing, or the control, with its index.
+pub enum Held {
     Nothing,
-    At(usize),
+    At(usize, Control),
 }
 
 // A spare place.
@@ -139,21 +139,21 @@ pub fn answers(control: Control, unit: u8, channel: u8, selector: u8) -> bool
     control.selector == selector
 }
 
-// Where the control of this unit, channel and selector first stands.
-pub fn find(table: Table, unit: u8, channel: u8, selector: u8) -> Found
-    ensures { λ r. ⌜ r ≡ foundIn table unit channel selector ⌝ }
+// Where the control of this unit, channel and selector first stands, with the control.
+pub fn find(table: Table, unit: u8, channel: u8, selector: u8) -> Held
+    ensures { λ r. ⌜ r ≡ heldIn table unit channel selector ⌝ }
 {
     let count = table.count;
     let mut index = 0;
     while index < CONTROLS {
         if count <= index {
-            return Found::Nothing;
+            return Held::Nothing;
         }
         let control = table.controls[index];
         if answers(control, unit, channel, selector) {
-            return Found::At(index);
+            return Held::At(index, control);
         }
         index += 1;
     }
-    Found::Nothing
+    Held::Nothing
 }

@@ -1,18 +1,20 @@
 -- 30, then the control is sought; where it stands the load is done at it.
 use borrow.Author.Needs.{needs}
 use Prim.Native.Nat.{ℕ}
-use mathlib.Core.Path.{_≡_, sym, ap, _∙_}
+use mathlib.Core.Path.{_≡_, refl, sym, ap, _∙_}
 use mathlib.Core.List.{List, [], _∷_}
 use mathlib.Core.Bool.{Bool, true, false, not}
+use native.Mathlib.Omega.{arith}
 use borrow.Author.Tests.{not-true, not-false}
 use Rattle.ground.specs.Pick.{yes, no}
 use Rattle.setting.specs.declared.Range.{Range}
 use Rattle.table.specs.declared.Control.{Control}
 use Rattle.table.specs.declared.Table.{Table}
-use Rattle.table.specs.declared.Found.{Found}
-use Rattle.table.specs.declared.Found.the-variants as found
+use Rattle.table.specs.declared.Held.{Held}
+use Rattle.table.specs.declared.Held.the-variants.{Nothing, At}
 use Rattle.table.specs.Controls.{at}
-use Rattle.table.specs.First.{foundIn}
+use Rattle.table.specs.First.{Seat, foundIn, heldAt, heldIn}
+use Rattle.table.specs.First.Seat.{absent, seat}
 use Rattle.sound.specs.Sound.{soundOf}
 use Rattle.deed.specs.declared.Deed.{Deed}
 use Rattle.deed.specs.Doing.{deedOf}
@@ -26,29 +28,39 @@ use Rattle.request.proofs.Stored.{done-answer, refuses}
 use Rattle.request.proofs.load.Statement.{statement}
 use Rattle.request.proofs.load.Tie as tie
 
+-- what was found, from what is held
+held-nothing : (t : Table) (x : Seat) → heldAt t x ≡ Nothing → x ≡ absent
+held-nothing t absent e = refl
+held-nothing t (seat p) e = absurd (let z : _≡_ {A = ℕ} 0 1 = cc in omega arith)
+
+held-at : (t : Table) (x : Seat) (p : ℕ) (c : Control) → heldAt t x ≡ At p c → (x ≡ seat p) × (c ≡ at t p)
+held-at t absent p c e = absurd (let z : _≡_ {A = ℕ} 0 1 = cc in omega arith)
+held-at t (seat q) p c e = let i : q ≡ p = cc in let j : at t q ≡ c = cc in (ap seat i, sym j ∙ ap (at t) i)
+
 -- one law for each way out
 module _ (st : State) (u ch s : ℕ) (range : Range) (w : ℕ) (r : Answer) (a : Bool) (e : a ≡ soundOf (st .table)) where
   no-table : not a ≡ true → r ≡ refusal st 30 → r ≡ answerOf st (loadOf st u ch s range w)
   unfolding loadOf
   no-table h = refuses st _ r 30 (no _ _ (sym e ∙ not-true a h))
 
-  module _ (sound : not a ≡ false) (f : Found) (g : f ≡ foundIn (st .table) u ch s) where
-    comes : (x : Found) → f ≡ x → loadOf st u ch s range w ≡ loadAt (st .table) (placesOf x) range w
+  module _ (sound : not a ≡ false) (f : Held) (g : f ≡ heldIn (st .table) u ch s) where
+    comes : (x : Seat) → foundIn (st .table) u ch s ≡ x → loadOf st u ch s range w ≡ loadAt (st .table) (placesOf x) range w
     unfolding loadOf
-    comes x h = yes _ _ (sym e ∙ not-false a sound) ∙ ap (λ (y : Found). loadAt (st .table) (placesOf y) range w) (sym g ∙ h)
+    comes x h = yes _ _ (sym e ∙ not-false a sound) ∙ ap (λ (y : Seat). loadAt (st .table) (placesOf y) range w) h
 
-    missed : f ≡ found.Nothing → r ≡ refusal st 20 → r ≡ answerOf st (loadOf st u ch s range w)
+    missed : f ≡ Nothing → r ≡ refusal st 20 → r ≡ answerOf st (loadOf st u ch s range w)
     unfolding loadAt
-    missed h = refuses st _ r 20 (comes found.Nothing h)
+    missed h = refuses st _ r 20 (comes absent (held-nothing (st .table) (foundIn (st .table) u ch s) (sym g ∙ h)))
 
-    there : (p : ℕ) → f ≡ found.At p → (c : Control) → c ≡ at (st .table) p → (d : Deed) → d ≡ deedOf c (loadOn c range w) → r ≡ deedAnswer st p d
+    there : (p : ℕ) (c : Control) → f ≡ At p c → (d : Deed) → d ≡ deedOf c (loadOn c range w) → r ≡ deedAnswer st p d
         → r ≡ answerOf st (loadOf st u ch s range w)
     unfolding loadAt
-    there p h c i d j q =
+    there p c h d j q =
+        let k = held-at (st .table) (foundIn (st .table) u ch s) p c (sym g ∙ h) in
         q
-        ∙ ap (deedAnswer st p) (j ∙ ap (λ (x : Control). deedOf x (loadOn x range w)) i)
+        ∙ ap (deedAnswer st p) (j ∙ ap (λ (x : Control). deedOf x (loadOn x range w)) (k .1))
         ∙ done-answer st p (loadOn (at (st .table) p) range w) (load-of-one (at (st .table) p) range w)
-        ∙ sym (ap (answerOf st) (comes (found.At p) h))
+        ∙ sym (ap (answerOf st) (comes (seat p) (k .0)))
 
 ruleset laws = (no-table, missed, there, needs)
 
@@ -73,9 +85,6 @@ refused-requires-2 c κs = search laws
 enum-known-index : tie.Need-enum-known-index
 enum-known-index c = search laws
 
-control-at-requires : tie.Need-control-at-requires
-control-at-requires c κs = search laws
-
 load-on-requires : tie.Need-load-on-requires
 load-on-requires c κs = search laws
 
@@ -99,7 +108,6 @@ load-spec =
     enum-told
     refused-requires-2
     enum-known-index
-    control-at-requires
     load-on-requires
     done-requires
     returns-2

@@ -11,12 +11,11 @@ use borrow.Author.Tests.{eq-eqb, ne-eqb}
 use Rattle.ground.specs.Pick.{pick, yes, no, decided, reads-eq}
 use Rattle.table.specs.declared.Control.{Control}
 use Rattle.table.specs.declared.Table.{Table}
-use Rattle.table.specs.declared.Found.{Found}
-use Rattle.table.specs.declared.Found.the-variants as found
+use Rattle.table.specs.First.{Seat, foundIn}
+use Rattle.table.specs.First.Seat.{absent, seat}
 use Rattle.address.specs.declared.Sought.{Sought}
 use Rattle.address.specs.declared.Sought.the-variants as sought
 use Rattle.table.specs.Controls.{at}
-use Rattle.table.specs.First.{foundIn}
 use Rattle.sound.specs.Sound.{soundOf}
 use Rattle.address.specs.Sought.{soughtIn}
 use Rattle.setup.specs.declared.Target.{Target}
@@ -34,7 +33,7 @@ use Rattle.request.specs.Outcome.{Outcome, bytesOf, answerOf, refusal, d
 use Rattle.request.specs.Outcome.Outcome.{refused}
 use Rattle.request.specs.Addressed.{placesOf, outcomeAt}
 use Rattle.request.specs.Request.{barredBy, missedBy, lostBy, doingOf, actOf, doneAt, answerAsked, requestOf}
-use Rattle.request.proofs.Found.{There, Missed, is-unsound, is-missed-unit, is-missed-control, is-there}
+use Rattle.request.proofs.Searched.{There, Missed, is-unsound, is-missed-unit, is-missed-control, is-there}
 use Rattle.request.proofs.Stored.{done-answer, refuses}
 use Rattle.request.proofs.request.Statement.{statement}
 use Rattle.request.proofs.request.Tie as tie
@@ -58,7 +57,7 @@ module _ (st : State) (k : Asked) (d : List ℕ) (room : ℕ) where
   abbrev unit : ℕ
   unit = targetIn k .unit
 
-  abbrev where-is : Found
+  abbrev where-is : Seat
   where-is = foundIn (st .table) unit (targetIn k .channel) (targetIn k .selector)
 
   -- where no control is addressed
@@ -69,20 +68,20 @@ module _ (st : State) (k : Asked) (d : List ℕ) (room : ℕ) where
       ⊎-elim
       (λ (z : barredBy k (st .control) ≡ 0).
       yes _ _ (eq-eqb _ _ z)
-      ∙ ap (λ (f : Found). doneAt (st .table) unit (placesOf f) (doingOf k d room)) (h .none)
+      ∙ ap (λ (f : Seat). doneAt (st .table) unit (placesOf f) (doingOf k d room)) (h .none)
       ∙ ap (λ (y : Bool). refused (pick y 34 33)) (h .unit)
       ∙ ap refused (sym (e ∙ yes _ _ (eq-eqb _ _ z))))
       (λ (z : barredBy k (st .control) ≡ 0 → ⊥). no _ _ (ne-eqb _ _ z) ∙ ap refused (sym (e ∙ no _ _ (ne-eqb _ _ z))))
       (decided (eqb (barredBy k (st .control)) 0) (reads-eq (barredBy k (st .control)) 0))
 
   -- where one is
-  one-asked : (p : ℕ) → where-is ≡ found.At p → answerAsked st k d room ≡ outcomeAt (st .table) (p ∷ []) (actOf k (st .control) d room (at (st .table) p ∷ []))
+  one-asked : (p : ℕ) → where-is ≡ seat p → answerAsked st k d room ≡ outcomeAt (st .table) (p ∷ []) (actOf k (st .control) d room (at (st .table) p ∷ []))
   unfolding answerAsked doneAt actOf
   one-asked p f =
       ⊎-elim
       (λ (z : barredBy k (st .control) ≡ 0).
       yes _ _ (eq-eqb _ _ z)
-      ∙ ap (λ (x : Found). doneAt (st .table) unit (placesOf x) (doingOf k d room)) f
+      ∙ ap (λ (x : Seat). doneAt (st .table) unit (placesOf x) (doingOf k d room)) f
       ∙ ap (outcomeAt (st .table) (p ∷ [])) (sym (yes (doingOf k d room (at (st .table) p ∷ [])) (denied (barredBy k (st .control))) (eq-eqb _ _ z))))
       (λ (z : barredBy k (st .control) ≡ 0 → ⊥).
       no _ _ (ne-eqb _ _ z)

@@ -1,14 +1,15 @@
 -- The search has come to an index, and what is left of it is the whole search.
 use borrow.Author.Needs.{needs}
 use Prim.Native.Nat.{ℕ, _+_, _-_, _≤_, _<_}
-use mathlib.Core.Path.{_≡_}
+use mathlib.Core.Path.{_≡_, ap}
 use mathlib.Core.Bool.{Bool, true, false}
 use native.Mathlib.Omega.{arith}
 use Rattle.table.specs.declared.Table.{Table}
-use Rattle.table.specs.declared.Found.the-variants.{Nothing, At}
+use Rattle.table.specs.declared.Held.the-variants.{Nothing, At}
+use Rattle.table.specs.First.Seat.{absent, seat}
 use Rattle.table.specs.Controls.{mostControls, at, answersTo}
 use Rattle.ground.specs.Places.{Come, come-none, come-here, come-more, come-over}
-use Rattle.table.specs.First.{places, foundIn}
+use Rattle.table.specs.First.{places, foundIn, heldAt, heldIn}
 use Rattle.table.proofs.find.Statement.{statement}
 use Rattle.table.proofs.find.Tie as tie
 
@@ -17,27 +18,27 @@ module _ (t : Table) (u ch s : ℕ) where
   wanted p = answersTo u ch s (at t p)
 
   abbrev Here : ℕ → Type 0
-  Here = Come wanted At Nothing (places t)
+  Here = Come wanted seat absent (places t)
 
   start : Here 0
-  start = come-none wanted At Nothing (places t)
+  start = come-none wanted seat absent (places t)
 
   module _ (p : ℕ) (g : Here p) where
-    none-left : t .count ≤ p → Nothing ≡ foundIn t u ch s
+    none-left : t .count ≤ p → Nothing ≡ heldIn t u ch s
     unfolding foundIn
-    none-left h = come-over wanted At Nothing (places t) p g (omega arith)
+    none-left h = ap (heldAt t) (come-over wanted seat absent (places t) p g (omega arith))
 
-    no-index : mostControls ≤ p → Nothing ≡ foundIn t u ch s
+    no-index : mostControls ≤ p → Nothing ≡ heldIn t u ch s
     unfolding foundIn
-    no-index h = come-over wanted At Nothing (places t) p g (omega arith)
+    no-index h = ap (heldAt t) (come-over wanted seat absent (places t) p g (omega arith))
 
     module _ (h : p < mostControls) (k : p < t .count) (b : Bool) (e : b ≡ wanted p) where
-      here : b ≡ true → At p ≡ foundIn t u ch s
+      here : b ≡ true → At p (at t p) ≡ heldIn t u ch s
       unfolding foundIn
-      here = come-here wanted At Nothing (places t) p g (omega arith) b e
+      here f = ap (heldAt t) (come-here wanted seat absent (places t) p g (omega arith) b e f)
 
       on : b ≡ false → Here (p + 1)
-      on = come-more wanted At Nothing (places t) p g (omega arith) b e
+      on = come-more wanted seat absent (places t) p g (omega arith) b e
 
 ruleset laws = (start, none-left, no-index, here, on, needs)
 

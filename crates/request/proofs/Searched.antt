@@ -8,41 +8,40 @@ use mathlib.Core.Bool.{Bool, true, false}
 use native.Mathlib.Omega.{arith}
 use Rattle.table.specs.declared.Control.{Control}
 use Rattle.table.specs.declared.Table.{Table}
-use Rattle.table.specs.declared.Found.{Found}
-use Rattle.table.specs.declared.Found.the-variants as found
+use Rattle.table.specs.First.{Seat, foundIn}
+use Rattle.table.specs.First.Seat.{absent, seat}
 use Rattle.address.specs.declared.Lookup.the-variants as lookup
 use Rattle.address.specs.declared.Sought.{Sought}
 use Rattle.address.specs.declared.Sought.the-variants as sought
 use Rattle.table.specs.Controls.{at}
-use Rattle.table.specs.First.{foundIn}
 use Rattle.address.specs.LookedUp.{unitIn, lookupBy, lookedUp}
 use Rattle.sound.specs.Sound.{soundOf}
 use Rattle.address.specs.Sought.{soughtIn, Standing, against, no-unit, no-control, stands, standing}
 
 pub record There (t : Table) (u ch s p : ℕ) (c : Control) : Type 0 where
   pub sound : soundOf t ≡ true
-  pub found : foundIn t u ch s ≡ found.At p
+  pub found : foundIn t u ch s ≡ seat p
   pub control : c ≡ at t p
 
 pub record Missed (t : Table) (u ch s : ℕ) (b : Bool) : Type 0 where
   pub sound : soundOf t ≡ true
-  pub none : foundIn t u ch s ≡ found.Nothing
+  pub none : foundIn t u ch s ≡ absent
   pub unit : unitIn t u ≡ b
 
-looked-at : (f : Found) (b : Bool) (p : ℕ) → lookupBy f b ≡ lookup.At p → f ≡ found.At p
-looked-at found.Nothing true p e = absurd (let z : _≡_ {A = ℕ} 0 1 = cc in omega arith)
-looked-at found.Nothing false p e = absurd (let z : _≡_ {A = ℕ} 0 1 = cc in omega arith)
-looked-at (found.At q) b p e = let i : q ≡ p = cc in ap found.At i
+looked-at : (f : Seat) (b : Bool) (p : ℕ) → lookupBy f b ≡ lookup.At p → f ≡ seat p
+looked-at absent true p e = absurd (let z : _≡_ {A = ℕ} 0 1 = cc in omega arith)
+looked-at absent false p e = absurd (let z : _≡_ {A = ℕ} 0 1 = cc in omega arith)
+looked-at (seat q) b p e = let i : q ≡ p = cc in ap seat i
 
-looked-no-control : (f : Found) (b : Bool) → lookupBy f b ≡ lookup.NoControl → (f ≡ found.Nothing) × (b ≡ true)
-looked-no-control found.Nothing true e = (refl, refl)
-looked-no-control found.Nothing false e = absurd (let z : _≡_ {A = ℕ} 0 1 = cc in omega arith)
-looked-no-control (found.At q) b e = absurd (let z : _≡_ {A = ℕ} 0 1 = cc in omega arith)
+looked-no-control : (f : Seat) (b : Bool) → lookupBy f b ≡ lookup.NoControl → (f ≡ absent) × (b ≡ true)
+looked-no-control absent true e = (refl, refl)
+looked-no-control absent false e = absurd (let z : _≡_ {A = ℕ} 0 1 = cc in omega arith)
+looked-no-control (seat q) b e = absurd (let z : _≡_ {A = ℕ} 0 1 = cc in omega arith)
 
-looked-no-unit : (f : Found) (b : Bool) → lookupBy f b ≡ lookup.NoUnit → (f ≡ found.Nothing) × (b ≡ false)
-looked-no-unit found.Nothing true e = absurd (let z : _≡_ {A = ℕ} 0 1 = cc in omega arith)
-looked-no-unit found.Nothing false e = (refl, refl)
-looked-no-unit (found.At q) b e = absurd (let z : _≡_ {A = ℕ} 0 1 = cc in omega arith)
+looked-no-unit : (f : Seat) (b : Bool) → lookupBy f b ≡ lookup.NoUnit → (f ≡ absent) × (b ≡ false)
+looked-no-unit absent true e = absurd (let z : _≡_ {A = ℕ} 0 1 = cc in omega arith)
+looked-no-unit absent false e = (refl, refl)
+looked-no-unit (seat q) b e = absurd (let z : _≡_ {A = ℕ} 0 1 = cc in omega arith)
 
 module _ (t : Table) (u ch s : ℕ) where
   unsound-by : {r : Sought} → Standing t u ch s r → r ≡ sought.Unsound → soundOf t ≡ false
@@ -73,7 +72,7 @@ module _ (t : Table) (u ch s : ℕ) where
   there-by p c (stands {p = q} h f) e =
       let i : q ≡ p = cc in
       let j : at t q ≡ c = cc in
-      record { sound = h; found = looked-at (foundIn t u ch s) (unitIn t u) q f ∙ ap found.At i; control = sym j ∙ ap (at t) i }
+      record { sound = h; found = looked-at (foundIn t u ch s) (unitIn t u) q f ∙ ap seat i; control = sym j ∙ ap (at t) i }
 
   module _ (o : Sought) (e : o ≡ soughtIn t u ch s) where
     seen : Standing t u ch s o
