@@ -10,7 +10,7 @@ ghost use Rattle.controls.specs.Growth.{added, tableOf};
 ghost use Rattle.controls.specs.Notes.{controlFrom, tableBy, tableFrom, Grows, Come, Room};
 use entities::Run;
 use ground::Place;
-use groups::stretch;
+use scan::stretch;
 use layout::Cluster;
 use layout::Entity;
 use scan::byte_at;

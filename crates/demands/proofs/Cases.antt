@@ -34,7 +34,6 @@ use Rattle.ranks.specs.Breach.{breach12}
 use Rattle.clusters.specs.Sweep.{givesBy, givenIn, keepsBy, breach13, clustersOf}
 use Rattle.edition.specs.Audio.{firstOf, channelsIn, giveOut, mixerLength, featureLength, alike, alikeIn, mixerKept, featureKept, keeps}
 use Rattle.channels.specs.Declared.{clusterKept, namesKept}
-use Rattle.channels.specs.Cases.{cluster}
 use Rattle.connections.specs.Judgement.{judged}
 use Rattle.streaming.specs.Terminals.{terminalOf, terminalsFrom, terminalsOf, bearerIn, terminalNumber, channelsOf}
 use Rattle.streaming.specs.Tests.{opensAs, isGeneral, isFormat, samplesRight, ratesRight, isTypeOne, formatRight, bearerRight, describedBy, holdsClass, broken, wrongStream, firstBroken, breach14}

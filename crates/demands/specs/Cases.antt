@@ -4,6 +4,7 @@
 -- 500 gives 0, −32768 stays. Bass −10..9 by 4: 9 gives 6."
 --   caseA            ==  the document's 109 bytes
 --   Configurations   ==  the six configurations, each with the number that the document gives, 0 for accepted
+--   cluster c b i    ==  the cluster of c channels, locations b and name index i
 --   Together         ==  the single statement
 --   PrintedA         ==  the whole answer for case A, and the sheet as the document prints it
 --   caseB, AnswerB   ==  case A with a second Output Terminal and volume on the master channel too, and what is answered to it
@@ -17,7 +18,7 @@ use lib.ListN.{take, set, replicate}
 use lib.IntN.{pos}
 use Rattle.ground.specs.Numbers.{byte}
 use Rattle.channels.specs.Declared.{clusterKept}
-use Rattle.channels.specs.Cases.{cluster}
+use Rattle.layout.specs.declared.Cluster.{Cluster}
 use Rattle.setting.specs.Cases.{minus, found, volume, bass}
 use Rattle.table.specs.declared.Control.{Control}
 use Rattle.table.specs.declared.Table.{Table}
@@ -48,6 +49,9 @@ pub record Configurations : Type 0 where
   pub sources-itself : readingOf (set caseA 43 2) 512 .number ≡ 12
   pub same-id : readingOf (set caseA 42 1) 512 .number ≡ 10
   pub sources-output : readingOf (set caseA 43 3) 512 .number ≡ 11
+
+abbrev pub cluster : ℕ → ℕ → ℕ → Cluster
+cluster c b i = record { channels = c; locations = b; names = i }
 
 pub record Together : Type 0 where
   pub configurations : Configurations

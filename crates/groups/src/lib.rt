@@ -17,6 +17,7 @@ use scan::Want;
 use scan::byte_at;
 use scan::end_of;
 use scan::find;
+use scan::stretch;
 use scan::word_at;
 
 // Where the parts of the AudioControl group stand: its interface descriptor, the header, the run of entities, and the run's end.
@@ -31,22 +32,6 @@ pub struct Frame {
 pub struct Framing {
     pub refusal: Refusal,
     pub frame: Frame,
-}
-
-// The bytes from one place up to another, as many of them as there are.
-pub fn stretch(s: &[u8], a: usize, e: usize) -> &[u8]
-    ensures { λ r. ⌜ now r ≡ part (now (s .entry)) a e ⌝ }
-{
-    if e <= a {
-        return &s[..0];
-    }
-    if s.len() <= a {
-        return &s[..0];
-    }
-    if s.len() < e {
-        return &s[a..];
-    }
-    &s[a..e]
 }
 
 // The place that was found, or another where there is none.

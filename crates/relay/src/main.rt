@@ -149,7 +149,7 @@ fn ask(state: State, room: usize, setup: &[u8], data: &[u8]) -> Next {
     say_answer(
         answer.number,
         is_get,
-        groups::stretch(&reply, 0, answer.written),
+        scan::stretch(&reply, 0, answer.written),
     );
     let after = answer.state;
     good(after)
@@ -228,7 +228,7 @@ fn put_controls(body: &[u8], n: usize) -> Table {
         if body.len() <= at {
             return filled;
         }
-        let next = table::put(filled, i, control_of(groups::stretch(body, at, at + PUT)));
+        let next = table::put(filled, i, control_of(scan::stretch(body, at, at + PUT)));
         filled = next;
         i += 1;
         at += PUT;

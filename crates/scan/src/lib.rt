@@ -50,6 +50,22 @@ pub fn descriptor_at(s: &[u8], at: usize) -> &[u8]
     &s[at..e]
 }
 
+// The bytes from one place up to another, as many of them as there are.
+pub fn stretch(s: &[u8], a: usize, e: usize) -> &[u8]
+    ensures { λ r. ⌜ now r ≡ part (now (s .entry)) a e ⌝ }
+{
+    if e <= a {
+        return &s[..0];
+    }
+    if s.len() <= a {
+        return &s[..0];
+    }
+    if s.len() < e {
+        return &s[a..];
+    }
+    &s[a..e]
+}
+
 // The place up to which descriptors stand, one after another, from a place on.
 pub fn reach_of(s: &[u8], from: usize) -> usize
     ensures { λ r. ⌜ r ≡ reach (now (s .entry)) from ⌝ }

@@ -7,8 +7,8 @@ use native.Mathlib.Omega.{arith}
 use lib.ListN.{length, take, drop, length-drop, drop-of-length-le}
 use lib.Seq.{take-all, take-nil}
 use Rattle.ground.specs.Lists.{part}
-use Rattle.groups.proofs.stretch.Statement.{statement}
-use Rattle.groups.proofs.stretch.Tie as tie
+use Rattle.scan.proofs.stretch.Statement.{statement}
+use Rattle.scan.proofs.stretch.Tie as tie
 
 module _ (s : List ℕ) (a e : ℕ) where
   nothing : e ≤ a → [] ≡ part s a e
