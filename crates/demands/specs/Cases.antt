@@ -42,8 +42,9 @@ use Rattle.edition.specs.Audio.{firstOf, channelsIn, giveOut, mixerLength, feat
 use Rattle.channels.specs.Declared.{clusterKept, namesKept}
 use Rattle.channels.specs.Cases.{cluster}
 use Rattle.connections.specs.Judgement.{judged}
-use Rattle.streaming.specs.Terminals.{terminalOf, terminalsFrom, terminalsOf, bearerIn, terminalNumber, channelsOf}
-use Rattle.streaming.specs.Tests.{opensAs, isGeneral, isFormat, samplesRight, ratesRight, isTypeOne, formatRight, bearerRight, describedBy, holdsClass, broken, wrongStream, firstBroken, breach14}
+use Rattle.terminals.specs.Terminals.{terminalOf, terminalsFrom, terminalsOf, bearerIn, terminalNumber, channelsOf}
+use Rattle.formats.specs.Tests.{opensAs, isGeneral, isFormat, samplesRight, ratesRight, isTypeOne, formatRight}
+use Rattle.streaming.specs.Tests.{bearerRight, describedBy, holdsClass, broken, wrongStream, firstBroken, breach14}
 use Rattle.controls.specs.Controls.{bitCarries, bitSet, bitControls, bitsFrom, maskControls, channelsFrom, featureControls, entityControls, controlsTo, controlsOfRun, breach15}
 use Rattle.controls.specs.Growth.{tableOf}
 use Rattle.records.specs.Records.{headOf, recordOf, recordsTo, roomFor, shownIn}

@@ -42,9 +42,9 @@ use Rattle.clusters.specs.Rules.{Rule13, Connected}
 use Rattle.clusters.specs.Topology.{clusters-shown}
 use Rattle.connections.specs.JudgementLaws.{connectedRows, connected-with, connected-kept, judged-answers}
 use Rattle.streaming.specs.Rule.{Breaks14}
-use Rattle.streaming.specs.Terminals.{terminalsOf}
+use Rattle.terminals.specs.Terminals.{terminalsOf}
 use Rattle.streaming.specs.Tests.{breach14}
-use Rattle.streaming.specs.Standing.{terminals-are, one-each}
+use Rattle.terminals.specs.Standing.{terminals-are, one-each}
 use Rattle.streaming.specs.Breaches.{rule14-kept, rule14-broken}
 use Rattle.controls.specs.Controls.{controlsOf, controlsOfRun, breach15}
 use Rattle.controls.specs.Growth.{tableOf}
