@@ -1,4 +1,7 @@
-// The words that every layer uses. Definitions and laws stand in specs/; here are the two types that code and definitions share.
+// The words that every layer uses. Definitions and laws stand in specs/; here are the two types that code and definitions share, and a byte as
+// an index.
+ghost use mathlib.Core.Path.{_≡_};
+ghost use Prim.Native.Nat.{_<_};
 
 // Where a rule is broken first: nowhere, or at an offset from the configuration's first byte.
 pub enum Place {
@@ -10,4 +13,11 @@ pub enum Place {
 pub struct Refusal {
     pub number: u8,
     pub place: usize,
+}
+
+// A byte as an index. An array of 256 has a place for each.
+pub fn index_of(x: u8) -> usize
+    ensures { λ r. ⌜ (r ≡ x) × (r < 256) ⌝ }
+{
+    x as usize
 }

@@ -21,6 +21,7 @@ ghost use Rattle.groups.specs.Rules.{mostBytes};
 ghost use Rattle.groups.specs.Marks.{allMarked, Listed, Met, Members};
 use ground::Place;
 use ground::Refusal;
+use ground::index_of;
 use scan::Want;
 use scan::byte_at;
 use scan::end_of;
@@ -111,13 +112,6 @@ fn check_cutting(config: &[u8]) -> Place
     Place::At(reached)
 }
 
-// A byte as an index.
-fn wide(x: u8) -> usize
-    ensures { λ r. ⌜ (r ≡ x) × (r < 256) ⌝ }
-{
-    x as usize
-}
-
 // The number and the alternate setting of an interface descriptor, as one number.
 fn pair_of(i: &[u8]) -> u16
     ensures { λ r. ⌜ Pair (now (i .entry)) r ⌝ }
@@ -167,7 +161,7 @@ fn repeats(
     ensures { λ r. ⌜ Repeats (now (config .entry)) at (now (i .entry)) (now (tops .entry)) (now (tops .exit)) r ⌝ }
 {
     let setting = byte_at(i, 3);
-    let index = wide(byte_at(i, 2));
+    let index = index_of(byte_at(i, 2));
     if (setting as u16) < tops[index] {
         return is_among(pairs, count, pair_of(i));
     }
@@ -351,7 +345,7 @@ fn mark_listed(listed: &[u8], marks: &mut [bool; 256]) -> bool
 {
     let mut i: usize = 0;
     while i < listed.len() {
-        let number = wide(listed[i]);
+        let number = index_of(listed[i]);
         if marks[number] {
             return false;
         }
@@ -378,7 +372,7 @@ fn is_unlisted(d: &[u8], listed: &[bool; 256], known: &mut [bool; 256]) -> bool
     if !opens_member(d) {
         return false;
     }
-    let number = wide(byte_at(d, 2));
+    let number = index_of(byte_at(d, 2));
     known[number] = true;
     !listed[number]
 }
@@ -407,7 +401,7 @@ fn are_known(listed: &[u8], known: &[bool; 256]) -> bool
 {
     let mut i: usize = 0;
     while i < listed.len() {
-        if !known[wide(listed[i])] {
+        if !known[index_of(listed[i])] {
             return false;
         }
         i += 1;

@@ -34,8 +34,8 @@ returns c = search laws
 byte-at-requires : tie.Need-byte-at-requires
 byte-at-requires c κs = search laws
 
-wide-requires : tie.Need-wide-requires
-wide-requires c κs = search laws
+index-of-requires : tie.Need-index-of-requires
+index-of-requires c κs = search laws
 
 element-write-known : tie.Need-element-write-known
 element-write-known c = search laws
@@ -53,7 +53,7 @@ is-unlisted-spec =
     opens-member-requires
     returns
     byte-at-requires
-    wide-requires
+    index-of-requires
     element-write-known
     element-copy-out-result
     returns-2)

@@ -42,8 +42,8 @@ byte-at-requires c κs = search laws
 byte-at-requires-2 : tie.Need-byte-at-requires-2
 byte-at-requires-2 c κs = search laws
 
-wide-requires : tie.Need-wide-requires
-wide-requires c κs = search laws
+index-of-requires : tie.Need-index-of-requires
+index-of-requires c κs = search laws
 
 cast-if1 : tie.Need-cast-if1
 cast-if1 c = search laws
@@ -84,7 +84,7 @@ repeats-spec =
     (tie.spec
     byte-at-requires
     byte-at-requires-2
-    wide-requires
+    index-of-requires
     cast-if1
     mul-if1
     element-copy-out-if1
