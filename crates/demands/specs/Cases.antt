@@ -34,10 +34,12 @@ use Rattle.graph.specs.Along.{put, given}
 use Rattle.graph.specs.Tables.{tabulateFrom}
 use Rattle.ground.specs.Places.{firstIn, somewhere}
 use Rattle.sources.specs.Lookup.{lookupBelow, sourceNumber}
-use Rattle.sources.specs.Breaches.{wrongId, breach10, wrongSource, breach11}
+use Rattle.ids.specs.Breach.{wrongId, breach10}
+use Rattle.sources.specs.Breach.{wrongSource, breach11}
 use Rattle.ranks.specs.Order.{ordered}
 use Rattle.ranks.specs.Breach.{breach12}
-use Rattle.clusters.specs.Sweep.{givesBy, givenIn, keepsBy, breach13, clustersOf}
+use Rattle.sweep.specs.Sweep.{givesBy, givenIn, clustersOf}
+use Rattle.clusters.specs.Breach.{keepsBy, breach13}
 use Rattle.edition.specs.Audio.{firstOf, channelsIn, giveOut, mixerLength, featureLength, alike, alikeIn, mixerKept, featureKept, keeps}
 use Rattle.channels.specs.Declared.{clusterKept, namesKept}
 use Rattle.channels.specs.Cases.{cluster}

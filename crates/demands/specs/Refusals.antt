@@ -35,8 +35,9 @@ use Rattle.cutting.specs.declared.Survey.{Survey}
 use Rattle.cutting.specs.Rules.{headerPlace, Kept, BrokenAt, cuttingRows}
 use Rattle.cutting.specs.Survey.{surveyOf}
 use Rattle.cutting.specs.Exact.{cutting-answers, cutting-numbered, all-nine, nine-kept}
-use Rattle.sources.specs.Rules.{Rule10, Rule11}
-use Rattle.sources.specs.OwnIds.{own-ids, distinct-ids}
+use Rattle.ids.specs.Rules.{Rule10}
+use Rattle.sources.specs.Rules.{Rule11}
+use Rattle.ids.specs.OwnIds.{own-ids, distinct-ids}
 use Rattle.ranks.specs.Rules.{Rule12}
 use Rattle.clusters.specs.Rules.{Rule13, Connected}
 use Rattle.clusters.specs.Topology.{clusters-shown}

@@ -22,8 +22,8 @@ module _ (kinds counts : List ℕ) (id at : ℕ) (w : (at ≡ id) × (at < 256))
 
 ruleset laws = (none, one, needs)
 
-wide-requires : tie.Need-wide-requires
-wide-requires c κs = search laws
+index-of-requires : tie.Need-index-of-requires
+index-of-requires c κs = search laws
 
 mul-count : tie.Need-mul-count
 mul-count c = search laws
@@ -50,7 +50,7 @@ pub bearer-at-spec : {M : Type 1} → statement M
 bearer-at-spec =
     tie.close
     (tie.spec
-    wide-requires
+    index-of-requires
     mul-count
     element-copy-out-count
     returns

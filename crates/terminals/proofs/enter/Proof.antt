@@ -17,8 +17,8 @@ module _ (kinds counts : List ℕ) (i k c at : ℕ) (e : at ≡ i) (l : at < 256
 
 ruleset laws = (borne, written, needs)
 
-wide-requires : tie.Need-wide-requires
-wide-requires c κs = search laws
+index-of-requires : tie.Need-index-of-requires
+index-of-requires c κs = search laws
 
 mul-if1 : tie.Need-mul-if1
 mul-if1 c = search laws
@@ -51,7 +51,7 @@ pub enter-spec : {M : Type 1} → statement M
 enter-spec =
     tie.close
     (tie.spec
-    wide-requires
+    index-of-requires
     mul-if1
     element-copy-out-if1
     returns

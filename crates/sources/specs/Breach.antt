@@ -1,6 +1,4 @@
--- What the reader computes of the rules 10 and 11, from its array; the laws that tie it to the rules are in RuleLaws.
---   wrongId run i       ==  the ID of the i-th entity is zero or borne by an earlier one
---   breach10 run        ==  the place of the first such entity
+-- What the reader computes of rule 11, from its array; the laws that tie it to the rule are in RuleLaws.
 --   refuses f           ==  what a lookup found has the number 11: nothing, or an entity with no output
 --   wrongSource run x   ==  a source ID x is 0, unknown, or one of an entity with no output
 --   wrongBy marks x     ==  the same by the marks of a run
@@ -13,17 +11,11 @@ use lib.ListN.{getD}
 use Rattle.ground.specs.declared.Place.{Place}
 use Rattle.ground.specs.Lists.{any}
 use Rattle.ground.specs.declared.Place.the-variants.{Nowhere, At}
-use Rattle.ground.specs.Places.{somewhere, firstIn}
+use Rattle.ground.specs.Places.{firstIn}
 use Rattle.entities.specs.declared.Run.{Run}
-use Rattle.entities.specs.Run.{held, idAt, placeAt, sourcesAt}
+use Rattle.entities.specs.Run.{held, placeAt, sourcesAt}
 use Rattle.sources.specs.declared.Found.{Found}
 use Rattle.sources.specs.Lookup.{lookup, sourceNumber, foundBy}
-
-unfoldable pub wrongId : Run → ℕ → Bool
-wrongId run i = eqb (idAt run i) 0 || somewhere (λ j. eqb (idAt run j) (idAt run i)) i
-
-unfoldable pub breach10 : Run → Place
-breach10 run = firstIn (wrongId run) (λ i. At (placeAt run i)) Nowhere 0 (held run)
 
 abbrev pub refuses : Found → Bool
 refuses f = eqb (sourceNumber f) 11

@@ -10,10 +10,10 @@ use Rattle.graph.specs.Tables.{Filled, filled-none, filled-more, filled-full}
 use Rattle.entities.specs.declared.Node.{Node}
 use Rattle.entities.specs.declared.Run.{Run}
 use Rattle.entities.specs.Run.{blankNode, idAt}
-use Rattle.clusters.specs.declared.Given.{Given}
-use Rattle.clusters.specs.Sweep.{clusterOn, clustersOf}
-use Rattle.clusters.proofs.by_index.Statement.{statement}
-use Rattle.clusters.proofs.by_index.Tie as tie
+use Rattle.sweep.specs.declared.Given.{Given}
+use Rattle.sweep.specs.Sweep.{clusterOn, clustersOf}
+use Rattle.sweep.proofs.by_index.Statement.{statement}
+use Rattle.sweep.proofs.by_index.Tie as tie
 
 abbrev zeros : Node
 zeros = record { place = 0; first = 0; pins = 0; id = 0; feeds = false }
@@ -48,14 +48,14 @@ abbrev μ-loop : tie.MeasureT-loop
 loop-holds : tie.Need-loop-holds Inv-loop μ-loop
 loop-holds c = search laws
 
-mul-wide : tie.Need-mul-wide Inv-loop μ-loop
-mul-wide c = search laws
+mul-index-of : tie.Need-mul-index-of Inv-loop μ-loop
+mul-index-of c = search laws
 
-element-copy-out-wide : tie.Need-element-copy-out-wide Inv-loop μ-loop
-element-copy-out-wide c = search laws
+element-copy-out-index-of : tie.Need-element-copy-out-index-of Inv-loop μ-loop
+element-copy-out-index-of c = search laws
 
-wide-requires : tie.Need-wide-requires Inv-loop μ-loop
-wide-requires c κs = search laws
+index-of-requires : tie.Need-index-of-requires Inv-loop μ-loop
+index-of-requires c κs = search laws
 
 element-copy-out-t13 : tie.Need-element-copy-out-t13 Inv-loop μ-loop
 element-copy-out-t13 c = search laws
@@ -94,9 +94,9 @@ by-index-spec =
     Inv-loop
     μ-loop
     loop-holds
-    mul-wide
-    element-copy-out-wide
-    wide-requires
+    mul-index-of
+    element-copy-out-index-of
+    index-of-requires
     element-copy-out-t13
     mul-t10
     element-copy-out-t18

@@ -1,9 +1,9 @@
 -- Along the run: each entity finds what its sources gave out before it, and the arrays hold what was given out.
 use borrow.Author.Needs.{needs}
 use Prim.Native.Nat.{_-_}
-use Rattle.clusters.specs.SweepLaws.{Sweeping, sweeping-start, sweeping-long, sweeping-more, sweeping-over}
-use Rattle.clusters.proofs.sweep.Statement.{statement}
-use Rattle.clusters.proofs.sweep.Tie as tie
+use Rattle.sweep.specs.SweepLaws.{Sweeping, sweeping-start, sweeping-long, sweeping-more, sweeping-over}
+use Rattle.sweep.proofs.sweep.Statement.{statement}
+use Rattle.sweep.proofs.sweep.Tie as tie
 
 ruleset laws = (sweeping-start, sweeping-long, sweeping-more, sweeping-over, needs)
 
@@ -28,8 +28,8 @@ element-copy-out-node c = search laws
 give-out-requires : tie.Need-give-out-requires Inv-loop μ-loop
 give-out-requires c κs = search laws
 
-wide-requires : tie.Need-wide-requires Inv-loop μ-loop
-wide-requires c κs = search laws
+index-of-requires : tie.Need-index-of-requires Inv-loop μ-loop
+index-of-requires c κs = search laws
 
 array-write-channels : tie.Need-array-write-channels Inv-loop μ-loop
 array-write-channels c = search laws
@@ -66,7 +66,7 @@ sweep-spec =
     mul-node
     element-copy-out-node
     give-out-requires
-    wide-requires
+    index-of-requires
     array-write-channels
     mul-locations
     array-write-locations

@@ -8,13 +8,13 @@ use Rattle.layout.specs.declared.Entity.{Entity}
 use Rattle.layout.specs.declared.Entity.the-variants.{Unknown, Input, Output, Mixer, Selector, Printed, Feature}
 use Rattle.layout.specs.Layout.{entityOf}
 use Rattle.entities.specs.declared.Node.{Node}
-use Rattle.entities.specs.Run.{sourcesOf}
+use Rattle.entities.specs.Run.{sourcesOf, descriptorOf}
 use Rattle.edition.specs.Audio.{firstOf, giveOut}
-use Rattle.clusters.specs.Sweep.{bytesOf, firstBy, givesBy}
-use Rattle.clusters.proofs.give_out.Statement.{statement}
-use Rattle.clusters.proofs.give_out.Tie as tie
+use Rattle.sweep.specs.Sweep.{firstBy, givesBy}
+use Rattle.sweep.proofs.give_out.Statement.{statement}
+use Rattle.sweep.proofs.give_out.Tie as tie
 
-module _ (s : List ℕ) (n : Node) (cl : ℕ → Cluster) (d : List ℕ) (p : d ≡ bytesOf s n) (e : Entity) (q : e ≡ entityOf d) where
+module _ (s : List ℕ) (n : Node) (cl : ℕ → Cluster) (d : List ℕ) (p : d ≡ descriptorOf s n) (e : Entity) (q : e ≡ entityOf d) where
   of : {x : Entity} → e ≡ x → giveOut x (map cl (sourcesOf s n)) ≡ givesBy s n cl
   unfolding givesBy
   of h = ap (λ (y : Entity). giveOut y (map cl (sourcesOf s n))) (sym h ∙ q ∙ ap entityOf p)

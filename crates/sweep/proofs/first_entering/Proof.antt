@@ -7,9 +7,9 @@ use native.Mathlib.Omega.{arith}
 use lib.ListN.{length, getD}
 use Rattle.layout.specs.Layout.{noCluster}
 use Rattle.edition.specs.Audio.{firstOf}
-use Rattle.clusters.specs.Sweep.{clusterBy, firstBy}
-use Rattle.clusters.proofs.first_entering.Statement.{statement}
-use Rattle.clusters.proofs.first_entering.Tie as tie
+use Rattle.sweep.specs.Sweep.{clusterBy, firstBy}
+use Rattle.sweep.proofs.first_entering.Statement.{statement}
+use Rattle.sweep.proofs.first_entering.Tie as tie
 
 module _ (channels locations names : List ℕ) where
   no-pin : (ids : List ℕ) → length ids ≡ 0 → noCluster ≡ firstBy (clusterBy channels locations names) ids
@@ -28,11 +28,11 @@ ruleset laws = (no-pin, pin-1, needs)
 returns : tie.Need-returns
 returns c = search laws
 
-shared-slice-read-wide : tie.Need-shared-slice-read-wide
-shared-slice-read-wide c = search laws
+shared-slice-read-index-of : tie.Need-shared-slice-read-index-of
+shared-slice-read-index-of c = search laws
 
-wide-requires : tie.Need-wide-requires
-wide-requires c κs = search laws
+index-of-requires : tie.Need-index-of-requires
+index-of-requires c κs = search laws
 
 element-copy-out-t9 : tie.Need-element-copy-out-t9
 element-copy-out-t9 c = search laws
@@ -54,8 +54,8 @@ first-entering-spec =
     tie.close
     (tie.spec
     returns
-    shared-slice-read-wide
-    wide-requires
+    shared-slice-read-index-of
+    index-of-requires
     element-copy-out-t9
     mul-t6
     element-copy-out-t14

@@ -13,22 +13,18 @@ use lib.Seq.{getD-set-same, getD-set-other}
 use borrow.Author.Tests.{eq-eqb, ne-eqb}
 use Rattle.ground.specs.declared.Place.the-variants.{Nowhere, At}
 use Rattle.ground.specs.Pick.{no, shows, reads-true, reads-eq, decided}
-use Rattle.ground.specs.Places.{firstIn, somewhere, reads-somewhere, Come, come-none, come-here, come-more, come-over}
+use Rattle.ground.specs.Places.{firstIn, first-more, somewhere, reads-somewhere, Come, come-none, come-here, come-more, come-over}
 use Rattle.entities.specs.declared.Run.{Run}
 use Rattle.entities.specs.Run.{blankNode, held, idAt, placeAt}
-use Rattle.sources.specs.Breaches.{wrongId, breach10}
-use Rattle.sources.specs.LookupLaws.{first-more}
-use Rattle.sources.proofs.check_ids.Statement.{statement}
-use Rattle.sources.proofs.check_ids.Tie as tie
+use Rattle.ids.specs.Breach.{bears, wrongId, breach10}
+use Rattle.ids.proofs.check_ids.Statement.{statement}
+use Rattle.ids.proofs.check_ids.Tie as tie
 
 module _ (run : Run) where
-  abbrev bears : ℕ → ℕ → Bool
-  bears x j = eqb (idAt run j) x
-
   record Passed (borne : List Bool) (i : ℕ) : Type 0 where
     come : Come (wrongId run) (λ j. At (placeAt run j)) Nowhere (held run) i
     long : length borne ≡ 256
-    marked : (x : ℕ) → x < 256 → getD borne x false ≡ somewhere (bears x) i
+    marked : (x : ℕ) → x < 256 → getD borne x false ≡ somewhere (bears run x) i
 
   start : Passed (replicate 256 false) 0
   unfolding somewhere firstIn
@@ -59,7 +55,7 @@ module _ (run : Run) where
         by-mark : getD borne x false ≡ wrongId run i
         unfolding wrongId
         by-mark =
-            g .marked x (w .1) ∙ ap (λ (y : ℕ). somewhere (bears y) i) own
+            g .marked x (w .1) ∙ ap (λ (y : ℕ). somewhere (bears run y) i) own
             ∙ sym (rw (ne-eqb (idAt run i) 0 (λ e. z (own ∙ e))) refl)
 
         twice : getD borne x false ≡ true → At (placeAt run i) ≡ breach10 run
@@ -73,17 +69,17 @@ module _ (run : Run) where
           marked = λ k l. ⊎-elim (λ e. same k e) (λ f. other k l f) (decided (eqb k x) (reads-eq k x));
         }
           where
-            same : (k : ℕ) → k ≡ x → getD (set borne x true) k false ≡ somewhere (bears k) (i + 1)
+            same : (k : ℕ) → k ≡ x → getD (set borne x true) k false ≡ somewhere (bears run k) (i + 1)
             same k e =
                 let a = g .long in
                 let b = w .1 in
                 rw e (getD-set-same borne x true false (omega arith))
-                ∙ sym (shows (reads-somewhere (bears k) (λ j. bears k j ≡ true) (i + 1) (λ j l. reads-true (bears k j))) (i, omega arith, eq-eqb (idAt run i) k (sym (e ∙ own))))
+                ∙ sym (shows (reads-somewhere (bears run k) (λ j. bears run k j ≡ true) (i + 1) (λ j l. reads-true (bears run k j))) (i, omega arith, eq-eqb (idAt run i) k (sym (e ∙ own))))
 
-            other : (k : ℕ) → k < 256 → (k ≡ x → ⊥) → getD (set borne x true) k false ≡ somewhere (bears k) (i + 1)
+            other : (k : ℕ) → k < 256 → (k ≡ x → ⊥) → getD (set borne x true) k false ≡ somewhere (bears run k) (i + 1)
             other k l f =
                 getD-set-other borne x k true false f ∙ g .marked k l
-                ∙ sym (first-more (bears k) (λ j. true) false i ∙ ap (λ (r : Bool). firstIn (bears k) (λ j. true) r 0 i) (no _ _ (ne-eqb (idAt run i) k (λ e. f (sym (own ∙ e))))))
+                ∙ sym (first-more (bears run k) (λ j. true) false i ∙ ap (λ (r : Bool). firstIn (bears run k) (λ j. true) r 0 i) (no _ _ (ne-eqb (idAt run i) k (λ e. f (sym (own ∙ e))))))
 
 ruleset laws = (start, over, zero-id, twice, on, needs)
 
@@ -105,8 +101,8 @@ mul-node c = search laws
 element-copy-out-node : tie.Need-element-copy-out-node Inv-loop μ-loop
 element-copy-out-node c = search laws
 
-wide-requires : tie.Need-wide-requires Inv-loop μ-loop
-wide-requires c κs = search laws
+index-of-requires : tie.Need-index-of-requires Inv-loop μ-loop
+index-of-requires c κs = search laws
 
 returns : tie.Need-returns Inv-loop μ-loop
 unfolding blankNode
@@ -145,7 +141,7 @@ check-ids-spec =
     loop-holds
     mul-node
     element-copy-out-node
-    wide-requires
+    index-of-requires
     returns
     array-read-if2
     returns-2

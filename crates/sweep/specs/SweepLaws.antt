@@ -1,81 +1,33 @@
--- Laws of the sweep: what its loop holds in three arrays by ID, and that a rule looks at no more of a cluster than its channels.
+-- Laws of the sweep: what its loop holds in three arrays by ID.
 --   Sweeping s run channels locations names i  ==  the loop along the run has come to the i-th entity: the arrays hold what was given out
 --   sweeping-start, sweeping-long, sweeping-more, sweeping-over  ==  its start, its arrays' lengths, its step and its end
 --   givenAfter s run i x  ==  what the ID x gives out after the first i entities of the run
---   breach13-same, clusters-same  ==  clusters that agree on every ID are checked and shown alike
---   keeps-channels   ==  whether an entity keeps its rule hangs on the channels alone
+--   clusters-same    ==  clusters that agree on every ID are shown alike
 use Prim.Native.Nat.{ℕ, zero, suc, _+_, _≤_, _<_}
 use mathlib.Core.Path.{_≡_, refl, sym, ap, _∙_}
-use mathlib.Core.Bool.{false, not}
-use mathlib.Core.List.{List, [], _∷_, map}
+use mathlib.Core.Bool.{false}
+use mathlib.Core.List.{List}
 use mathlib.Core.Logic.{⊎-elim}
 use native.Mathlib.Omega.{arith}
 use native.Mathlib.Numerals.{add-one}
 use lib.Dec.{eqb}
 use lib.ListN.{length, getD, set, take, replicate, length-set, length-replicate}
 use lib.Seq.{take-all, getD-set-same, getD-set-other}
-use Rattle.ground.specs.declared.Place.the-variants.{Nowhere, At}
 use Rattle.ground.specs.Pick.{decided, reads-eq}
-use Rattle.ground.specs.Places.{first-same}
 use Rattle.layout.specs.declared.Cluster.{Cluster}
-use Rattle.layout.specs.declared.Entity.{Entity}
-use Rattle.layout.specs.declared.Entity.the-variants.{Unknown, Input, Output, Mixer, Selector, Printed, Feature}
 use Rattle.layout.specs.Layout.{entityOf, noCluster}
-use Rattle.graph.specs.Members.{all, map-same}
+use Rattle.graph.specs.Members.{map-same}
 use Rattle.graph.specs.Tables.{tabulate, tabulate-same, tabulate-getD, getD-tabulate, below, length-below}
 use Rattle.graph.specs.Along.{put, put-at, put-other, given, given-take}
 use Rattle.entities.specs.declared.Node.{Node}
 use Rattle.entities.specs.declared.Run.{Run}
-use Rattle.entities.specs.Run.{mostEntities, blankNode, held, nodeAt, idAt, placeAt, sourcesOf, sourcesAt, descriptorAt}
-use Rattle.edition.specs.Audio.{firstOf, channelsIn, giveOut, alike, alikeIn, mixerKept, featureKept, keeps}
-use Rattle.clusters.specs.declared.Given.{Given}
-use Rattle.clusters.specs.Sweep.{clusterBy, channelsOn, bytesOf, givesBy, givesAt, givenIn, swept, Sweeps, keepsBy, breach13, clustersOf}
+use Rattle.entities.specs.Run.{mostEntities, blankNode, held, nodeAt, idAt, sourcesAt, descriptorOf}
+use Rattle.edition.specs.Audio.{giveOut}
+use Rattle.sweep.specs.declared.Given.{Given}
+use Rattle.sweep.specs.Sweep.{clusterBy, givesBy, givesAt, givenIn, swept, Sweeps, clustersOf}
 
--- what the rules look at
-module _ (f g : ℕ → Cluster) (same : (x : ℕ) → f x .channels ≡ g x .channels) where
-  first-channels : (ids : List ℕ) → firstOf (map f ids) .channels ≡ firstOf (map g ids) .channels
-  unfolding firstOf
-  first-channels [] = refl
-  first-channels (x ∷ ids) = same x
-
-  in-channels : (ids : List ℕ) → channelsIn (map f ids) ≡ channelsIn (map g ids)
-  unfolding channelsIn
-  in-channels [] = refl
-  in-channels (x ∷ ids) = rw (same x, in-channels ids)
-
-  alike-channels : (c : ℕ) (ids : List ℕ) → alike c (map f ids) ≡ alike c (map g ids)
-  unfolding alike all
-  alike-channels c [] = refl
-  alike-channels c (x ∷ ids) = rw (same x, alike-channels c ids)
-
-  keeps-same : (e : Entity) (l : ℕ) (ids : List ℕ) → keeps e l (map f ids) ≡ keeps e l (map g ids)
-  unfolding keeps mixerKept alikeIn featureKept
-  keeps-same Unknown l ids = refl
-  keeps-same (Input i t c) l ids = refl
-  keeps-same (Output i t s) l ids = refl
-  keeps-same (Mixer i p c) l ids = rw (in-channels ids)
-  keeps-same (Selector i p) l ids = rw (first-channels ids) (alike-channels _ ids)
-  keeps-same (Printed i p) l ids = rw (first-channels ids) (alike-channels _ ids)
-  keeps-same (Feature i s n) l ids = rw (first-channels ids)
-
-pub keeps-channels : (s : List ℕ) (n : Node) (channels locations names : List ℕ)
-    → keepsBy s n (channelsOn channels) ≡ keepsBy s n (clusterBy channels locations names)
-unfolding keepsBy
-keeps-channels s n channels locations names =
-    keeps-same (channelsOn channels) (clusterBy channels locations names) (λ x. refl)
-    (entityOf (bytesOf s n)) (length (bytesOf s n)) (sourcesOf s n)
-
--- clusters that agree on every ID are checked and shown alike
+-- clusters that agree on every ID are shown alike
 module _ (run : Run) (f g : ℕ → Cluster) (same : (x : ℕ) → f x ≡ g x) where
-  pub breach13-same : (s : List ℕ) → breach13 s run f ≡ breach13 s run g
-  unfolding breach13 keepsBy
-  breach13-same s =
-      first-same _ _ (λ i. At (placeAt run i)) Nowhere (held run)
-      (λ i l. ap not (keeps-same f g alike-on (entityOf (descriptorAt s run i)) (length (descriptorAt s run i)) (sourcesAt s run i)))
-    where
-      alike-on : (x : ℕ) → f x .channels ≡ g x .channels
-      alike-on x = ap (λ (c : Cluster). c .channels) (same x)
-
   pub clusters-same : clustersOf run f ≡ clustersOf run g
   unfolding clustersOf
   clusters-same = tabulate-same mostEntities (λ i. f (idAt run i)) (λ i. g (idAt run i)) (λ i l. same (idAt run i))
@@ -188,7 +140,7 @@ module _ (s : List ℕ) (run : Run) where
           let b = g .long-locations in
           let d = g .long-names in
           let entering = map-same (clusterBy channels locations names) (givenAfter i) (sourcesAt s run i) (λ y k. g .same y) in
-          let f : c ≡ givesBy s (nodeAt run i) (givenAfter i) = e ∙ ap (giveOut (entityOf (bytesOf s (nodeAt run i)))) entering in
+          let f : c ≡ givesBy s (nodeAt run i) (givenAfter i) = e ∙ ap (giveOut (entityOf (descriptorOf s (nodeAt run i)))) entering in
           record {
             low = omega arith;
             long-channels = length-set channels x (c .channels) ∙ a;
