@@ -8,7 +8,8 @@ use mathlib.Core.List.{List}
 use mathlib.Core.Logic.{_↔_}
 use Rattle.graph.specs.Members.{_∈_}
 use Rattle.edition.specs.Edition.{Edition}
-use Rattle.sources.specs.Rules.{Rule10, WrongSource, zero-source, unknown, no-output, Rule11}
+use Rattle.ids.specs.Rules.{Rule10}
+use Rattle.sources.specs.Rules.{WrongSource, zero-source, unknown, no-output, Rule11}
 use Rattle.clusters.specs.Rules.{Connected}
 
 abbrev pub SameMembers : List (List ℕ) → List (List ℕ) → Type 0

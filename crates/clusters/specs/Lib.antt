@@ -1,5 +1,5 @@
 pub mod Rules
-pub mod Sweep
-pub mod SweepLaws
+pub mod Breach
+pub mod BreachLaws
 pub mod Topology
 pub mod Collection

@@ -12,7 +12,8 @@ use mathlib.Core.Path.{_≡_}
 use mathlib.Core.List.{List, map}
 use Rattle.graph.specs.Members.{_∈_}
 use Rattle.edition.specs.Edition.{Edition, ownId, sources}
-use Rattle.sources.specs.Rules.{Rule10, Rule11}
+use Rattle.ids.specs.Rules.{Rule10}
+use Rattle.sources.specs.Rules.{Rule11}
 use Rattle.ranks.specs.Rules.{Ranking}
 
 module _ (ed : Edition) where

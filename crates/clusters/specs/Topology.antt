@@ -44,17 +44,20 @@ use Rattle.edition.specs.Edition.{Edition, ownId, sources}
 use Rattle.edition.specs.Audio.{audio, giveOut}
 use Rattle.entities.specs.declared.Node.{Node}
 use Rattle.entities.specs.declared.Run.{Run}
-use Rattle.entities.specs.Run.{mostEntities, held, nodeAt, idAt, placeAt, sourcesOf, sourcesAt}
+use Rattle.entities.specs.Run.{mostEntities, held, nodeAt, idAt, placeAt, sourcesOf, sourcesAt, descriptorOf}
 use Rattle.entities.specs.Represents.{Represents}
 use Rattle.entities.specs.RepresentsLaws.{sound-each-of, breaks-each-of}
-use Rattle.sources.specs.Rules.{Rule10, Rule11, unknown}
-use Rattle.sources.specs.GraphLaws.{distinct-run, known-run}
+use Rattle.ids.specs.Rules.{Rule10}
+use Rattle.sources.specs.Rules.{Rule11, unknown}
+use Rattle.ids.specs.RuleLaws.{distinct-run}
+use Rattle.sources.specs.GraphLaws.{known-run}
 use Rattle.ranks.specs.Rules.{Ranking, Rule12}
 use Rattle.ranks.specs.Order.{orderIn, ordered}
 use Rattle.ranks.specs.OrderLaws.{ordered-held, ordered-node}
 use Rattle.ranks.specs.RuleLaws.{ranking-run, rule12-ranks}
 use Rattle.clusters.specs.Rules.{entering, GivenOut, Fits, Rule13, Broken, Connected}
-use Rattle.clusters.specs.Sweep.{bytesOf, givesAt, givenIn, givenFor, keepsBy, breach13, clustersOf}
+use Rattle.sweep.specs.Sweep.{givesAt, givenIn, clustersOf}
+use Rattle.clusters.specs.Breach.{givenFor, keepsBy, breach13}
 
 -- any edition, of the descriptors alone
 module _ {ed : Edition} {ds : List (List ℕ)} where
@@ -184,7 +187,7 @@ module _ {s : List ℕ} {p : ℕ} {ds : List (List ℕ)} {run : Run} (k : Repres
         id = ap (λ (x : Node). x .id) e;
         sources = ap (sourcesOf s) e;
         gives = λ cs.
-            ap (λ (x : Node). giveOut (entityOf (bytesOf s x)) cs) e
+            ap (λ (x : Node). giveOut (entityOf (descriptorOf s x)) cs) e
             ∙ ap (λ (b : List ℕ). giveOut (entityOf b) cs) (k .bytes (at j) n);
       }
 

@@ -1,110 +1,26 @@
-// Clusters, rule 13 (document 01, "Clusters"): what each entity gives out, in one sweep along an order of the run, and whether each keeps
-// its kind's rule. What this crate promises to the layer above: each public function answers, for every configuration and every
-// run whatever, as the definitions of specs/ say.
+// Clusters, rule 13 (document 01, "Clusters"): whether each entity keeps its kind's rule, where clusters are given out. What this crate promises
+// to the layer above: its public function answers, for every configuration, every run and every clusters whatever, as the definitions of
+// specs/ say.
 ghost use mathlib.Core.Path.{_≡_};
-ghost use Prim.Native.Nat.{_≤_, _<_};
+ghost use Prim.Native.Nat.{_≤_};
 ghost use mathlib.Core.List.{map};
 ghost use lib.ListN.{length, getD};
-ghost use Rattle.edition.specs.Audio.{alike, alikeIn, mixerLength, mixerKept, featureLength, featureKept, keeps};
-ghost use Rattle.clusters.specs.Sweep.{clusterBy, clusterOn, channelsOn, firstBy, givesBy, keepsBy, Entering, Sweeps, breach13, clustersOf};
-use entities::MOST_ENTITIES;
+ghost use Rattle.edition.specs.Audio.{alike, alikeIn, mixerLength, mixerKept, featureLength, featureKept};
+ghost use Rattle.sweep.specs.Sweep.{clusterOn, firstBy};
+ghost use Rattle.clusters.specs.Breach.{channelsOn, keepsBy, Entering, breach13};
 use entities::Node;
 use entities::Run;
 use ground::Place;
+use ground::index_of;
 use layout::Cluster;
 use layout::Entity;
-
-// What each ID gives out: by ID its channels, its locations and its first name index.
-pub struct Given {
-    pub channels: [u8; 256],
-    pub locations: [u16; 256],
-    pub names: [u8; 256],
-}
-
-// A byte as an index of 256 places.
-fn wide(x: u8) -> usize
-    ensures { λ r. ⌜ (r ≡ x) × (r < 256) ⌝ }
-{
-    x as usize
-}
-
-// The cluster that enters by pin 1; none where there is no pin.
-fn first_entering(
-    ids: &[u8],
-    channels: &[u8; 256],
-    locations: &[u16; 256],
-    names: &[u8; 256],
-) -> Cluster
-    ensures { λ r. ⌜ r ≡ firstBy (clusterBy (now (channels .entry)) (now (locations .entry)) (now (names .entry))) (now (ids .entry)) ⌝ }
-{
-    if ids.len() == 0 {
-        return Cluster {
-            channels: 0,
-            locations: 0,
-            names: 0,
-        };
-    }
-    let x = wide(ids[0]);
-    Cluster {
-        channels: channels[x],
-        locations: locations[x],
-        names: names[x],
-    }
-}
-
-// What an entity gives out, where these clusters enter by its pins.
-fn give_out(
-    config: &[u8],
-    node: Node,
-    channels: &[u8; 256],
-    locations: &[u16; 256],
-    names: &[u8; 256],
-) -> Cluster
-    ensures { λ r. ⌜ r ≡ givesBy (now (config .entry)) node (clusterBy (now (channels .entry)) (now (locations .entry)) (now (names .entry))) ⌝ }
-{
-    let first = first_entering(entities::sources(config, node), channels, locations, names);
-    let entity = layout::read(scan::descriptor_at(config, node.place));
-    match entity {
-        Entity::Unknown => first,
-        Entity::Input { cluster, .. } => cluster,
-        Entity::Output { .. } => first,
-        Entity::Mixer { cluster, .. } => cluster,
-        Entity::Selector { .. } => first,
-        Entity::Printed { .. } => first,
-        Entity::Feature { .. } => first,
-    }
-}
-
-// What each ID gives out, along the run: each entity finds what its sources gave out before it.
-pub fn sweep(config: &[u8], run: Run) -> Given
-    ensures { λ r. ⌜ Sweeps (now (config .entry)) run r ⌝ }
-{
-    let n = entities::count(run);
-    let mut channels = [0u8; 256];
-    let mut locations = [0u16; 256];
-    let mut names = [0u8; 256];
-    let mut i: usize = 0;
-    while i < n {
-        let node = run.nodes[i];
-        let gives = give_out(config, node, &channels, &locations, &names);
-        let id = wide(node.id);
-        channels[id] = gives.channels;
-        locations[id] = gives.locations;
-        names[id] = gives.names;
-        i += 1;
-    }
-    Given {
-        channels,
-        locations,
-        names,
-    }
-}
+use sweep::Given;
 
 // How many channels an ID gives out.
 fn count_of(counts: &[u8; 256], id: u8) -> u8
     ensures { λ r. ⌜ r ≡ getD (now (counts .entry)) id 0 ⌝ }
 {
-    counts[wide(id)]
+    counts[index_of(id)]
 }
 
 // How many channels enter in all.
@@ -115,7 +31,7 @@ fn channels_in(ids: &[u8], counts: &[u8; 256]) -> usize
     let mut sum: usize = 0;
     let mut k: usize = 0;
     while k < ids.len() {
-        sum += wide(count_of(counts, ids[k]));
+        sum += index_of(count_of(counts, ids[k]));
         k += 1;
     }
     sum
@@ -220,26 +136,4 @@ pub fn check_clusters(config: &[u8], run: Run, given: Given) -> Place
         i += 1;
     }
     Place::Nowhere
-}
-
-// The cluster of each entity of a run, by its index.
-pub fn by_index(run: Run, given: Given) -> [Cluster; 32]
-    ensures { λ r. ⌜ r ≡ clustersOf run (clusterOn given) ⌝ }
-{
-    let mut clusters = [Cluster {
-        channels: 0,
-        locations: 0,
-        names: 0,
-    }; 32];
-    let mut i: usize = 0;
-    while i < MOST_ENTITIES {
-        let id = wide(run.nodes[i].id);
-        clusters[i] = Cluster {
-            channels: given.channels[id],
-            locations: given.locations[id],
-            names: given.names[id],
-        };
-        i += 1;
-    }
-    clusters
 }

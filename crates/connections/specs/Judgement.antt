@@ -14,10 +14,12 @@ use Rattle.layout.specs.declared.Cluster.{Cluster}
 use Rattle.layout.specs.Layout.{noCluster}
 use Rattle.entities.specs.declared.Run.{Run}
 use Rattle.entities.specs.Run.{mostEntities}
-use Rattle.sources.specs.Breaches.{breach10, breach11}
+use Rattle.ids.specs.Breach.{breach10}
+use Rattle.sources.specs.Breach.{breach11}
 use Rattle.ranks.specs.Order.{ordered}
 use Rattle.ranks.specs.Breach.{breach12}
-use Rattle.clusters.specs.Sweep.{givenFor, breach13, clustersOf}
+use Rattle.clusters.specs.Breach.{givenFor, breach13}
+use Rattle.sweep.specs.Sweep.{clustersOf}
 use Rattle.connections.specs.declared.Connected.{Connected}
 
 unfoldable pub judged : List ℕ → Run → Refusal → Refusal

@@ -32,7 +32,7 @@ fn refused(number: u8, place: usize) -> Connected
 pub fn judge(config: &[u8], run: Run) -> Connected
     ensures { λ r. ⌜ r ≡ connectedIn (now (config .entry)) run ⌝ }
 {
-    let ids = sources::check_ids(run);
+    let ids = ids::check_ids(run);
     if let Place::At(place) = ids {
         return refused(10, place);
     }
@@ -45,7 +45,7 @@ pub fn judge(config: &[u8], run: Run) -> Connected
     if let Place::At(place) = endless {
         return refused(12, place);
     }
-    let given = clusters::sweep(config, order);
+    let given = sweep::sweep(config, order);
     let broken = clusters::check_clusters(config, run, given);
     if let Place::At(place) = broken {
         return refused(13, place);
@@ -55,6 +55,6 @@ pub fn judge(config: &[u8], run: Run) -> Connected
             number: 0,
             place: 0,
         },
-        clusters: clusters::by_index(run, given),
+        clusters: sweep::by_index(run, given),
     }
 }

@@ -28,7 +28,6 @@ use Rattle.ground.specs.Pick.{pick}
 use Rattle.ground.specs.Numbers.{byte}
 use Rattle.ground.specs.Lists.{part}
 use Rattle.ground.specs.Refuse.{keptAt}
-use Rattle.scan.specs.Cutting.{endAt}
 use Rattle.layout.specs.declared.Cluster.{Cluster}
 use Rattle.layout.specs.declared.Entity.{Entity}
 use Rattle.layout.specs.declared.Entity.the-variants.{Unknown, Input, Output, Mixer, Selector, Printed, Feature}
@@ -36,7 +35,7 @@ use Rattle.layout.specs.Layout.{noCluster, entityOf}
 use Rattle.edition.specs.Edition.{ownId}
 use Rattle.entities.specs.declared.Node.{Node}
 use Rattle.entities.specs.declared.Run.{Run}
-use Rattle.entities.specs.Run.{held, nodeAt}
+use Rattle.entities.specs.Run.{held, nodeAt, descriptorOf}
 use Rattle.table.specs.declared.Control.{Control}
 use Rattle.table.specs.Controls.{mostControls}
 
@@ -92,7 +91,7 @@ controlsOf [] cluster = []
 controlsOf (d ∷ ds) cluster = entityControls (entityOf d) d (cluster (ownId d) .channels) ++ controlsOf ds cluster
 
 abbrev pub nodeControls : List ℕ → Node → ℕ → List Control
-nodeControls s n c = entityControls (entityOf (part s (n .place) (endAt s (n .place)))) (part s (n .place) (endAt s (n .place))) c
+nodeControls s n c = entityControls (entityOf (descriptorOf s n)) (descriptorOf s n) c
 
 unfoldable pub controlsTo : ℕ → List ℕ → Run → List Cluster → List Control
 controlsTo zero s r cs = []

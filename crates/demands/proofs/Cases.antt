@@ -28,15 +28,18 @@ use Rattle.graph.specs.Along.{put, given}
 use Rattle.graph.specs.Tables.{tabulateFrom}
 use Rattle.ground.specs.Places.{firstIn, somewhere}
 use Rattle.sources.specs.Lookup.{lookupBelow, sourceNumber}
-use Rattle.sources.specs.Breaches.{wrongId, breach10, wrongSource, breach11}
+use Rattle.ids.specs.Breach.{wrongId, breach10}
+use Rattle.sources.specs.Breach.{wrongSource, breach11}
 use Rattle.ranks.specs.Order.{ordered}
 use Rattle.ranks.specs.Breach.{breach12}
-use Rattle.clusters.specs.Sweep.{givesBy, givenIn, keepsBy, breach13, clustersOf}
+use Rattle.sweep.specs.Sweep.{givesBy, givenIn, clustersOf}
+use Rattle.clusters.specs.Breach.{keepsBy, breach13}
 use Rattle.edition.specs.Audio.{firstOf, channelsIn, giveOut, mixerLength, featureLength, alike, alikeIn, mixerKept, featureKept, keeps}
 use Rattle.channels.specs.Declared.{clusterKept, namesKept}
 use Rattle.connections.specs.Judgement.{judged}
-use Rattle.streaming.specs.Terminals.{terminalOf, terminalsFrom, terminalsOf, bearerIn, terminalNumber, channelsOf}
-use Rattle.streaming.specs.Tests.{opensAs, isGeneral, isFormat, samplesRight, ratesRight, isTypeOne, formatRight, bearerRight, describedBy, holdsClass, broken, wrongStream, firstBroken, breach14}
+use Rattle.terminals.specs.Terminals.{terminalOf, terminalsFrom, terminalsOf, bearerIn, terminalNumber, channelsOf}
+use Rattle.formats.specs.Tests.{opensAs, isGeneral, isFormat, samplesRight, ratesRight, isTypeOne, formatRight}
+use Rattle.streaming.specs.Tests.{bearerRight, describedBy, holdsClass, broken, wrongStream, firstBroken, breach14}
 use Rattle.controls.specs.Controls.{bitCarries, bitSet, bitControls, bitsFrom, maskControls, channelsFrom, featureControls, entityControls, controlsTo, controlsOfRun, breach15}
 use Rattle.controls.specs.Growth.{tableOf}
 use Rattle.records.specs.Records.{headOf, recordOf, recordsTo, roomFor, shownIn}

@@ -12,7 +12,7 @@
 --   nodeAt r i       ==  the i-th entity of the run, counted from 0
 --   idAt, placeAt, feedsAt  ==  its ID; its place, an offset from the first byte; whether it may be a source
 --   sourcesOf s n, sourcesAt s r i  ==  the source IDs of the entity n, of the i-th entity, as they stand in the configuration s
---   descriptorAt s r i  ==  the descriptor that stands at the i-th entity's place
+--   descriptorOf s n, descriptorAt s r i  ==  the descriptor that stands at the place of the entity n, of the i-th entity
 use Prim.Native.Nat.{ℕ, _+_, min}
 use mathlib.Core.Bool.{Bool, false}
 use mathlib.Core.List.{List, [], _∷_}
@@ -78,5 +78,8 @@ sourcesOf s n = take (n .pins) (drop (n .first) s)
 abbrev pub sourcesAt : List ℕ → Run → ℕ → List ℕ
 sourcesAt s r i = sourcesOf s (nodeAt r i)
 
+abbrev pub descriptorOf : List ℕ → Node → List ℕ
+descriptorOf s n = part s (n .place) (endAt s (n .place))
+
 abbrev pub descriptorAt : List ℕ → Run → ℕ → List ℕ
-descriptorAt s r i = part s (placeAt r i) (endAt s (placeAt r i))
+descriptorAt s r i = descriptorOf s (nodeAt r i)

@@ -8,6 +8,7 @@
 --   first-some, first-none    ==  what the search answers, from what the tests say
 --   Finding t found none n r  ==  what r says of the tests; finding: the search's answer says so
 --   first-same                ==  tests that agree below n find the same
+--   first-more                ==  a search among one place more: that place is looked at last
 --   somewhere t n, everywhere t n  ==  t holds at some place below n, at each; reads-somewhere, reads-everywhere: what they decide
 --   NoneWrong n Wrong         ==  none below n is wrong
 --   FirstPlace n place Wrong q  ==  q is the place of the first below n that is wrong, where place gives each its place
@@ -19,7 +20,7 @@ use mathlib.Core.Path.{_≡_, refl, sym, ap, _∙_}
 use mathlib.Core.Bool.{Bool, true, false, not}
 use mathlib.Core.Logic.{_⊎_, ⊎-elim, _↔_}
 use native.Mathlib.Numerals.{add-one}
-use native.Mathlib.Nat.{zero-add, eq-or-lt-of-le}
+use native.Mathlib.Nat.{zero-add, add-zero, eq-or-lt-of-le}
 use native.Mathlib.Omega.{arith}
 use borrow.Author.Tests.{not-true, not-false}
 use Rattle.ground.specs.declared.Place.{Place}
@@ -59,6 +60,16 @@ module _ {R : Type 0} (t : ℕ → Bool) (found : ℕ → R) (none : R) where
       come-more y =
           let q : n - i ≡ suc (n - suc i) = omega arith in
           record { low = omega arith; same = g .same ∙ rw (q, add-one) (no _ _ (sym e ∙ y)) }
+
+  more-from : (k i : ℕ) → firstIn t found none i (suc k) ≡ firstIn t found (pick (t (i + k)) (found (i + k)) none) i k
+  unfolding firstIn
+  more-from zero i = ap (λ (j : ℕ). pick (t j) (found j) none) (sym (add-zero i))
+  more-from (suc k) i =
+      let q : suc i + k ≡ i + suc k = omega arith in
+      ap (pick (t i) (found i)) (more-from k (suc i) ∙ ap (λ (j : ℕ). firstIn t found (pick (t j) (found j) none) (suc i) k) q)
+
+  pub first-more : (n : ℕ) → firstIn t found none 0 (n + 1) ≡ firstIn t found (pick (t n) (found n) none) 0 n
+  first-more n = ap (firstIn t found none 0) (add-one n) ∙ more-from n 0 ∙ ap (λ (j : ℕ). firstIn t found (pick (t j) (found j) none) 0 n) (zero-add n)
 
   pub data Finding (n : ℕ) : R → Type 0 where
     nothing : ((j : ℕ) → j < n → t j ≡ false) → Finding n none

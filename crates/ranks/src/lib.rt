@@ -3,20 +3,13 @@
 // carries no meaning: a source that stands after its user costs another pass, nothing else. What this crate promises to the
 // layer above: each public function answers, for every configuration and every run whatever, as the definitions of specs/ say.
 ghost use mathlib.Core.Path.{_≡_};
-ghost use Prim.Native.Nat.{_<_};
 ghost use Rattle.graph.specs.Members.{all};
 ghost use Rattle.ranks.specs.Order.{marked, fresh, ordered};
 ghost use Rattle.ranks.specs.Breach.{borneIn, breach12};
 use entities::Node;
 use entities::Run;
 use ground::Place;
-
-// A byte as an index of 256 places.
-fn wide(x: u8) -> usize
-    ensures { λ r. ⌜ (r ≡ x) × (r < 256) ⌝ }
-{
-    x as usize
-}
+use ground::index_of;
 
 // Whether all these IDs are marked.
 fn all_marked(marks: &[bool; 256], ids: &[u8]) -> bool
@@ -24,7 +17,7 @@ fn all_marked(marks: &[bool; 256], ids: &[u8]) -> bool
 {
     let mut k: usize = 0;
     while k < ids.len() {
-        if !marks[wide(ids[k])] {
+        if !marks[index_of(ids[k])] {
             return false;
         }
         k += 1;
@@ -36,7 +29,7 @@ fn all_marked(marks: &[bool; 256], ids: &[u8]) -> bool
 fn may_join(marks: &[bool; 256], config: &[u8], node: Node) -> bool
     ensures { λ r. ⌜ r ≡ fresh (now (marks .entry)) (now (config .entry)) node ⌝ }
 {
-    if marks[wide(node.id)] {
+    if marks[index_of(node.id)] {
         return false;
     }
     all_marked(marks, entities::sources(config, node))
@@ -58,7 +51,7 @@ pub fn order_of(config: &[u8], run: Run) -> Run
         if i < n {
             let node = run.nodes[i];
             if may_join(&marks, config, node) {
-                marks[wide(node.id)] = true;
+                marks[index_of(node.id)] = true;
                 nodes[count] = node;
                 count += 1;
             }
@@ -82,7 +75,7 @@ fn borne(run: Run) -> [bool; 256]
     let mut marks = [false; 256];
     let mut i: usize = 0;
     while i < n {
-        marks[wide(run.nodes[i].id)] = true;
+        marks[index_of(run.nodes[i].id)] = true;
         i += 1;
     }
     marks
@@ -97,7 +90,7 @@ pub fn check_ranks(run: Run, order: Run) -> Place
     let mut i: usize = 0;
     while i < n {
         let node = run.nodes[i];
-        if !marks[wide(node.id)] {
+        if !marks[index_of(node.id)] {
             return Place::At(node.place);
         }
         i += 1;

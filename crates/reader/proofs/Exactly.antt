@@ -29,16 +29,17 @@ use Rattle.cutting.specs.declared.Survey.{Survey}
 use Rattle.cutting.specs.Rules.{headerPlace, Kept, BrokenAt, cuttingRows}
 use Rattle.cutting.specs.Survey.{surveyOf}
 use Rattle.cutting.specs.Exact.{cutting-answers, cutting-numbered, all-nine, nine-kept}
-use Rattle.sources.specs.Rules.{Rule10, Rule11}
-use Rattle.sources.specs.OwnIds.{own-ids, distinct-ids}
+use Rattle.ids.specs.Rules.{Rule10}
+use Rattle.sources.specs.Rules.{Rule11}
+use Rattle.ids.specs.OwnIds.{own-ids, distinct-ids}
 use Rattle.ranks.specs.Rules.{Rule12}
 use Rattle.clusters.specs.Rules.{Rule13, Connected}
 use Rattle.clusters.specs.Topology.{clusters-shown}
 use Rattle.connections.specs.JudgementLaws.{connectedRows, connected-with, connected-kept, judged-answers}
 use Rattle.streaming.specs.Rule.{Breaks14}
-use Rattle.streaming.specs.Terminals.{terminalsOf}
+use Rattle.terminals.specs.Terminals.{terminalsOf}
 use Rattle.streaming.specs.Tests.{breach14}
-use Rattle.streaming.specs.Standing.{terminals-are, one-each}
+use Rattle.terminals.specs.Standing.{terminals-are, one-each}
 use Rattle.streaming.specs.Breaches.{rule14-kept, rule14-broken}
 use Rattle.controls.specs.Controls.{controlsOf, controlsOfRun, breach15}
 use Rattle.controls.specs.Growth.{tableOf}

@@ -21,8 +21,7 @@ use native.Mathlib.Omega.{arith}
 use lib.ListN.{length, getD, drop, length-append, length-take, length-drop}
 use lib.Dec.{leb}
 use Rattle.ground.specs.Pick.{pick}
-use Rattle.ground.specs.Lists.{part, pad, pad-length}
-use Rattle.scan.specs.Cutting.{endAt}
+use Rattle.ground.specs.Lists.{pad, pad-length}
 use Rattle.layout.specs.declared.Cluster.{Cluster}
 use Rattle.layout.specs.Layout.{mostPins, noCluster, entityOf, kindOf}
 use Rattle.layout.specs.SourcesLaws.{sources-within}
@@ -30,7 +29,7 @@ use Rattle.edition.specs.Edition.{ownId, sources}
 use Rattle.edition.specs.Audio.{audio}
 use Rattle.entities.specs.declared.Node.{Node}
 use Rattle.entities.specs.declared.Run.{Run}
-use Rattle.entities.specs.Run.{held, nodeAt, sourcesOf}
+use Rattle.entities.specs.Run.{held, nodeAt, sourcesOf, descriptorOf}
 use Rattle.entities.specs.Represents.{Represents}
 
 abbrev pub headSize : ℕ
@@ -46,7 +45,7 @@ abbrev pub idsShown : List ℕ → List ℕ
 idsShown l = pad 0 mostPins l
 
 unfoldable pub headOf : List ℕ → Node → Cluster → List ℕ
-headOf s n c = frontOf (n .id) (kindOf (entityOf (part s (n .place) (endAt s (n .place))))) (length (sourcesOf s n)) c
+headOf s n c = frontOf (n .id) (kindOf (entityOf (descriptorOf s n))) (length (sourcesOf s n)) c
 
 unfoldable pub recordOf : List ℕ → Node → Cluster → List ℕ
 recordOf s n c = headOf s n c ++ idsShown (sourcesOf s n)

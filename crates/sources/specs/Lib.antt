@@ -1,7 +1,6 @@
 pub mod Rules
 pub mod Lookup
+pub mod Breach
 pub mod LookupLaws
-pub mod Breaches
-pub mod OwnIds
 pub mod RuleLaws
 pub mod GraphLaws

@@ -13,12 +13,13 @@ use Rattle.ground.specs.Pick.{pick}
 use Rattle.ground.specs.Places.{firstIn}
 use Rattle.graph.specs.Tables.{tabulate}
 use Rattle.entities.specs.declared.Run.{Run}
-use Rattle.entities.specs.Run.{held, idAt, feedsAt}
+use Rattle.entities.specs.Run.{held, feedsAt}
+use Rattle.ids.specs.Breach.{bears}
 use Rattle.sources.specs.declared.Found.{Found}
 use Rattle.sources.specs.declared.Found.the-variants.{Nothing, Entity}
 
 unfoldable pub lookupBelow : Run → ℕ → ℕ → Found
-lookupBelow run n x = firstIn (λ i. eqb (idAt run i) x) (λ i. Entity (feedsAt run i)) Nothing 0 n
+lookupBelow run n x = firstIn (bears run x) (λ i. Entity (feedsAt run i)) Nothing 0 n
 
 abbrev pub lookup : Run → ℕ → Found
 lookup run x = lookupBelow run (held run) x

@@ -1,5 +1,4 @@
 -- Laws on lookup by ID: a lookup among one entity more, and what the marks tell of a run.
---   first-more       ==  a search among one place more: that place is looked at last
 --   lookup-none      ==  among no entities nothing is found
 --   lookup-other     ==  an entity that bears another ID changes nothing
 --   lookup-new       ==  one that bears the ID is found where none before did
@@ -8,43 +7,28 @@
 --   entity-refuses   ==  an entity that is found has the number 11 exactly where it has no output
 --   directory-mark   ==  what the marks of a run say of an ID is what the lookup finds
 --   wrong-by, any-wrong-by  ==  .. so that a wrong source by the marks is a wrong source of the run, for bytes
-use Prim.Native.Nat.{ℕ, zero, suc, _+_, _<_}
-use mathlib.Core.Path.{_≡_, refl, sym, ap, _∙_}
+use Prim.Native.Nat.{ℕ, _+_, _<_}
+use mathlib.Core.Path.{_≡_, refl, ap, _∙_}
 use mathlib.Core.Bool.{Bool, true, false, not, _||_}
 use mathlib.Core.List.{List, [], _∷_, List·Memᴰ·head, List·Memᴰ·tail}
-use native.Mathlib.Numerals.{add-one}
-use native.Mathlib.Nat.{zero-add, add-zero}
 use native.Mathlib.Omega.{arith}
 use lib.Dec.{eqb}
 use lib.ListN.{getD}
 use borrow.Author.Tests.{eq-eqb, ne-eqb}
-use Rattle.ground.specs.Pick.{pick, no}
+use Rattle.ground.specs.Pick.{no}
 use Rattle.ground.specs.Lists.{any}
-use Rattle.ground.specs.Places.{firstIn, Finding, nothing, first, finding, first-some}
+use Rattle.ground.specs.Places.{firstIn, first-more, Finding, nothing, first, finding, first-some}
 use Rattle.graph.specs.Members.{_∈_}
 use Rattle.graph.specs.Tables.{getD-tabulate}
 use Rattle.entities.specs.declared.Run.{Run}
 use Rattle.entities.specs.Run.{idAt, feedsAt}
+use Rattle.ids.specs.Breach.{bears}
 use Rattle.sources.specs.declared.Found.{Found}
 use Rattle.sources.specs.declared.Found.the-variants.{Nothing, Entity}
 use Rattle.sources.specs.Lookup.{lookupBelow, lookup, sourceNumber, markOf, foundBy, directoryOf}
-use Rattle.sources.specs.Breaches.{refuses, wrongSource, wrongBy}
-
-module _ {R : Type 0} (t : ℕ → Bool) (found : ℕ → R) (none : R) where
-  more-from : (k i : ℕ) → firstIn t found none i (suc k) ≡ firstIn t found (pick (t (i + k)) (found (i + k)) none) i k
-  unfolding firstIn
-  more-from zero i = ap (λ (j : ℕ). pick (t j) (found j) none) (sym (add-zero i))
-  more-from (suc k) i =
-      let q : suc i + k ≡ i + suc k = omega arith in
-      ap (pick (t i) (found i)) (more-from k (suc i) ∙ ap (λ (j : ℕ). firstIn t found (pick (t j) (found j) none) (suc i) k) q)
-
-  pub first-more : (n : ℕ) → firstIn t found none 0 (n + 1) ≡ firstIn t found (pick (t n) (found n) none) 0 n
-  first-more n = ap (firstIn t found none 0) (add-one n) ∙ more-from n 0 ∙ ap (λ (j : ℕ). firstIn t found (pick (t j) (found j) none) 0 n) (zero-add n)
+use Rattle.sources.specs.Breach.{refuses, wrongSource, wrongBy}
 
 module _ (run : Run) where
-  abbrev bears : ℕ → ℕ → Bool
-  bears x i = eqb (idAt run i) x
-
   abbrev answer : ℕ → Found
   answer i = Entity (feedsAt run i)
 
@@ -56,25 +40,25 @@ module _ (run : Run) where
     pub lookup-other : (idAt run n ≡ x → ⊥) → lookupBelow run (n + 1) x ≡ lookupBelow run n x
     unfolding lookupBelow
     lookup-other f =
-        first-more (bears x) answer Nothing n
-        ∙ ap (λ (r : Found). firstIn (bears x) answer r 0 n) (no _ _ (ne-eqb (idAt run n) x f))
+        first-more (bears run x) answer Nothing n
+        ∙ ap (λ (r : Found). firstIn (bears run x) answer r 0 n) (no _ _ (ne-eqb (idAt run n) x f))
 
     module _ (e : idAt run n ≡ x) where
       pub lookup-new : lookupBelow run n x ≡ Nothing → lookupBelow run (n + 1) x ≡ Entity (feedsAt run n)
       unfolding lookupBelow
-      lookup-new u = go (finding (bears x) answer Nothing n) u
+      lookup-new u = go (finding (bears run x) answer Nothing n) u
         where
-          go : {r : Found} → Finding (bears x) answer Nothing n r → r ≡ Nothing → firstIn (bears x) answer Nothing 0 (n + 1) ≡ answer n
-          go (nothing h) q = first-some (bears x) answer Nothing (n + 1) n (record { inside = omega arith; passes = eq-eqb (idAt run n) x e; none-before = h })
+          go : {r : Found} → Finding (bears run x) answer Nothing n r → r ≡ Nothing → firstIn (bears run x) answer Nothing 0 (n + 1) ≡ answer n
+          go (nothing h) q = first-some (bears run x) answer Nothing (n + 1) n (record { inside = omega arith; passes = eq-eqb (idAt run n) x e; none-before = h })
           go (first f) q = let z : _≡_ {A = ℕ} 0 1 = cc in absurd (omega arith)
 
       pub lookup-old : (lookupBelow run n x ≡ Nothing → ⊥) → lookupBelow run (n + 1) x ≡ lookupBelow run n x
       unfolding lookupBelow
-      lookup-old u = go (finding (bears x) answer Nothing n) u
+      lookup-old u = go (finding (bears run x) answer Nothing n) u
         where
-          go : {r : Found} → Finding (bears x) answer Nothing n r → (r ≡ Nothing → ⊥) → firstIn (bears x) answer Nothing 0 (n + 1) ≡ r
+          go : {r : Found} → Finding (bears run x) answer Nothing n r → (r ≡ Nothing → ⊥) → firstIn (bears run x) answer Nothing 0 (n + 1) ≡ r
           go (nothing h) q = absurd (q refl)
-          go (first {i} f) q = let m = f .inside in first-some (bears x) answer Nothing (n + 1) i (record { inside = omega arith; passes = f .passes; none-before = f .none-before })
+          go (first {i} f) q = let m = f .inside in first-some (bears run x) answer Nothing (n + 1) i (record { inside = omega arith; passes = f .passes; none-before = f .none-before })
 
 pub mark-nothing : (f : Found) → markOf f ≡ 0 → f ≡ Nothing
 unfolding markOf

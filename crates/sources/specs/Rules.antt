@@ -1,25 +1,15 @@
--- Document 01, refusal 10: "ID zero or borne by an earlier entity"; refusal 11: "a source ID is 0, unknown, or an Output Terminal's". Both
--- speak of the run's descriptors, each a list of bytes, for any edition.
---   WrongId before d    ==  the ID of d, which stands behind the descriptors before, is zero or borne by one of those
---   Rule10 ds           ==  of no descriptor of the run ds is it so
+-- Document 01, refusal 11: "a source ID is 0, unknown, or an Output Terminal's". It speaks of the run's descriptors, each a list of bytes, for
+-- any edition.
 --   WrongSource ed ds x ==  a source ID x is 0, unknown in the run ds, or borne there by an entity with no output (an Output Terminal)
 --   WrongSources ed ds d  ==  a source ID of d is such
 --   Rule11 ed ds        ==  of no descriptor of the run is it so
 use Prim.Native.Nat.{ℕ}
 use mathlib.Core.Path.{_≡_}
 use mathlib.Core.Bool.{false}
-use mathlib.Core.Logic.{_⊎_}
 use mathlib.Core.List.{List}
 use Rattle.ground.specs.Lists.{Some}
-use Rattle.ground.specs.First.{Sound}
 use Rattle.graph.specs.Members.{_∈_}
 use Rattle.edition.specs.Edition.{Edition, ownId, sources}
-
-abbrev pub WrongId : List (List ℕ) → List ℕ → Type 0
-WrongId before d = (ownId d ≡ 0) ⊎ Some (λ e. ownId e ≡ ownId d) before
-
-abbrev pub Rule10 : List (List ℕ) → Type 0
-Rule10 ds = Sound WrongId ds
 
 pub data WrongSource (ed : Edition) (ds : List (List ℕ)) (x : ℕ) : Type 0 where
   zero-source : x ≡ 0 → WrongSource ed ds x

@@ -1,49 +1,20 @@
-// Lookup by ID and the rules 10 and 11 (document 01): IDs are entities' own, and a source is an entity that has an output. What
-// this crate promises to the layer above: each function answers, for every configuration and every run whatever, as the definitions of
-// specs/ say. It looks at the first entities of a run, as many as the run counts and at most 32.
+// Lookup by ID and rule 11 (document 01): a source is an entity that has an output. What this crate promises to the layer above: its public
+// function answers, for every configuration and every run whatever, as the definitions of specs/ say. It looks at the first entities of a
+// run, as many as the run counts and at most 32.
 ghost use mathlib.Core.Path.{_≡_};
-ghost use Prim.Native.Nat.{_<_};
 ghost use lib.ListN.{getD};
 ghost use Rattle.ground.specs.Lists.{any};
 ghost use Rattle.sources.specs.Lookup.{markOf, directoryOf, foundBy};
 ghost use Rattle.sources.specs.declared.Found.the-variants.{Entity};
-ghost use Rattle.sources.specs.Breaches.{wrongBy, breach10, breach11};
+ghost use Rattle.sources.specs.Breach.{wrongBy, breach11};
 use entities::Run;
 use ground::Place;
+use ground::index_of;
 
 // What a lookup by ID finds: no entity, or one, and whether it has an output.
 pub enum Found {
     Nothing,
     Entity(bool),
-}
-
-// A byte as an index of 256 places.
-fn wide(x: u8) -> usize
-    ensures { λ r. ⌜ (r ≡ x) × (r < 256) ⌝ }
-{
-    x as usize
-}
-
-// The first entity that breaks rule 10.
-pub fn check_ids(run: Run) -> Place
-    ensures { λ r. ⌜ r ≡ breach10 run ⌝ }
-{
-    let n = entities::count(run);
-    let mut borne = [false; 256];
-    let mut i: usize = 0;
-    while i < n {
-        let node = run.nodes[i];
-        let id = wide(node.id);
-        if id == 0 {
-            return Place::At(node.place);
-        }
-        if borne[id] {
-            return Place::At(node.place);
-        }
-        borne[id] = true;
-        i += 1;
-    }
-    Place::Nowhere
 }
 
 // By ID: 0 where no entity of the run bears it, 1 where the first that does has no output, 2 where it has one.
@@ -55,7 +26,7 @@ fn directory(run: Run) -> [u8; 256]
     let mut i: usize = 0;
     while i < n {
         let bearer = run.nodes[i];
-        let id = wide(bearer.id);
+        let id = index_of(bearer.id);
         if marks[id] == 0 {
             marks[id] = mark_of(bearer.feeds);
         }
@@ -75,7 +46,7 @@ fn mark_of(feeds: bool) -> u8
 fn find(marks: &[u8; 256], id: u8) -> Found
     ensures { λ r. ⌜ r ≡ foundBy (getD (now (marks .entry)) id 0) ⌝ }
 {
-    let mark = marks[wide(id)];
+    let mark = marks[index_of(id)];
     if mark == 0 {
         return Found::Nothing;
     }

@@ -20,8 +20,9 @@ use Rattle.scan.specs.Cutting.{Cutting, rest}
 use Rattle.scan.specs.CuttingLaws.{cutting-rest}
 use Rattle.scan.specs.Search.{searched}
 use Rattle.scan.specs.Want.{Class, Audio, reads-audio}
-use Rattle.streaming.specs.Terminals.{Terminal, bearerIn, OneEach}
-use Rattle.streaming.specs.Rule.{AreAll, Described, StreamKept, no-endpoints, endpoints, Group, Rule14, Breaks14}
+use Rattle.terminals.specs.Terminals.{Terminal, bearerIn, OneEach}
+use Rattle.terminals.specs.Said.{AreAll}
+use Rattle.streaming.specs.Rule.{Described, StreamKept, no-endpoints, endpoints, Group, Rule14, Breaks14}
 use Rattle.streaming.specs.Tests.{describedBy, holdsClass, broken, wrongStream, firstBroken, breach14}
 use Rattle.streaming.specs.Laws.{behind-next}
 use Rattle.streaming.specs.Sentences.{reads-described}

@@ -11,10 +11,9 @@ use lib.ListN.{length, getD, drop}
 use lib.Seq.{drop-append-add}
 use lib.Dec.{eqb}
 use native.Mathlib.Numerals.{add-one}
-use native.Mathlib.Omega.{arith}
 use Rattle.ground.specs.declared.Place.{Place}
 use Rattle.ground.specs.declared.Place.the-variants.{Nowhere, At}
-use Rattle.ground.specs.Pick.{pick, true≠false, decided, reads-eq}
+use Rattle.ground.specs.Pick.{true≠false, decided, reads-eq}
 use Rattle.ground.specs.Numbers.{byte}
 use Rattle.ground.specs.Lists.{part, part-none, any}
 use Rattle.scan.specs.Cutting.{endAt, rest}
@@ -25,7 +24,7 @@ use Rattle.scan.specs.Found.{found, found-none}
 use Rattle.scan.specs.declared.Want.the-variants as want
 use Rattle.groups.specs.Reading.{straysFrom}
 use Rattle.groups.specs.TotalLaws.{type-of}
-use Rattle.streaming.specs.declared.Bearer.{Bearer}
+use Rattle.terminals.specs.declared.Bearer.{Bearer}
 use Rattle.streaming.specs.Tests.{describedBy, describedAt, brokenAt, holdsClass, broken, wrongStream}
 
 -- what stands first from a place on: the part up to its end, empty where nothing stands

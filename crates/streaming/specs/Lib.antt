@@ -1,9 +1,6 @@
-pub mod Terminals
 pub mod Rule
 pub mod Tests
-pub mod Table
 pub mod Laws
 pub mod Sentences
 pub mod Members
 pub mod Breaches
-pub mod Standing

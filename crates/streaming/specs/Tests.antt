@@ -1,7 +1,4 @@
 -- What the reader computes for rule 14: each sentence's test, and the place of the first streaming group that breaks it.
---   opensAs k d          ==  the test of OpensAs, type 24 and subtype k
---   isGeneral g, isFormat f, samplesRight f, ratesRight f, isTypeOne c f  ==  the tests of the sentences of Rule
---   formatRight tag c f  ==  the test of FORMAT_TYPE f under a tag, for a Terminal of c channels
 --   bearerRight b g f    ==  the test of b, what bears the ID at GENERAL's byte 3: no number refuses it, and FORMAT_TYPE is right for its
 --                            channels
 --   describedBy find g f ==  the test of Described, where find tells what bears an ID
@@ -12,42 +9,22 @@
 --   wrongStream find ds b i ==  the same of i, which stands behind b in the cutting ds
 --   firstBroken find s   ==  nowhere, or the place of the first streaming group's interface descriptor that breaks the rule
 --   breach14 ts s        ==  the same by the Terminals ts: an ID is borne by the first of them that has it
-use Prim.Native.Nat.{ℕ, suc, _+_, _*_}
+use Prim.Native.Nat.{ℕ, suc}
 use mathlib.Core.Bool.{Bool, false, not, _&&_, _||_}
 use mathlib.Core.List.{List, [], _∷_}
 use lib.ListN.{length, getD, drop}
-use lib.Dec.{eqb, ltb, leb}
+use lib.Dec.{eqb}
 use Rattle.ground.specs.declared.Place.{Place}
-use Rattle.ground.specs.Pick.{pick, within}
-use Rattle.ground.specs.Numbers.{byte, word, triple}
+use Rattle.ground.specs.Pick.{pick}
+use Rattle.ground.specs.Numbers.{byte, word}
 use Rattle.ground.specs.Lists.{part}
 use Rattle.scan.specs.Cutting.{endAt, rest}
 use Rattle.scan.specs.Search.{searched}
 use Rattle.scan.specs.Want.{isInterface, isClass, isAudio}
 use Rattle.groups.specs.Reading.{straysFrom}
-use Rattle.streaming.specs.declared.Bearer.{Bearer}
-use Rattle.streaming.specs.Terminals.{Terminal, bearerIn, terminalNumber, channelsOf}
-
-unfoldable pub opensAs : ℕ → List ℕ → Bool
-opensAs k d = eqb (byte d 1) 0x24 && eqb (byte d 2) k
-
-unfoldable pub isGeneral : List ℕ → Bool
-isGeneral g = eqb (length g) 7 && opensAs 1 g
-
-unfoldable pub isFormat : List ℕ → Bool
-isFormat f = leb 4 (length f) && opensAs 2 f
-
-unfoldable pub samplesRight : List ℕ → Bool
-samplesRight f = within 1 (byte f 5) 4 && within 1 (byte f 6) (8 * byte f 5)
-
-unfoldable pub ratesRight : List ℕ → Bool
-ratesRight f = pick (ltb 0 (byte f 7)) (eqb (length f) (8 + 3 * byte f 7)) (eqb (length f) 14 && leb (triple f 8) (triple f 11))
-
-unfoldable pub isTypeOne : ℕ → List ℕ → Bool
-isTypeOne c f = leb 8 (length f) && (eqb (byte f 3) 1 && (eqb (byte f 4) c && (samplesRight f && ratesRight f)))
-
-unfoldable pub formatRight : ℕ → ℕ → List ℕ → Bool
-formatRight tag c f = isFormat f && (not (eqb tag 1) || isTypeOne c f)
+use Rattle.formats.specs.Tests.{isGeneral, formatRight}
+use Rattle.terminals.specs.declared.Bearer.{Bearer}
+use Rattle.terminals.specs.Terminals.{Terminal, bearerIn, terminalNumber, channelsOf}
 
 unfoldable pub bearerRight : Bearer → List ℕ → List ℕ → Bool
 bearerRight b g f = eqb (terminalNumber b) 0 && formatRight (word g 5) (channelsOf b) f

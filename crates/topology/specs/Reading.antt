@@ -31,7 +31,7 @@ use Rattle.entities.specs.Run.{mostEntities, blankNode}
 use Rattle.cutting.specs.declared.Survey.{Survey}
 use Rattle.cutting.specs.Survey.{surveyOf, verdictThen}
 use Rattle.connections.specs.Judgement.{judged, clustersFor}
-use Rattle.streaming.specs.Terminals.{terminalsOf}
+use Rattle.terminals.specs.Terminals.{terminalsOf}
 use Rattle.streaming.specs.Tests.{breach14}
 use Rattle.controls.specs.Controls.{controlsOfRun, breach15}
 use Rattle.controls.specs.Growth.{tableOf}

@@ -11,7 +11,7 @@ use lib.Seq.{drop-cons}
 use borrow.Author.Tests.{eq-eqb, ne-eqb}
 use Rattle.graph.specs.Members.{all}
 use Rattle.edition.specs.Audio.{alike}
-use Rattle.clusters.specs.Sweep.{channelsOn}
+use Rattle.clusters.specs.Breach.{channelsOn}
 use Rattle.clusters.proofs.all_have.Statement.{statement}
 use Rattle.clusters.proofs.all_have.Tie as tie
 

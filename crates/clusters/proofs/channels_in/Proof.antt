@@ -10,7 +10,7 @@ use lib.Seq.{drop-cons}
 use mir.Val.{Fits}
 use mir.Syntax.{w64}
 use Rattle.edition.specs.Audio.{channelsIn}
-use Rattle.clusters.specs.Sweep.{channelsOn, Entering}
+use Rattle.clusters.specs.Breach.{channelsOn, Entering}
 use Rattle.clusters.proofs.channels_in.Statement.{statement}
 use Rattle.clusters.proofs.channels_in.Tie as tie
 
@@ -68,8 +68,8 @@ shared-slice-read-count-of c = search laws
 count-of-requires : tie.Need-count-of-requires Inv-loop μ-loop
 count-of-requires c κs = search laws
 
-wide-requires : tie.Need-wide-requires Inv-loop μ-loop
-wide-requires c κs = search laws
+index-of-requires : tie.Need-index-of-requires Inv-loop μ-loop
+index-of-requires c κs = search laws
 
 add-sum : tie.Need-add-sum Inv-loop μ-loop
 add-sum c = search laws
@@ -95,7 +95,7 @@ channels-in-spec =
     loop-holds
     shared-slice-read-count-of
     count-of-requires
-    wide-requires
+    index-of-requires
     add-sum
     add-k
     loop-less

@@ -11,9 +11,10 @@ use Rattle.ground.specs.Places.{firstIn, first-same, Come, come-none, come-here
 use Rattle.entities.specs.declared.Node.{Node}
 use Rattle.entities.specs.declared.Run.{Run}
 use Rattle.entities.specs.Run.{blankNode, held, nodeAt, placeAt}
-use Rattle.clusters.specs.declared.Given.{Given}
-use Rattle.clusters.specs.Sweep.{clusterOn, channelsOn, keepsBy, breach13}
-use Rattle.clusters.specs.SweepLaws.{keeps-channels}
+use Rattle.sweep.specs.declared.Given.{Given}
+use Rattle.sweep.specs.Sweep.{clusterOn}
+use Rattle.clusters.specs.Breach.{channelsOn, keepsBy, breach13}
+use Rattle.clusters.specs.BreachLaws.{keeps-channels}
 use Rattle.clusters.proofs.check_clusters.Statement.{statement}
 use Rattle.clusters.proofs.check_clusters.Tie as tie
 

@@ -12,8 +12,8 @@ at-id counts id x e = ap (λ (y : ℕ). getD counts y 0) (e .0)
 
 ruleset laws = (at-id, needs)
 
-wide-requires : tie.Need-wide-requires
-wide-requires c κs = search laws
+index-of-requires : tie.Need-index-of-requires
+index-of-requires c κs = search laws
 
 element-copy-out-result : tie.Need-element-copy-out-result
 element-copy-out-result c = search laws
@@ -22,4 +22,4 @@ returns : tie.Need-returns
 returns c = search laws
 
 pub count-of-spec : {M : Type 1} → statement M
-count-of-spec = tie.close (tie.spec wide-requires element-copy-out-result returns)
+count-of-spec = tie.close (tie.spec index-of-requires element-copy-out-result returns)

@@ -5,7 +5,8 @@ use mathlib.Core.Path.{_≡_, ap, _∙_}
 use mathlib.Core.List.{List, map}
 use lib.Dec.{eqb}
 use Rattle.edition.specs.Audio.{featureLength, featureKept}
-use Rattle.clusters.specs.Sweep.{channelsOn, firstBy}
+use Rattle.clusters.specs.Breach.{channelsOn}
+use Rattle.sweep.specs.Sweep.{firstBy}
 use Rattle.clusters.proofs.feature_kept.Statement.{statement}
 use Rattle.clusters.proofs.feature_kept.Tie as tie
 

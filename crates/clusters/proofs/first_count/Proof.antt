@@ -6,7 +6,8 @@ use mathlib.Core.List.{List, [], _∷_}
 use native.Mathlib.Omega.{arith}
 use lib.ListN.{length, getD}
 use Rattle.edition.specs.Audio.{firstOf}
-use Rattle.clusters.specs.Sweep.{channelsOn, firstBy}
+use Rattle.clusters.specs.Breach.{channelsOn}
+use Rattle.sweep.specs.Sweep.{firstBy}
 use Rattle.clusters.proofs.first_count.Statement.{statement}
 use Rattle.clusters.proofs.first_count.Tie as tie
 

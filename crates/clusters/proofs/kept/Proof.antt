@@ -12,9 +12,9 @@ use Rattle.layout.specs.declared.Entity.the-variants.{Unknown, Input, Output, M
 use Rattle.layout.specs.Layout.{entityOf}
 use Rattle.channels.specs.Declared.{clusterKept}
 use Rattle.entities.specs.declared.Node.{Node}
-use Rattle.entities.specs.Run.{sourcesOf}
+use Rattle.entities.specs.Run.{sourcesOf, descriptorOf}
 use Rattle.edition.specs.Audio.{alikeIn, mixerKept, featureKept, keeps}
-use Rattle.clusters.specs.Sweep.{bytesOf, channelsOn, keepsBy}
+use Rattle.clusters.specs.Breach.{channelsOn, keepsBy}
 use Rattle.clusters.proofs.kept.Statement.{statement}
 use Rattle.clusters.proofs.kept.Tie as tie
 
@@ -22,14 +22,14 @@ use Rattle.clusters.proofs.kept.Tie as tie
 few : (s : List ℕ) (n : Node) → n .pins < 256 → (ids : List ℕ) → ids ≡ sourcesOf s n → length ids ≤ 255
 few s n h ids e = rw e (simp length-take (omega arith))
 
-module _ (s : List ℕ) (n : Node) (counts d : List ℕ) (p : d ≡ bytesOf s n)
+module _ (s : List ℕ) (n : Node) (counts d : List ℕ) (p : d ≡ descriptorOf s n)
     (ids : List ℕ) (t : ids ≡ sourcesOf s n) (e : Entity) (q : e ≡ entityOf d) where
   of : {x : Entity} → e ≡ x → keeps x (length d) (map (channelsOn counts) ids) ≡ keepsBy s n (channelsOn counts)
   unfolding keepsBy
   of h =
       ap (λ (y : Entity). keeps y (length d) (map (channelsOn counts) ids)) (sym h ∙ q)
       ∙ ap (λ (b : List ℕ). keeps (entityOf b) (length b) (map (channelsOn counts) ids)) p
-      ∙ ap (λ (l : List ℕ). keeps (entityOf (bytesOf s n)) (length (bytesOf s n)) (map (channelsOn counts) l)) t
+      ∙ ap (λ (l : List ℕ). keeps (entityOf (descriptorOf s n)) (length (descriptorOf s n)) (map (channelsOn counts) l)) t
 
   unknown : e ≡ Unknown → true ≡ keepsBy s n (channelsOn counts)
   unfolding keeps

@@ -9,7 +9,7 @@ use borrow.Author.Tests.{not-true, not-false}
 use Rattle.layout.specs.declared.Cluster.{Cluster}
 use Rattle.channels.specs.Declared.{clusterKept}
 use Rattle.edition.specs.Audio.{channelsIn, mixerLength, mixerKept}
-use Rattle.clusters.specs.Sweep.{Entering}
+use Rattle.clusters.specs.Breach.{Entering}
 use Rattle.clusters.proofs.mixer_kept.Statement.{statement}
 use Rattle.clusters.proofs.mixer_kept.Tie as tie
 

@@ -5,7 +5,8 @@ use mathlib.Core.Path.{_≡_, ap, _∙_}
 use mathlib.Core.Bool.{Bool}
 use mathlib.Core.List.{List, map}
 use Rattle.edition.specs.Audio.{alike, alikeIn}
-use Rattle.clusters.specs.Sweep.{channelsOn, firstBy}
+use Rattle.clusters.specs.Breach.{channelsOn}
+use Rattle.sweep.specs.Sweep.{firstBy}
 use Rattle.clusters.proofs.selector_kept.Statement.{statement}
 use Rattle.clusters.proofs.selector_kept.Tie as tie
 

@@ -12,12 +12,15 @@ use Rattle.ground.specs.Pick.{yes, no}
 use Rattle.ground.specs.Refuse.{none, refuse-at, refuse-on}
 use Rattle.layout.specs.declared.Cluster.{Cluster}
 use Rattle.entities.specs.declared.Run.{Run}
-use Rattle.sources.specs.Breaches.{breach10, breach11}
+use Rattle.ids.specs.Breach.{breach10}
+use Rattle.sources.specs.Breach.{breach11}
 use Rattle.ranks.specs.Order.{ordered}
 use Rattle.ranks.specs.Breach.{breach12}
-use Rattle.clusters.specs.declared.Given.{Given}
-use Rattle.clusters.specs.Sweep.{givenFor, clusterOn, Sweeps, breach13, clustersOf}
-use Rattle.clusters.specs.SweepLaws.{breach13-same, clusters-same}
+use Rattle.sweep.specs.declared.Given.{Given}
+use Rattle.clusters.specs.Breach.{givenFor, breach13}
+use Rattle.sweep.specs.Sweep.{clusterOn, Sweeps, clustersOf}
+use Rattle.clusters.specs.BreachLaws.{breach13-same}
+use Rattle.sweep.specs.SweepLaws.{clusters-same}
 use Rattle.connections.specs.declared.Connected.{Connected}
 use Rattle.connections.specs.Judgement.{judged, clustersFor, refusedBy, connectedIn}
 use Rattle.connections.proofs.judge.Statement.{statement}

@@ -52,11 +52,11 @@ abbrev μ-loop : tie.MeasureT-loop
 loop-holds : tie.Need-loop-holds Inv-loop μ-loop
 loop-holds c = search laws
 
-shared-slice-read-wide : tie.Need-shared-slice-read-wide Inv-loop μ-loop
-shared-slice-read-wide c = search laws
+shared-slice-read-index-of : tie.Need-shared-slice-read-index-of Inv-loop μ-loop
+shared-slice-read-index-of c = search laws
 
-wide-requires : tie.Need-wide-requires Inv-loop μ-loop
-wide-requires c κs = search laws
+index-of-requires : tie.Need-index-of-requires Inv-loop μ-loop
+index-of-requires c κs = search laws
 
 element-copy-out-if1 : tie.Need-element-copy-out-if1 Inv-loop μ-loop
 element-copy-out-if1 c = search laws
@@ -83,8 +83,8 @@ all-marked-spec =
     Inv-loop
     μ-loop
     loop-holds
-    shared-slice-read-wide
-    wide-requires
+    shared-slice-read-index-of
+    index-of-requires
     element-copy-out-if1
     returns
     add-k

@@ -82,14 +82,14 @@ count-requires c κs = search laws
 loop-holds : tie.Need-loop-holds Inv-loop μ-loop
 loop-holds c = search laws
 
-mul-wide : tie.Need-mul-wide Inv-loop μ-loop
-mul-wide c = search laws
+mul-index-of : tie.Need-mul-index-of Inv-loop μ-loop
+mul-index-of c = search laws
 
-element-copy-out-wide : tie.Need-element-copy-out-wide Inv-loop μ-loop
-element-copy-out-wide c = search laws
+element-copy-out-index-of : tie.Need-element-copy-out-index-of Inv-loop μ-loop
+element-copy-out-index-of c = search laws
 
-wide-requires : tie.Need-wide-requires Inv-loop μ-loop
-wide-requires c κs = search laws
+index-of-requires : tie.Need-index-of-requires Inv-loop μ-loop
+index-of-requires c κs = search laws
 
 array-write-marks : tie.Need-array-write-marks Inv-loop μ-loop
 array-write-marks c = search laws
@@ -114,9 +114,9 @@ borne-spec =
     μ-loop
     count-requires
     loop-holds
-    mul-wide
-    element-copy-out-wide
-    wide-requires
+    mul-index-of
+    element-copy-out-index-of
+    index-of-requires
     array-write-marks
     add-i
     loop-less

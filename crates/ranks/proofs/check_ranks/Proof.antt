@@ -90,8 +90,8 @@ mul-node c = search laws
 element-copy-out-node : tie.Need-element-copy-out-node Inv-loop μ-loop
 element-copy-out-node c = search laws
 
-wide-requires : tie.Need-wide-requires Inv-loop μ-loop
-wide-requires c κs = search laws
+index-of-requires : tie.Need-index-of-requires Inv-loop μ-loop
+index-of-requires c κs = search laws
 
 array-read-if1 : tie.Need-array-read-if1 Inv-loop μ-loop
 array-read-if1 c = search laws
@@ -122,7 +122,7 @@ check-ranks-spec =
     loop-holds
     mul-node
     element-copy-out-node
-    wide-requires
+    index-of-requires
     array-read-if1
     returns
     add-i

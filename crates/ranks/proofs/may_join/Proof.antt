@@ -24,8 +24,8 @@ module _ (marks : List Bool) (config : List ℕ) (node : Node) (x : ℕ) (v : (x
 
 ruleset laws = (old, new, needs)
 
-wide-requires : tie.Need-wide-requires
-wide-requires c κs = search laws
+index-of-requires : tie.Need-index-of-requires
+index-of-requires c κs = search laws
 
 element-copy-out-if1 : tie.Need-element-copy-out-if1
 element-copy-out-if1 c = search laws
@@ -46,7 +46,7 @@ pub may-join-spec : {M : Type 1} → statement M
 may-join-spec =
     tie.close
     (tie.spec
-    wide-requires
+    index-of-requires
     element-copy-out-if1
     returns
     sources-requires

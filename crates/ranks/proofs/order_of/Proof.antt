@@ -51,8 +51,8 @@ element-copy-out-node c = search laws
 may-join-requires : tie.Need-may-join-requires Inv-loop μ-loop
 may-join-requires c κs = search laws
 
-wide-requires : tie.Need-wide-requires Inv-loop μ-loop
-wide-requires c κs = search laws
+index-of-requires : tie.Need-index-of-requires Inv-loop μ-loop
+index-of-requires c κs = search laws
 
 array-write-marks : tie.Need-array-write-marks Inv-loop μ-loop
 array-write-marks c = search laws
@@ -99,7 +99,7 @@ order-of-spec =
     mul-node
     element-copy-out-node
     may-join-requires
-    wide-requires
+    index-of-requires
     array-write-marks
     mul-nodes
     array-set-from-nodes

@@ -8,7 +8,7 @@ use native.Mathlib.Numerals.{add-one}
 use lib.ListN.{length, getD, drop, drop-of-length-le}
 use lib.Seq.{drop-cons}
 use Rattle.ground.specs.Lists.{any}
-use Rattle.sources.specs.Breaches.{wrongBy}
+use Rattle.sources.specs.Breach.{wrongBy}
 use Rattle.sources.proofs.any_wrong.Statement.{statement}
 use Rattle.sources.proofs.any_wrong.Tie as tie
 

@@ -15,7 +15,7 @@ use Rattle.entities.specs.declared.Run.{Run}
 use Rattle.entities.specs.Run.{blankNode, held, nodeAt, placeAt, sourcesAt}
 use Rattle.sources.specs.Lookup.{directoryOf}
 use Rattle.sources.specs.LookupLaws.{any-wrong-by}
-use Rattle.sources.specs.Breaches.{wrongSource, wrongBy, breach11}
+use Rattle.sources.specs.Breach.{wrongSource, wrongBy, breach11}
 use Rattle.sources.proofs.check_sources.Statement.{statement}
 use Rattle.sources.proofs.check_sources.Tie as tie
 

@@ -94,8 +94,8 @@ mul-bearer c = search laws
 element-copy-out-bearer : tie.Need-element-copy-out-bearer Inv-loop μ-loop
 element-copy-out-bearer c = search laws
 
-wide-requires : tie.Need-wide-requires Inv-loop μ-loop
-wide-requires c κs = search laws
+index-of-requires : tie.Need-index-of-requires Inv-loop μ-loop
+index-of-requires c κs = search laws
 
 array-read-if1 : tie.Need-array-read-if1 Inv-loop μ-loop
 array-read-if1 c = search laws
@@ -133,7 +133,7 @@ directory-spec =
     loop-holds
     mul-bearer
     element-copy-out-bearer
-    wide-requires
+    index-of-requires
     array-read-if1
     mark-of-requires
     array-write-marks

@@ -23,8 +23,8 @@ module _ (marks : List ℕ) (x id : ℕ) (w : (x ≡ id) × (x < 256)) where
 
 ruleset laws = (unborne, borne, needs)
 
-wide-requires : tie.Need-wide-requires
-wide-requires c κs = search laws
+index-of-requires : tie.Need-index-of-requires
+index-of-requires c κs = search laws
 
 element-copy-out-mark : tie.Need-element-copy-out-mark
 element-copy-out-mark c = search laws
@@ -36,4 +36,4 @@ returns-2 : tie.Need-returns-2
 returns-2 c = search laws
 
 pub find-spec : {M : Type 1} → statement M
-find-spec = tie.close (tie.spec wide-requires element-copy-out-mark returns returns-2)
+find-spec = tie.close (tie.spec index-of-requires element-copy-out-mark returns returns-2)

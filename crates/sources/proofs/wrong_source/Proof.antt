@@ -10,7 +10,7 @@ use Rattle.sources.specs.declared.Found.{Found}
 use Rattle.sources.specs.declared.Found.the-variants.{Nothing, Entity}
 use Rattle.sources.specs.Lookup.{sourceNumber, foundBy}
 use Rattle.sources.specs.LookupLaws.{entity-refuses}
-use Rattle.sources.specs.Breaches.{refuses, wrongBy}
+use Rattle.sources.specs.Breach.{refuses, wrongBy}
 use Rattle.sources.proofs.wrong_source.Statement.{statement}
 use Rattle.sources.proofs.wrong_source.Tie as tie
 

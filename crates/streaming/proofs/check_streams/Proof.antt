@@ -1,9 +1,9 @@
 -- The tables hold the Terminals of the entities before i; at the run's end they tell what its Terminals do.
 use borrow.Author.Needs.{needs}
 use Prim.Native.Nat.{ℕ, _+_, _-_, _≤_, _<_}
-use mathlib.Core.Path.{_≡_, refl, sym, ap, _∙_}
+use mathlib.Core.Path.{_≡_, ap, _∙_}
 use mathlib.Core.List.{List}
-use lib.ListN.{length, getD}
+use lib.ListN.{getD}
 use native.Mathlib.Omega.{arith}
 use Rattle.ground.specs.declared.Place.{Place}
 use Rattle.ground.specs.Lists.{part}
@@ -11,13 +11,12 @@ use Rattle.scan.specs.Cutting.{endAt}
 use Rattle.layout.specs.declared.Cluster.{Cluster}
 use Rattle.layout.specs.declared.Entity.{Entity}
 use Rattle.layout.specs.Layout.{entityOf, noCluster}
-use Rattle.entities.specs.declared.Node.{Node}
 use Rattle.entities.specs.declared.Run.{Run}
 use Rattle.entities.specs.Run.{held, blankNode}
-use Rattle.streaming.specs.declared.Bearer.{Bearer}
-use Rattle.streaming.specs.Terminals.{terminalOf, terminalsOf}
+use Rattle.terminals.specs.declared.Bearer.{Bearer}
+use Rattle.terminals.specs.Terminals.{terminalOf, terminalsOf}
 use Rattle.streaming.specs.Tests.{firstBroken, breach14}
-use Rattle.streaming.specs.Table.{bearerAt, Entered, Filling, filling-start, filling-on, filled}
+use Rattle.terminals.specs.Table.{bearerAt, Entered, Filling, filling-start, filling-on, filled}
 use Rattle.streaming.proofs.check_streams.Statement.{statement}
 use Rattle.streaming.proofs.check_streams.Tie as tie
 

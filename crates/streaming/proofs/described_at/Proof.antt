@@ -6,7 +6,7 @@ use mathlib.Core.Bool.{Bool}
 use mathlib.Core.List.{List}
 use Rattle.ground.specs.Lists.{part}
 use Rattle.scan.specs.Cutting.{endAt}
-use Rattle.streaming.specs.declared.Bearer.{Bearer}
+use Rattle.terminals.specs.declared.Bearer.{Bearer}
 use Rattle.streaming.specs.Tests.{describedBy, describedAt}
 use Rattle.streaming.proofs.described_at.Statement.{statement}
 use Rattle.streaming.proofs.described_at.Tie as tie

@@ -8,10 +8,11 @@ use lib.Dec.{eqb}
 use borrow.Author.Tests.{eq-eqb, ne-eqb, not-true, not-false}
 use Rattle.ground.specs.Pick.{pick}
 use Rattle.ground.specs.Numbers.{byte, word}
-use Rattle.streaming.specs.declared.Bearer.{Bearer}
-use Rattle.streaming.specs.declared.Bearer.the-variants as bearer
-use Rattle.streaming.specs.Terminals.{terminalNumber, channelsOf}
-use Rattle.streaming.specs.Tests.{isGeneral, formatRight, bearerRight, describedBy}
+use Rattle.formats.specs.Tests.{isGeneral, formatRight}
+use Rattle.terminals.specs.declared.Bearer.{Bearer}
+use Rattle.terminals.specs.declared.Bearer.the-variants as bearer
+use Rattle.terminals.specs.Terminals.{terminalNumber, channelsOf}
+use Rattle.streaming.specs.Tests.{bearerRight, describedBy}
 use Rattle.streaming.proofs.described_by.Statement.{statement}
 use Rattle.streaming.proofs.described_by.Tie as tie
 

@@ -9,9 +9,9 @@ use Rattle.ground.specs.declared.Place.the-variants.{Nowhere, At}
 use Rattle.ground.specs.Lists.{part}
 use Rattle.scan.specs.Cutting.{endAt, rest}
 use Rattle.scan.specs.Search.{Passed, start, stop, hit, miss, ordered, inside, falls}
-use Rattle.streaming.specs.declared.Bearer.{Bearer}
+use Rattle.terminals.specs.declared.Bearer.{Bearer}
 use Rattle.streaming.specs.Tests.{brokenAt, wrongStream, firstBroken}
-use Rattle.streaming.specs.Table.{bearerAt}
+use Rattle.terminals.specs.Table.{bearerAt}
 use Rattle.streaming.specs.Laws.{broken-here}
 use Rattle.streaming.proofs.first_broken.Statement.{statement}
 use Rattle.streaming.proofs.first_broken.Tie as tie

@@ -8,7 +8,7 @@ use borrow.Author.Tests.{eq-eqb, ne-eqb, not-true, not-false}
 use Rattle.ground.specs.Numbers.{byte}
 use Rattle.scan.specs.Want.{isAudio}
 use Rattle.groups.specs.Reading.{straysFrom}
-use Rattle.streaming.specs.declared.Bearer.{Bearer}
+use Rattle.terminals.specs.declared.Bearer.{Bearer}
 use Rattle.streaming.specs.Tests.{describedAt, brokenAt}
 use Rattle.streaming.proofs.is_broken.Statement.{statement}
 use Rattle.streaming.proofs.is_broken.Tie as tie

@@ -13,7 +13,7 @@ use Rattle.cutting.specs.declared.Survey.{Survey}
 use Rattle.connections.specs.declared.Connected.{Connected}
 use Rattle.connections.specs.Judgement.{judged, connectedIn}
 use Rattle.connections.specs.JudgementLaws.{connected-chain}
-use Rattle.streaming.specs.Terminals.{terminalsOf}
+use Rattle.terminals.specs.Terminals.{terminalsOf}
 use Rattle.streaming.specs.Tests.{breach14}
 use Rattle.topology.specs.declared.Finding.{Finding}
 use Rattle.topology.specs.Reading.{clustersAt, countJudged, restJudged, surveyJudged, refusedFinding, findingWith, foundBy, tableJudged, surveyFinding}

@@ -1,0 +1,4 @@
+pub mod Rules
+pub mod Breach
+pub mod OwnIds
+pub mod RuleLaws

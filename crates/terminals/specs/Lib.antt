@@ -1,0 +1,5 @@
+pub mod Terminals
+pub mod Said
+pub mod Bearers
+pub mod Table
+pub mod Standing
