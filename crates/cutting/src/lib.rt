@@ -65,7 +65,7 @@ fn survey_run(config: &[u8], f: Frame) -> Survey
 {
     let header = f.header;
     let from = f.run;
-    let s = groups::stretch(config, 0, f.end);
+    let s = scan::stretch(config, 0, f.end);
     let walk = entities::read_run(s, from);
     let wrong = walk.wrong;
     let verdict = judge_run(walk.run.count, wrong, header);

@@ -30,7 +30,7 @@ use Rattle.entities.specs.Run.{runIn, held}
 use Rattle.cutting.specs.declared.Survey.{Survey}
 use Rattle.cutting.specs.Survey.{surveyOf}
 use Rattle.cutting.specs.Exact.{kept-cutting, kept-run}
-use Rattle.sources.specs.OwnIds.{distinct-ids}
+use Rattle.ids.specs.OwnIds.{distinct-ids}
 use Rattle.clusters.specs.Rules.{Connected}
 use Rattle.clusters.specs.Topology.{clusters-one}
 use Rattle.table.specs.declared.Control.{Control}

@@ -19,7 +19,7 @@ use Rattle.graph.specs.Members.{_∈_}
 use Rattle.channels.specs.Declared.{mostChannels}
 use Rattle.edition.specs.Edition.{ownId, sources}
 use Rattle.edition.specs.Audio.{firstOf, giveOut, Keeps, audio}
-use Rattle.sources.specs.OwnIds.{distinct-ids}
+use Rattle.ids.specs.OwnIds.{distinct-ids}
 use Rattle.clusters.specs.Rules.{entering, Connected}
 use Rattle.clusters.specs.Topology.{source-of}
 use Rattle.sound.specs.Fresh.{Fresh, fresh-empty}
