@@ -8,9 +8,9 @@ use mathlib.Core.List.{List}
 use mathlib.Core.Logic.{_↔_}
 use Rattle.graph.specs.Members.{_∈_}
 use Rattle.edition.specs.Edition.{Edition}
-use Rattle.ids.specs.Rules.{Rule10}
-use Rattle.sources.specs.Rules.{WrongSource, zero-source, unknown, no-output, Rule11}
-use Rattle.clusters.specs.Rules.{Connected}
+use Rattle.ids.specs.Rule10.{Rule10}
+use Rattle.sources.specs.Rule11.{WrongSource, zero-source, unknown, no-output, Rule11}
+use Rattle.clusters.specs.Rule13.{Connected}
 
 abbrev pub SameMembers : List (List ℕ) → List (List ℕ) → Type 0
 SameMembers ds es = (d : List ℕ) → d ∈ ds ↔ d ∈ es

@@ -1,4 +1,4 @@
-pub mod Rules
+pub mod Rule13
 pub mod Breach
 pub mod BreachLaws
 pub mod Topology

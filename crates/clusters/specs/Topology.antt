@@ -47,15 +47,15 @@ use Rattle.entities.specs.declared.Run.{Run}
 use Rattle.entities.specs.Run.{mostEntities, held, nodeAt, idAt, placeAt, sourcesOf, sourcesAt, descriptorOf}
 use Rattle.entities.specs.Represents.{Represents}
 use Rattle.entities.specs.RepresentsLaws.{sound-each-of, breaks-each-of}
-use Rattle.ids.specs.Rules.{Rule10}
-use Rattle.sources.specs.Rules.{Rule11, unknown}
-use Rattle.ids.specs.RuleLaws.{distinct-run}
+use Rattle.ids.specs.Rule10.{Rule10}
+use Rattle.sources.specs.Rule11.{Rule11, unknown}
+use Rattle.ids.specs.Rule10Laws.{distinct-run}
 use Rattle.sources.specs.GraphLaws.{known-run}
-use Rattle.ranks.specs.Rules.{Ranking, Rule12}
+use Rattle.ranks.specs.Rule12.{Ranking, Rule12}
 use Rattle.ranks.specs.Order.{orderIn, ordered}
 use Rattle.ranks.specs.OrderLaws.{ordered-held, ordered-node}
-use Rattle.ranks.specs.RuleLaws.{ranking-run, rule12-ranks}
-use Rattle.clusters.specs.Rules.{entering, GivenOut, Fits, Rule13, Broken, Connected}
+use Rattle.ranks.specs.Rule12Laws.{ranking-run, rule12-ranks}
+use Rattle.clusters.specs.Rule13.{entering, GivenOut, Fits, Rule13, Broken, Connected}
 use Rattle.sweep.specs.Sweep.{givesAt, givenIn, clustersOf}
 use Rattle.clusters.specs.Breach.{givenFor, keepsBy, breach13}
 

@@ -11,7 +11,7 @@ use Rattle.ground.specs.Numbers.{byte}
 use Rattle.ground.specs.Lists.{any, Some, reads-any}
 use Rattle.scan.specs.Cutting.{rest}
 use Rattle.scan.specs.Want.{Audio, Member, isMember, reads-audio, reads-member}
-use Rattle.collection.specs.Rules.{Rule7}
+use Rattle.collection.specs.Rule7.{Rule7}
 use Rattle.collection.specs.Reading.{isDistinct, allKnown, unlisted, collects}
 
 reads-listed : (k : ℕ) (l : List ℕ) → Reads (any (eqb k) l) (List·Memᴰ k l)

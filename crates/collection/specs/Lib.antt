@@ -1,4 +1,4 @@
-pub mod Rules
+pub mod Rule7
 pub mod Reading
 pub mod CollectionLaws
 pub mod Marks

@@ -18,18 +18,18 @@ use Rattle.ground.specs.Rows.{Rows, row, Decides, Answers}
 use Rattle.edition.specs.Audio.{audio}
 use Rattle.entities.specs.declared.Run.{Run}
 use Rattle.entities.specs.Represents.{Represents}
-use Rattle.ids.specs.Rules.{WrongId, Rule10}
-use Rattle.sources.specs.Rules.{WrongSources, Rule11}
+use Rattle.ids.specs.Rule10.{WrongId, Rule10}
+use Rattle.sources.specs.Rule11.{WrongSources, Rule11}
 use Rattle.ids.specs.Breach.{breach10}
 use Rattle.sources.specs.Breach.{breach11}
-use Rattle.ids.specs.RuleLaws.{rule10-nowhere, rule10-at, distinct-run}
-use Rattle.sources.specs.RuleLaws.{rule11-nowhere, rule11-at}
+use Rattle.ids.specs.Rule10Laws.{rule10-nowhere, rule10-at, distinct-run}
+use Rattle.sources.specs.Rule11Laws.{rule11-nowhere, rule11-at}
 use Rattle.sources.specs.GraphLaws.{known-run}
-use Rattle.ranks.specs.Rules.{Endless, Rule12}
+use Rattle.ranks.specs.Rule12.{Endless, Rule12}
 use Rattle.ranks.specs.Order.{ordered}
 use Rattle.ranks.specs.Breach.{breach12}
-use Rattle.ranks.specs.RuleLaws.{rule12-nowhere, rule12-at, rule12-ranks}
-use Rattle.clusters.specs.Rules.{Broken, Rule13, Connected}
+use Rattle.ranks.specs.Rule12Laws.{rule12-nowhere, rule12-at, rule12-ranks}
+use Rattle.clusters.specs.Rule13.{Broken, Rule13, Connected}
 use Rattle.clusters.specs.Breach.{givenFor, breach13}
 use Rattle.clusters.specs.Topology.{rule13-nowhere, rule13-at}
 use Rattle.connections.specs.Judgement.{judged}

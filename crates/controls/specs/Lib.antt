@@ -4,5 +4,5 @@ pub mod Notes
 pub mod Counts
 pub mod Standing
 pub mod Order
-pub mod Rule
+pub mod Rule15
 pub mod Reader

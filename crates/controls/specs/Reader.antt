@@ -38,7 +38,7 @@ use Rattle.controls.specs.Controls.{unitControl, entityControls, control
 use Rattle.controls.specs.Growth.{tableOf}
 use Rattle.controls.specs.Standing.{Carries, feature, selector, Stands, stands-of, control-stands}
 use Rattle.controls.specs.Order.{pairs-at, Before, controls-ordered}
-use Rattle.controls.specs.Rule.{Rule15, before-other, listed-few}
+use Rattle.controls.specs.Rule15.{Rule15, before-other, listed-few}
 
 controls-append : (cluster : ℕ → Cluster) (xs ys : List (List ℕ))
     → controlsOf (xs ++ ys) cluster ≡ controlsOf xs cluster ++ controlsOf ys cluster

@@ -19,16 +19,16 @@ use Rattle.ground.specs.First.{Sound}
 use Rattle.scan.specs.Cutting.{rest}
 use Rattle.scan.specs.CuttingLaws.{cutting-rest}
 use Rattle.scan.specs.Want.{Audio}
-use Rattle.interfaces.specs.Rules.{second-control}
+use Rattle.interfaces.specs.Rules1to4.{second-control}
 use Rattle.interfaces.specs.InterfaceLaws.{nine}
-use Rattle.collection.specs.Rules.{Rule7}
+use Rattle.collection.specs.Rule7.{Rule7}
 use Rattle.collection.specs.Reading.{collects}
 use Rattle.collection.specs.CollectionLaws.{reads-rule7}
-use Rattle.groups.specs.Rules.{Rule5, listedOf, Rule6}
+use Rattle.groups.specs.Rules5and6.{Rule5, listedOf, Rule6}
 use Rattle.groups.specs.Reading.{frameOf, frameFrom, headerOf, isHeader, straysFrom}
 use Rattle.groups.specs.FrameLaws.{Framed, framed, header-told, header-room, reads-rule5}
 use Rattle.groups.specs.TotalLaws.{reads-rule6, rule6-run}
-use Rattle.cutting.specs.Rules.{Opened, headerPlace}
+use Rattle.cutting.specs.Rules1to9.{Opened, headerPlace}
 use Rattle.cutting.specs.Survey.{runOf}
 
 module _ (s : List ℕ) (o : Opened s) where

@@ -29,14 +29,14 @@ use Rattle.layout.specs.Layout.{LaidOut, entityOf, isUnknown}
 use Rattle.layout.specs.LayoutLaws.{reads-unknown, laid-out}
 use Rattle.edition.specs.Audio.{audio}
 use Rattle.entities.specs.Run.{mostEntities}
-use Rattle.interfaces.specs.Rules.{mostBytes, Rule1, Rule2, Rule4, Broken4}
+use Rattle.interfaces.specs.Rules1to4.{mostBytes, Rule1, Rule2, Rule4, Broken4}
 use Rattle.interfaces.specs.Reading.{breach1, breach2, breach4, interfacesJudged}
 use Rattle.interfaces.specs.InterfaceLaws.{rule4-kept, rule4-broken}
-use Rattle.collection.specs.Rules.{Rule7}
-use Rattle.groups.specs.Rules.{Rule5, listedOf, Rule6}
+use Rattle.collection.specs.Rule7.{Rule7}
+use Rattle.groups.specs.Rules5and6.{Rule5, listedOf, Rule6}
 use Rattle.groups.specs.Reading.{frameOf, breach5, breach6, breach7, groupJudged, judged, headerOf}
 use Rattle.groups.specs.FrameLaws.{Framed, framed}
-use Rattle.cutting.specs.Rules.{Rule8, Rule9, Opened, headerPlace, Opening, opened, Kept, groupRows, cuttingRows}
+use Rattle.cutting.specs.Rules1to9.{Rule8, Rule9, Opened, headerPlace, Opening, opened, Kept, groupRows, cuttingRows}
 use Rattle.cutting.specs.Survey.{runOf, breach8, breach9, runJudged, verdictThen, verdict}
 use Rattle.cutting.specs.Context.{cut-told, header-place, rule5-reads, header-is, run-place, rule6-reads, rule7-reads, run-is}
 

@@ -1,4 +1,4 @@
-pub mod Rules
+pub mod Rules1to9
 pub mod Survey
 pub mod Verdict
 pub mod Context

@@ -18,7 +18,7 @@ use Rattle.request.specs.Outcome.{Outcome, numberOf, answerOf}
 use Rattle.request.specs.Outcome.Outcome.{refused, got, done}
 use Rattle.request.specs.Load.{loadOf}
 use Rattle.request.specs.Request.{requestOf}
-use Rattle.runs.specs.Rows.{requestRows, loadRows}
+use Rattle.runs.specs.RequestRows.{requestRows, loadRows}
 use Rattle.runs.proofs.Rows.{request-rows, load-rows}
 use Rattle.runs.proofs.Refusals.{refused-keeps}
 use Rattle.demands.specs.Demand1.{RefusedReading, RefusedAnswer, Demand1}

@@ -25,7 +25,7 @@ use Rattle.request.specs.declared.Answer.{Answer}
 use Rattle.request.specs.Outcome.{answerOf, Answered}
 use Rattle.request.specs.Load.{loadOf}
 use Rattle.request.specs.Request.{requestOf}
-use Rattle.runs.specs.Rows.{requestRows, loadRows}
+use Rattle.runs.specs.RequestRows.{requestRows, loadRows}
 
 pub record RefusedReading (s d : List ℕ) : Type 0 where
   pub named : Refused s (length d) (readingOf s (length d) .number) (readingOf s (length d) .place)

@@ -23,7 +23,7 @@ use Rattle.request.specs.Outcome.{numberOf, bytesOf}
 use Rattle.request.specs.Plugged.{PluggedIn}
 use Rattle.runs.specs.Runs.{Step, stepOf, next, after, stepKey, rangesIn, numbersIn, told, Bytes, Wired}
 use Rattle.runs.specs.Runs.Step.{load, request}
-use Rattle.runs.specs.Rows.{stepRows}
+use Rattle.runs.specs.RequestRows.{stepRows}
 use Rattle.runs.specs.Promises.{GetGiven, SetStored, LoadStored, Alone, Moved, Answers}
 
 module _ (st : State) (run : List Step) where

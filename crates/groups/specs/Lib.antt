@@ -1,4 +1,4 @@
-pub mod Rules
+pub mod Rules5and6
 pub mod Reading
 pub mod Opening
 pub mod FrameLaws

@@ -9,7 +9,7 @@ use native.Mathlib.Omega.{arith}
 use Rattle.ground.specs.Pick.{Reads, reads-same, reads-eq, reads-and}
 use Rattle.ground.specs.Numbers.{byte}
 use Rattle.scan.specs.CuttingLaws.{byte-inside}
-use Rattle.groups.specs.Rules.{Opening, Header}
+use Rattle.groups.specs.Rules5and6.{Opening, Header}
 use Rattle.groups.specs.Reading.{opens, isHeader}
 
 abbrev FourBytes : List ℕ → Type 0

@@ -31,7 +31,7 @@ use Rattle.scan.specs.Want.{foundFrom}
 use Rattle.scan.specs.declared.Want.the-variants as want
 use Rattle.interfaces.specs.Reading.{controlAt, interfacesJudged}
 use Rattle.collection.specs.Reading.{collects}
-use Rattle.groups.specs.Rules.{listedOf}
+use Rattle.groups.specs.Rules5and6.{listedOf}
 use Rattle.groups.specs.declared.Frame.{Frame}
 use Rattle.groups.specs.declared.Framing.{Framing}
 

@@ -23,7 +23,7 @@ use Rattle.scan.specs.CuttingLaws.{rest-none, rest-more, end-off}
 use Rattle.scan.specs.Want.{Interface, Class, isClass, reads-interface, reads-class, wants, foundFrom}
 use Rattle.scan.specs.Found.{Found, found, found-none, rest-split, rest-front}
 use Rattle.scan.specs.declared.Want.the-variants as want
-use Rattle.groups.specs.Rules.{GroupEnds, last, next, Rule6}
+use Rattle.groups.specs.Rules5and6.{GroupEnds, last, next, Rule6}
 use Rattle.groups.specs.Reading.{runEnd, straysFrom}
 
 -- neither of type 24 nor an interface descriptor: the group's other descriptors

@@ -1,4 +1,4 @@
-pub mod Rules
+pub mod Rule10
 pub mod Breach
 pub mod OwnIds
-pub mod RuleLaws
+pub mod Rule10Laws

@@ -17,7 +17,7 @@ use Rattle.ground.specs.First.{Sound}
 use Rattle.ground.specs.Indexed.{sound-index}
 use Rattle.graph.specs.Members.{_∈_}
 use Rattle.edition.specs.Edition.{ownId, DistinctIds}
-use Rattle.ids.specs.Rules.{WrongId, Rule10}
+use Rattle.ids.specs.Rule10.{WrongId, Rule10}
 
 pub earlier : (ds : List (List ℕ)) (i j : ℕ) → j < i → i ≤ length ds → getD ds j [] ∈ take i ds
 earlier ds i j h l =

@@ -1,4 +1,4 @@
-pub mod Rules
+pub mod Rules1to4
 pub mod Reading
 pub mod InterfaceLaws
 pub mod Pairs

@@ -23,7 +23,7 @@ use Rattle.scan.specs.Cutting.{rest, breach3}
 use Rattle.scan.specs.Search.{searched}
 use Rattle.scan.specs.Want.{isInterface, isAudio, isSetting, foundFrom}
 use Rattle.scan.specs.declared.Want.the-variants as want
-use Rattle.interfaces.specs.Rules.{mostBytes}
+use Rattle.interfaces.specs.Rules1to4.{mostBytes}
 use Rattle.interfaces.specs.declared.Location.{Location}
 
 unfoldable pub breach1 : List ℕ → Place

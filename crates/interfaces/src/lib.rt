@@ -13,7 +13,7 @@ ghost use Rattle.scan.specs.Want.{isInterface, isAudio};
 ghost use Rattle.interfaces.specs.Reading.{breach1, breach2, breach4, wrongInterface, unlocated, locationOf};
 ghost use Rattle.interfaces.specs.Tops.{controlBefore, Tops, Repeats, Looked, Interfaced};
 ghost use Rattle.interfaces.specs.Pairs.{mostInterfaces, Pair, Noted, Pairs};
-ghost use Rattle.interfaces.specs.Rules.{mostBytes};
+ghost use Rattle.interfaces.specs.Rules1to4.{mostBytes};
 use ground::Place;
 use ground::Refusal;
 use ground::index_of;

@@ -1,8 +1,8 @@
-pub mod Rules
+pub mod Rule12
 pub mod Order
 pub mod Breach
 pub mod Spare
 pub mod OrderLaws
 pub mod Marks
 pub mod Ordering
-pub mod RuleLaws
+pub mod Rule12Laws

@@ -26,24 +26,24 @@ use Rattle.entities.specs.Run.{held, placeAt}
 use Rattle.entities.specs.Represents.{Represents}
 use Rattle.entities.specs.RepresentsLaws.{breaks-of, places-rise}
 use Rattle.cutting.specs.declared.Survey.{Survey}
-use Rattle.cutting.specs.Rules.{headerPlace, Kept, BrokenAt, cuttingRows}
+use Rattle.cutting.specs.Rules1to9.{headerPlace, Kept, BrokenAt, cuttingRows}
 use Rattle.cutting.specs.Survey.{surveyOf}
 use Rattle.cutting.specs.Exact.{cutting-answers, cutting-numbered, all-nine, nine-kept}
-use Rattle.ids.specs.Rules.{Rule10}
-use Rattle.sources.specs.Rules.{Rule11}
+use Rattle.ids.specs.Rule10.{Rule10}
+use Rattle.sources.specs.Rule11.{Rule11}
 use Rattle.ids.specs.OwnIds.{own-ids, distinct-ids}
-use Rattle.ranks.specs.Rules.{Rule12}
-use Rattle.clusters.specs.Rules.{Rule13, Connected}
+use Rattle.ranks.specs.Rule12.{Rule12}
+use Rattle.clusters.specs.Rule13.{Rule13, Connected}
 use Rattle.clusters.specs.Topology.{clusters-shown}
 use Rattle.connections.specs.JudgementLaws.{connectedRows, connected-with, connected-kept, judged-answers}
-use Rattle.streaming.specs.Rule.{Breaks14}
+use Rattle.streaming.specs.Rule14.{Breaks14}
 use Rattle.terminals.specs.Terminals.{terminalsOf}
 use Rattle.streaming.specs.Tests.{breach14}
 use Rattle.terminals.specs.Standing.{terminals-are, one-each}
 use Rattle.streaming.specs.Breaches.{rule14-kept, rule14-broken}
 use Rattle.controls.specs.Controls.{controlsOf, controlsOfRun, breach15}
 use Rattle.controls.specs.Growth.{tableOf}
-use Rattle.controls.specs.Rule.{rule15-kept, rule15-broken}
+use Rattle.controls.specs.Rule15.{rule15-kept, rule15-broken}
 use Rattle.controls.specs.Reader.{controls-same}
 use Rattle.records.specs.Records.{recordSize, roomFor}
 use Rattle.topology.specs.Reading.{clustersAt, tableFor, restJudged, surveyJudged, judgedThen, roomJudged, verdictOf}

@@ -31,7 +31,7 @@ use Rattle.cutting.specs.declared.Survey.{Survey}
 use Rattle.cutting.specs.Survey.{surveyOf}
 use Rattle.cutting.specs.Exact.{kept-cutting, kept-run}
 use Rattle.ids.specs.OwnIds.{distinct-ids}
-use Rattle.clusters.specs.Rules.{Connected}
+use Rattle.clusters.specs.Rule13.{Connected}
 use Rattle.clusters.specs.Topology.{clusters-one}
 use Rattle.table.specs.declared.Control.{Control}
 use Rattle.table.specs.Controls.{at}

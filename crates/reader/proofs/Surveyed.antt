@@ -27,7 +27,7 @@ use Rattle.entities.specs.RepresentsLaws.{run-represents}
 use Rattle.interfaces.specs.InterfaceLaws.{nine}
 use Rattle.groups.specs.Reading.{frameOf}
 use Rattle.cutting.specs.declared.Survey.{Survey}
-use Rattle.cutting.specs.Rules.{headerPlace, Kept}
+use Rattle.cutting.specs.Rules1to9.{headerPlace, Kept}
 use Rattle.cutting.specs.Survey.{runOf, surveyed, surveyOf}
 use Rattle.cutting.specs.Context.{cut-told, frame-told, header-place, run-place, run-is}
 use Rattle.cutting.specs.Exact.{verdict-kept}

@@ -20,7 +20,7 @@ use Rattle.channels.specs.Declared.{mostChannels}
 use Rattle.edition.specs.Edition.{ownId, sources}
 use Rattle.edition.specs.Audio.{firstOf, giveOut, Keeps, audio}
 use Rattle.ids.specs.OwnIds.{distinct-ids}
-use Rattle.clusters.specs.Rules.{entering, Connected}
+use Rattle.clusters.specs.Rule13.{entering, Connected}
 use Rattle.clusters.specs.Topology.{source-of}
 use Rattle.sound.specs.Fresh.{Fresh, fresh-empty}
 use Rattle.controls.specs.Growth.{tableOf}

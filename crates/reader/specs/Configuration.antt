@@ -1,6 +1,6 @@
 -- Demand 3, what there must be: "there exist a cutting into descriptors, a rank on each entity, lower at a source than at its user, and a
 -- channel cluster on each entity's output, that keep every rule of document 01, written without the reader's search."
---   Connected audio ds  ==  (clusters/specs/Rules) the rules 10 to 13: right IDs and sources, a rank on each entity, lower at a source
+--   Connected audio ds  ==  (clusters/specs/Rule13) the rules 10 to 13: right IDs and sources, a rank on each entity, lower at a source
 --                           than at its user, and a cluster on each entity's output, given out by the rules, that keep every rule
 --   runOf k             ==  the descriptors of the run, in a configuration that keeps the rules 1 to 9
 --   placeOfRun k        ==  where the run begins: behind the header
@@ -13,10 +13,10 @@ use mathlib.Core.List.{List}
 use lib.ListN.{length}
 use Rattle.layout.specs.declared.Cluster.{Cluster}
 use Rattle.edition.specs.Audio.{audio}
-use Rattle.cutting.specs.Rules.{headerPlace, Kept}
-use Rattle.clusters.specs.Rules.{Connected}
-use Rattle.streaming.specs.Rule.{Rule14}
-use Rattle.controls.specs.Rule.{Rule15}
+use Rattle.cutting.specs.Rules1to9.{headerPlace, Kept}
+use Rattle.clusters.specs.Rule13.{Connected}
+use Rattle.streaming.specs.Rule14.{Rule14}
+use Rattle.controls.specs.Rule15.{Rule15}
 use Rattle.records.specs.Records.{recordSize}
 
 abbrev pub runOf : {s : List ℕ} → Kept s → List (List ℕ)

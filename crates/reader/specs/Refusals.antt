@@ -8,9 +8,9 @@ use Prim.Native.Nat.{ℕ}
 use mathlib.Core.List.{List}
 use Rattle.ground.specs.Rows.{Rows, end, row, FirstBroken}
 use Rattle.layout.specs.declared.Cluster.{Cluster}
-use Rattle.cutting.specs.Rules.{headerPlace, Kept, BrokenAt, cuttingRows}
+use Rattle.cutting.specs.Rules1to9.{headerPlace, Kept, BrokenAt, cuttingRows}
 use Rattle.connections.specs.JudgementLaws.{connectedRows}
-use Rattle.streaming.specs.Rule.{Breaks14}
+use Rattle.streaming.specs.Rule14.{Breaks14}
 use Rattle.reader.specs.Configuration.{runOf, placeOfRun, Streams, FewControls, Configuration, Rule16}
 
 module _ {s : List ℕ} (k : Kept s) where

@@ -48,7 +48,7 @@ use Rattle.request.specs.Outcome.Outcome.{refused}
 use Rattle.request.specs.Addressed.{placesOf, addressedIn, outcomeAt}
 use Rattle.request.specs.Load.{loadAt, loadOf}
 use Rattle.request.specs.Request.{elsewhereBy, barredBy, doingOf, doneAt, answerAsked, requestOf}
-use Rattle.runs.specs.Rows.{Row, given as is-given, passed, NoRow, Owned, Rising, none as no-more, more, Addressed, Along, HasRange, Unloaded, Outside, Beyond, first, later, RangedThere, InRange, lastRows, controlRows, addressedRows, askedRows, requestRows, loadRows, stepRows}
+use Rattle.runs.specs.RequestRows.{Row, given as is-given, passed, NoRow, Owned, Rising, none as no-more, more, Addressed, Along, HasRange, Unloaded, Outside, Beyond, first, later, RangedThere, InRange, lastRows, controlRows, addressedRows, askedRows, requestRows, loadRows, stepRows}
 use Rattle.runs.specs.Runs.{namedBy, Step, stepOf}
 use Rattle.runs.specs.Runs.Step.{load, request}
 use Rattle.runs.proofs.Kept.{found-stands, none-stands, stands-one}

@@ -15,8 +15,8 @@ use Rattle.entities.specs.declared.Run.{Run}
 use Rattle.entities.specs.Run.{held, idAt, sourcesAt}
 use Rattle.entities.specs.Represents.{Represents}
 use Rattle.ids.specs.Breach.{bears}
-use Rattle.ids.specs.RuleLaws.{inside, borne-at}
-use Rattle.sources.specs.Rules.{WrongSource, unknown, Rule11}
+use Rattle.ids.specs.Rule10Laws.{inside, borne-at}
+use Rattle.sources.specs.Rule11.{WrongSource, unknown, Rule11}
 
 module _ {ed : Edition} {s : List ℕ} {p : ℕ} {ds : List (List ℕ)} {run : Run} (k : Represents ed s p ds run) where
   pub known-run : Rule11 ed ds → Known (idAt run) (sourcesAt s run) (held run)

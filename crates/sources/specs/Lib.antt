@@ -1,6 +1,6 @@
-pub mod Rules
+pub mod Rule11
 pub mod Lookup
 pub mod Breach
 pub mod LookupLaws
-pub mod RuleLaws
+pub mod Rule11Laws
 pub mod GraphLaws

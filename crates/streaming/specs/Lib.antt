@@ -1,4 +1,4 @@
-pub mod Rule
+pub mod Rule14
 pub mod Tests
 pub mod Laws
 pub mod Sentences

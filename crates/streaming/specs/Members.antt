@@ -13,7 +13,7 @@ use native.Mathlib.Omega.{arith}
 use Rattle.ground.specs.Pick.{pick, yes, no, Reads, shows, refutes, true≠false}
 use Rattle.ground.specs.Lists.{Some}
 use Rattle.scan.specs.Want.{Interface, Class, isInterface, isClass, reads-interface, reads-class}
-use Rattle.groups.specs.Rules.{GroupEnds, last, next}
+use Rattle.groups.specs.Rules5and6.{GroupEnds, last, next}
 use Rattle.streaming.specs.Tests.{holdsClass}
 
 unfoldable pub membersOf : List (List ℕ) → List (List ℕ)

@@ -15,7 +15,7 @@ use Rattle.terminals.specs.declared.Bearer.the-variants as bearer
 use Rattle.terminals.specs.Terminals.{Terminal, bearerIn, terminalNumber, channelsOf, OneEach}
 use Rattle.terminals.specs.Said.{AreAll}
 use Rattle.terminals.specs.Bearers.{Bears, nothing, to, bears, bearer-one, reads-number}
-use Rattle.streaming.specs.Rule.{Described}
+use Rattle.streaming.specs.Rule14.{Described}
 use Rattle.streaming.specs.Tests.{bearerRight, describedBy}
 
 pub reads-described : (ts : List Terminal) {run : List (List ℕ)} {cluster : ℕ → Cluster} → AreAll run cluster ts → OneEach ts → (g f : List ℕ) → Reads (describedBy (bearerIn ts) g f) (Described run cluster g f)

@@ -15,7 +15,7 @@ use Rattle.ground.specs.Lists.{part}
 use Rattle.ground.specs.Refuse.{none, refuse, refuse-at, refuse-on}
 use Rattle.collection.specs.Reading.{collects}
 use Rattle.groups.specs.declared.Frame.{Frame}
-use Rattle.groups.specs.Rules.{listedOf}
+use Rattle.groups.specs.Rules5and6.{listedOf}
 use Rattle.groups.specs.Reading.{breach5, breach6, breach7, headerOf, isHeader, straysFrom, groupJudged}
 use Rattle.groups.proofs.judge_group.Statement.{statement}
 use Rattle.groups.proofs.judge_group.Tie as tie

@@ -16,7 +16,7 @@ use Rattle.ground.specs.Numbers.{byte, word}
 use Rattle.ground.specs.Lists.{total}
 use Rattle.scan.specs.Want.{Interface, Class, Audio}
 use Rattle.layout.specs.declared.Cluster.{Cluster}
-use Rattle.groups.specs.Rules.{GroupEnds}
+use Rattle.groups.specs.Rules5and6.{GroupEnds}
 use Rattle.formats.specs.Formats.{General, Format, TypeOne}
 use Rattle.terminals.specs.Terminals.{Terminal}
 use Rattle.terminals.specs.Said.{IsTerminal}

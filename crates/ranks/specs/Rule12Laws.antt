@@ -30,8 +30,8 @@ use Rattle.entities.specs.declared.Run.{Run}
 use Rattle.entities.specs.Run.{mostEntities, held, idAt, placeAt, sourcesAt}
 use Rattle.entities.specs.Represents.{Represents}
 use Rattle.entities.specs.RepresentsLaws.{sound-each-of, breaks-each-of}
-use Rattle.ranks.specs.Rules.{mostSteps, Upstream, Endless, Rule12, Ranking}
-use Rattle.ranks.specs.Rules as rules
+use Rattle.ranks.specs.Rule12.{mostSteps, Upstream, Endless, Rule12, Ranking}
+use Rattle.ranks.specs.Rule12 as rules
 use Rattle.ranks.specs.Order.{orderIn, ordered}
 use Rattle.ranks.specs.OrderLaws.{ordered-ids}
 use Rattle.ranks.specs.Breach.{idsOf, breach12}

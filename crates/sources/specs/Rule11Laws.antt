@@ -23,13 +23,13 @@ use Rattle.entities.specs.declared.Run.{Run}
 use Rattle.entities.specs.Run.{held, placeAt, feedsAt, sourcesAt}
 use Rattle.entities.specs.Represents.{Represents}
 use Rattle.entities.specs.RepresentsLaws.{sound-each-of, breaks-each-of}
-use Rattle.ids.specs.Rules.{Rule10}
+use Rattle.ids.specs.Rule10.{Rule10}
 use Rattle.ids.specs.Breach.{bears}
 use Rattle.ids.specs.OwnIds.{own-one}
-use Rattle.ids.specs.RuleLaws.{inside, borne-at}
+use Rattle.ids.specs.Rule10Laws.{inside, borne-at}
 use Rattle.sources.specs.declared.Found.{Found}
 use Rattle.sources.specs.declared.Found.the-variants.{Nothing, Entity}
-use Rattle.sources.specs.Rules.{WrongSource, zero-source, unknown, no-output, WrongSources, Rule11}
+use Rattle.sources.specs.Rule11.{WrongSource, zero-source, unknown, no-output, WrongSources, Rule11}
 use Rattle.sources.specs.Lookup.{lookupBelow, sourceNumber}
 use Rattle.sources.specs.Breach.{refuses, wrongSource, breach11}
 use Rattle.sources.specs.LookupLaws.{entity-refuses}

@@ -12,9 +12,9 @@ use mathlib.Core.Path.{_≡_}
 use mathlib.Core.List.{List, map}
 use Rattle.graph.specs.Members.{_∈_}
 use Rattle.edition.specs.Edition.{Edition, ownId, sources}
-use Rattle.ids.specs.Rules.{Rule10}
-use Rattle.sources.specs.Rules.{Rule11}
-use Rattle.ranks.specs.Rules.{Ranking}
+use Rattle.ids.specs.Rule10.{Rule10}
+use Rattle.sources.specs.Rule11.{Rule11}
+use Rattle.ranks.specs.Rule12.{Ranking}
 
 module _ (ed : Edition) where
   abbrev pub entering : (ℕ → ed .Cluster) → List ℕ → List (ed .Cluster)

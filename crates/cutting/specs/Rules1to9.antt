@@ -21,9 +21,9 @@ use Rattle.graph.specs.Members.{_∈_}
 use Rattle.edition.specs.Edition.{Edition}
 use Rattle.edition.specs.Audio.{audio}
 use Rattle.entities.specs.Run.{mostEntities}
-use Rattle.interfaces.specs.Rules.{Rule1, Rule2, Rule4, Broken4}
-use Rattle.collection.specs.Rules.{Rule7}
-use Rattle.groups.specs.Rules.{Rule5, listedOf, Rule6}
+use Rattle.interfaces.specs.Rules1to4.{Rule1, Rule2, Rule4, Broken4}
+use Rattle.collection.specs.Rule7.{Rule7}
+use Rattle.groups.specs.Rules5and6.{Rule5, listedOf, Rule6}
 
 abbrev pub Rule8 : List (List ℕ) → Type 0
 Rule8 run = (1 ≤ length run) × (length run ≤ mostEntities)

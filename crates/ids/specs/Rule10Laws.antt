@@ -25,7 +25,7 @@ use Rattle.entities.specs.declared.Run.{Run}
 use Rattle.entities.specs.Run.{held, idAt, placeAt}
 use Rattle.entities.specs.Represents.{Represents}
 use Rattle.entities.specs.RepresentsLaws.{sound-of, breaks-of}
-use Rattle.ids.specs.Rules.{WrongId, Rule10}
+use Rattle.ids.specs.Rule10.{WrongId, Rule10}
 use Rattle.ids.specs.Breach.{bears, wrongId, breach10}
 use Rattle.ids.specs.OwnIds.{earlier, own-ids}
 
