@@ -1,6 +1,7 @@
 -- Demand 2: "Reading equals the Audio 1.0 class definition as document 01 narrows it. After every run of loads and requests each answer is
 -- the one its definition gives: a Get returns the addressed control, an accepted Set stores the closest available setting (silence as
 -- itself), and changes that control alone." What the reading is stands in Demand3; here are the runs that begin with a plug-in.
+--   now-is st run   ==  the state that the run leaves; Accepted st run step: the next step is accepted in it
 --   EveryRun st run ==  what is true of every run of loads and requests from the state st. Refusal 30 has nothing against the table it
 --                       leaves. Of the next step: it has the number of the first row of the papers' table that applies, 0 where none
 --                       does; an accepted Get returns the addressed control; an accepted Set stores the closest available setting of

@@ -6,6 +6,7 @@
 --   ReadersTurnedAway        ==  none of the wrong readers is such
 --   getMute, setMute, reply  ==  mute of case A's Feature Unit, on the master channel: a Get of CUR, a Set; a reply of one byte
 --   Responds answers leaves  ==  these answer as the request's contract says, and leave the reply so
+--   next st x, told st       ==  of such: the state after a Set of mute to x; what a Get of mute leaves in the reply
 --   caseState                ==  the state that case A leaves
 --   RespondersTurnedAway     ==  none of the wrong responders is such (stores-first is told of one control and two Sets; that every
 --                                accepted Set of every run is stored is Demand2's)

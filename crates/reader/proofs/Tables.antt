@@ -1,7 +1,7 @@
 -- The table that the reader answers is as document 01 has it before any load.
 --   few-channels   ==  a cluster that keeps the rules has at most 16 channels, on every entity's output
 --   reader-table   ==  so is the reader's table, whatever the configuration and the sheet: first values, nothing loaded, spare places
---                      zero; refusal 30 has nothing against it (`fresh-sound`, of crate table)
+--                      zero; refusal 30 has nothing against it (`fresh-sound`, of crate sound)
 use Prim.Native.Nat.{ℕ, zero, suc, _≤_, _<_, zero-le}
 use mathlib.Core.Path.{_≡_, refl, sym, ap, subst}
 use mathlib.Core.List.{List, [], _∷_, map, List·Memᴰ·head}

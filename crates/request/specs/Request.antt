@@ -15,7 +15,7 @@ use Rattle.ground.specs.Pick.{pick}
 use Rattle.table.specs.declared.Control.{Control}
 use Rattle.table.specs.declared.Table.{Table}
 use Rattle.table.specs.Controls.{at}
-use Rattle.address.specs.LookedUp.{unitIn}
+use Rattle.address.specs.LookedUp.{unitIn, missingBy, lookupNumber}
 use Rattle.sound.specs.Sound.{soundOf}
 use Rattle.setup.specs.declared.Target.{Target}
 use Rattle.setup.specs.declared.Asked.{Asked}
@@ -38,7 +38,7 @@ barredBy (asks.Set g) m = elsewhereBy g m
 barredBy (asks.Get part g) m = elsewhereBy g m
 
 abbrev pub missedBy : Table → ℕ → ℕ
-missedBy t u = pick (unitIn t u) 34 33
+missedBy t u = lookupNumber (missingBy (unitIn t u))
 
 unfoldable pub lostBy : Asked → ℕ → ℕ → ℕ
 lostBy k m n = pick (eqb (barredBy k m) 0) n (barredBy k m)

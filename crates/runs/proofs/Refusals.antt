@@ -26,7 +26,7 @@ use Rattle.table.specs.declared.Sense.{Sense}
 use Rattle.table.specs.declared.Sense.the-variants.{Unknown, YesNo, Ranged, Pin}
 use Rattle.table.specs.Controls.{at, senseOf}
 use Rattle.table.specs.Keys.{Key}
-use Rattle.address.specs.LookedUp.{unitIn}
+use Rattle.address.specs.LookedUp.{unitIn, missingBy, lookupNumber}
 use Rattle.sound.specs.Sound.{soundOf}
 use Rattle.setup.specs.declared.Target.{Target}
 use Rattle.setup.specs.declared.Part.{Part}
@@ -131,7 +131,7 @@ doing-numbers (asks.Set g) d room cs = set-numbers cs (g .bytes) d
 doing-numbers (asks.Get part g) d room cs = get-numbers part cs (g .bytes) room
 
 -- where no control is addressed, one of 33 and 34
-missed-numbers : (b : Bool) → RequestNumber (pick b 34 33)
+missed-numbers : (b : Bool) → RequestNumber (lookupNumber (missingBy b))
 missed-numbers true = number 34 (omega arith) (omega arith)
 missed-numbers false = number 33 (omega arith) (omega arith)
 

@@ -14,8 +14,8 @@
 --   RangedThere t k          ==  the control of the key k is in the table, and it is ranged
 --   InRange s range w        ==  range is legal for a control with selector s, and no number too wide
 --   WrongLength s d cs       ==  wLength is not the size of the controls, or it is a Set whose data d are not that long
---   requestRows st s d room  ==  rows 30 to 39, for the setup s, the data d and a reply of room bytes: 30 to 33, then addressedRows (34 to
---                                37) and lastRows (38, 39) of the addressed controls
+--   requestRows st s d room  ==  rows 30 to 39, for the setup s, the data d and a reply of room bytes: 30, askedRows (31 to 33), and of the
+--                                addressed controls addressedRows (34), controlRows (35 to 37) and lastRows (38, 39)
 --   loadRows st k range w    ==  rows 30, 20 and 21
 --   stepRows st step         ==  those of the two that the step is tried against
 use Prim.Native.Nat.{ℕ, _≤_, _<_}

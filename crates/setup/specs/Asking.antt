@@ -2,10 +2,8 @@
 --   Asking s k             ==  the bytes of the setup s ask k: nothing, a Set, or a Get of a part
 --   asking                 ==  what is read is asked so
 --   set-no-get             ==  no setup asks both; reads-set: the test of a Set decides
---   set-bytes, get-bytes   ==  a setup that is read as a Set, or as a Get of a part, has the type and the request of that, and what it
---                              is about is what its bytes name
 use Prim.Native.Nat.{ℕ}
-use mathlib.Core.Path.{_≡_, refl, ap, _∙_}
+use mathlib.Core.Path.{_≡_, refl}
 use mathlib.Core.List.{List}
 use mathlib.Core.Bool.{Bool, true, false}
 use mathlib.Core.Logic.{⊎-elim}
@@ -14,7 +12,6 @@ use lib.Dec.{eqb, leb}
 use lib.ListN.{length}
 use Rattle.ground.specs.Pick.{pick, Reads, reads-and, reads-eq, reads-le}
 use Rattle.ground.specs.Numbers.{byte}
-use Rattle.setup.specs.declared.Target.{Target}
 use Rattle.setup.specs.declared.Part.{Part}
 use Rattle.setup.specs.declared.Part.the-variants.{Cur, Min, Max, Res}
 use Rattle.setup.specs.declared.Asked.{Asked}
@@ -83,21 +80,3 @@ asking s = go (eqb (length s) 8) (reads-eq (length s) 8)
     go : (x : Bool) → Reads x (length s ≡ 8) → Asking s (pick x (askedBy (targetOf s) (byte s 0) (byte s 1)) asks.Unknown)
     go true r = asking-by s (r .says refl)
     go false r = none (λ w. r .denies refl (w .0))
-
--- what a setup asks is said by its bytes
-module _ (s : List ℕ) (g : Target) where
-  pub set-bytes : askedOf s ≡ asks.Set g → AsksSet s × (g ≡ targetOf s)
-  set-bytes e = go (askedOf s) (asking s) e
-    where
-      go : (k : Asked) → Asking s k → k ≡ asks.Set g → AsksSet s × (g ≡ targetOf s)
-      go _ (none w) e = absurd (let z : _≡_ {A = ℕ} 0 1 = cc in omega arith)
-      go _ (sets l a) e = (a, let q : g ≡ targetOf s = cc in q)
-      go _ (gets part l a c) e = absurd (let z : _≡_ {A = ℕ} 0 1 = cc in omega arith)
-
-  pub get-bytes : (part : Part) → askedOf s ≡ asks.Get part g → AsksGet s × ((byte s 1 ≡ codeOf part) × (g ≡ targetOf s))
-  get-bytes part e = go (askedOf s) (asking s) e
-    where
-      go : (k : Asked) → Asking s k → k ≡ asks.Get part g → AsksGet s × ((byte s 1 ≡ codeOf part) × (g ≡ targetOf s))
-      go _ (none w) e = absurd (let z : _≡_ {A = ℕ} 0 1 = cc in omega arith)
-      go _ (sets l a) e = absurd (let z : _≡_ {A = ℕ} 0 1 = cc in omega arith)
-      go _ (gets p l a c) e = let i : p ≡ part = cc in (a, (c ∙ ap codeOf i, let q : g ≡ targetOf s = cc in q))
