@@ -1,2 +1,3 @@
 pub mod LookedUp
+pub mod Addressed
 pub mod Sought

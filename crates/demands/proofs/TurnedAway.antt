@@ -23,10 +23,10 @@ use Rattle.reader.specs.Configuration.{Configuration}
 use Rattle.request.specs.declared.State.{State}
 use Rattle.request.specs.declared.Answer.{Answer}
 use Rattle.request.specs.Outcome.{numberOf, bytesOf, stateAfter, answerOf}
-use Rattle.request.specs.Addressed.{storedAt}
+use Rattle.request.specs.Stored.{storedAt}
 use Rattle.request.specs.Request.{elsewhereBy, doneAt, answerAsked, requestOf}
 use Rattle.demands.specs.Cases.{caseA, caseB, lent, caseTable}
-use Rattle.demands.specs.TurnedAway.{Reads, ReadersTurnedAway, getMute, setMute, reply, caseState, Responds, next, told, RespondersTurnedAway}
+use Rattle.demands.specs.TurnedAway.{Reads, ReadersTurnedAway, getMute, setMute, reply, caseState, Responds, afterSet, muteTold, RespondersTurnedAway}
 use Rattle.demands.proofs.Cases.{printed-a, answer-b}
 use Rattle.demands.proofs.Demand3.{demand-3}
 
@@ -75,10 +75,10 @@ mutes = record { answered = refl; one-set = refl; two-sets = refl }
 
 module _ (answers : State → List ℕ → List ℕ → List ℕ → Answer) (leaves : State → List ℕ → List ℕ → List ℕ → List ℕ) where
   abbrev after-set : State → ℕ → State
-  after-set = next answers leaves
+  after-set = afterSet answers leaves
 
   abbrev heard : State → List ℕ
-  heard = told answers leaves
+  heard = muteTold answers leaves
 
   pub responders-turned-away : Responds answers leaves → RespondersTurnedAway answers leaves
   unfolding answerOf

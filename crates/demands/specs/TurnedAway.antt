@@ -6,7 +6,7 @@
 --   ReadersTurnedAway        ==  none of the wrong readers is such
 --   getMute, setMute, reply  ==  mute of case A's Feature Unit, on the master channel: a Get of CUR, a Set; a reply of one byte
 --   Responds answers leaves  ==  these answer as the request's contract says, and leave the reply so
---   next st x, told st       ==  of such: the state after a Set of mute to x; what a Get of mute leaves in the reply
+--   afterSet st x, muteTold st  ==  of such: the state after a Set of mute to x; what a Get of mute leaves in the reply
 --   caseState                ==  the state that case A leaves
 --   RespondersTurnedAway     ==  none of the wrong responders is such (stores-first is told of one control and two Sets; that every
 --                                accepted Set of every run is stored is Demand2's)
@@ -54,14 +54,14 @@ module _ (answers : State → List ℕ → List ℕ → List ℕ → Answer) (le
   Responds = (st : State) (setup «data» b : List ℕ) → Answered st (requestOf st setup «data» (length b)) b (answers st setup «data» b) (leaves st setup «data» b)
 
   -- the state after a Set of mute
-  abbrev pub next : State → ℕ → State
-  next st x = answers st setMute (x ∷ []) [] .state
+  abbrev pub afterSet : State → ℕ → State
+  afterSet st x = answers st setMute (x ∷ []) [] .state
 
   -- what a Get of mute leaves in the reply
-  abbrev pub told : State → List ℕ
-  told st = leaves st getMute [] reply
+  abbrev pub muteTold : State → List ℕ
+  muteTold st = leaves st getMute [] reply
 
   pub record RespondersTurnedAway : Type 0 where
     pub stalls-always : ((st : State) (setup «data» b : List ℕ) → answers st setup «data» b .number ≡ 0 → ⊥) → ⊥
     pub answers-zero : ((st : State) (setup «data» b : List ℕ) (i : ℕ) → i < answers st setup «data» b .written → byte (leaves st setup «data» b) i ≡ 0) → ⊥
-    pub stores-first : told (next (next caseState 1) 0) ≡ told (next caseState 1) → ⊥
+    pub stores-first : muteTold (afterSet (afterSet caseState 1) 0) ≡ muteTold (afterSet caseState 1) → ⊥

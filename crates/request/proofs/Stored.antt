@@ -13,7 +13,7 @@ use Rattle.request.specs.declared.State.{State}
 use Rattle.request.specs.declared.Answer.{Answer}
 use Rattle.request.specs.Outcome.{Outcome, answerOf, refusal, deedAnswer}
 use Rattle.request.specs.Outcome.Outcome.{refused}
-use Rattle.request.specs.Addressed.{storedAt, outcomeAt}
+use Rattle.request.specs.Stored.{storedAt, outcomeAt}
 
 placed-self : (t : Table) (p : ℕ) → placed t p (at t p) ≡ t
 placed-self t p = ap (λ (l : List Control). record { count = t .count; controls = l }) (set-getD (t .controls) p blankControl)

@@ -1,5 +1,5 @@
 pub mod Outcome
 pub mod Plugged
-pub mod Addressed
+pub mod Stored
 pub mod Load
 pub mod Request

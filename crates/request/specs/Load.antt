@@ -12,7 +12,8 @@ use Rattle.loads.specs.Load.{loadOn}
 use Rattle.request.specs.declared.State.{State}
 use Rattle.request.specs.Outcome.{Outcome}
 use Rattle.request.specs.Outcome.Outcome.{refused}
-use Rattle.request.specs.Addressed.{addressedIn, outcomeAt}
+use Rattle.address.specs.Addressed.{addressedIn}
+use Rattle.request.specs.Stored.{outcomeAt}
 
 unfoldable pub loadAt : Table → List ℕ → Range → ℕ → Outcome
 loadAt t [] range w = refused 20

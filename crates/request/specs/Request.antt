@@ -27,7 +27,8 @@ use Rattle.answers.specs.Answers.{setOf, getOf}
 use Rattle.request.specs.declared.State.{State}
 use Rattle.request.specs.Outcome.{Outcome}
 use Rattle.request.specs.Outcome.Outcome.{refused}
-use Rattle.request.specs.Addressed.{addressedIn, outcomeAt}
+use Rattle.address.specs.Addressed.{addressedIn}
+use Rattle.request.specs.Stored.{outcomeAt}
 
 unfoldable pub elsewhereBy : Target → ℕ → ℕ
 elsewhereBy g m = pick (eqb (g .interface) m) 0 32

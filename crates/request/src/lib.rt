@@ -16,7 +16,7 @@ use setting::Range;
 use setup::Asked;
 use setup::Target;
 use table::Control;
-use table::Held;
+use table::Entry;
 use table::Table;
 use topology::Reading;
 
@@ -92,8 +92,8 @@ pub fn load(
     }
     let range = Range { min, max, res };
     match table::find(state.table, unit, channel, selector) {
-        Held::Nothing => refused(state, 20),
-        Held::At(index, control) => done(state, index, loads::load_on(control, range, cur)),
+        Entry::Nothing => refused(state, 20),
+        Entry::At(index, control) => done(state, index, loads::load_on(control, range, cur)),
     }
 }
 

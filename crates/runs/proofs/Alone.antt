@@ -30,7 +30,7 @@ use Rattle.runs.specs.Runs.{namedBy, Step, next, after, stepKey, Bytes, 
 use Rattle.runs.specs.Runs.Step.{load, request}
 use Rattle.runs.specs.Promises.{Alone}
 use Rattle.runs.proofs.Taken.{load-taken, set-taken}
-use Rattle.runs.proofs.Kept.{load-same, set-same, place-inside, found-stands}
+use Rattle.runs.proofs.Kept.{load-same, set-same, index-inside, found-stands}
 use Rattle.runs.proofs.Moved.{one-step}
 
 untouched : (t : Table) (k : Key) → Alone t k t
@@ -44,12 +44,12 @@ stored-alone t k p s f c h e = record {
   others = λ q n. placed-elsewhere t p c q (λ i. n (found-stands t k q (f ∙ ap seat (sym i))));
   same = λ q.
       ⊎-elim
-      (λ (i : q ≡ p). rw (i, placed-here t p (place-inside t k p f s) c) h)
+      (λ (i : q ≡ p). rw (i, placed-here t p (index-inside t k p f s) c) h)
       (λ (i : q ≡ p → ⊥). rw (placed-elsewhere t p c q i) (same-self (at t q)))
       (decided (eqb q p) (reads-eq q p));
   pins = λ q.
       ⊎-elim
-      (λ (i : q ≡ p). rw (i, placed-here t p (place-inside t k p f s) c) e)
+      (λ (i : q ≡ p). rw (i, placed-here t p (index-inside t k p f s) c) e)
       (λ (i : q ≡ p → ⊥). rw (placed-elsewhere t p c q i))
       (decided (eqb q p) (reads-eq q p));
 }

@@ -44,7 +44,7 @@ use Rattle.request.specs.Request.{requestOf}
 use Rattle.runs.specs.Runs.{namedBy, Step, next, after, rangesIn, numbersIn, told, lastOf, Bytes, Wired}
 use Rattle.runs.specs.Promises.{Settles, CurMeans, StandsFor, GetGiven, SetStored, LoadStored, Moved, Means, Answers}
 use Rattle.runs.proofs.Taken.{GetTaken, SetTaken, LoadTaken, get-taken, set-taken, load-taken, load-not-got}
-use Rattle.runs.proofs.Kept.{load-same, place-below, place-inside, found-stands, settles-closest, sent-fits}
+use Rattle.runs.proofs.Kept.{load-same, index-below, index-inside, found-stands, settles-closest, sent-fits}
 use Rattle.runs.proofs.Moved.{whole-run, sense-at}
 use Rattle.runs.proofs.Alone.{alone}
 use Rattle.runs.proofs.Refusals.{Numbered, LoadNumber, load-30, load-20, load-21, RequestNumber, load-numbers, request-numbers}
@@ -122,7 +122,7 @@ module _ (st : State) where
     set-stored s d b v a = rw (a .table) (record {
       index = p;
       stands = found-stands t (namedBy s) p (a .there);
-      cur = rw (here, ← held) (stored-means (senseOf (c .selector)) c d (sound .each p (place-below t (namedBy s) p (a .there))) (a .ready) b (a .sized));
+      cur = rw (here, ← held) (stored-means (senseOf (c .selector)) c d (sound .each p (index-below t (namedBy s) p (a .there))) (a .ready) b (a .sized));
       rest = rw here;
       others = λ q n. placed-elsewhere t p new q n;
       count = refl;
@@ -138,7 +138,7 @@ module _ (st : State) where
         new = withCur (storedFor (senseOf (c .selector)) c (valueIn d)) c
 
         here : at (placed t p new) p ≡ new
-        here = placed-here t p (place-inside t (namedBy s) p (a .there) sound) new
+        here = placed-here t p (index-inside t (namedBy s) p (a .there) sound) new
 
         held : senseOf (c .selector) ≡ senseOf (byte s 3)
         held = sense-at t (namedBy s) p (a .there)
@@ -168,7 +168,7 @@ module _ (st : State) where
         new = loadedWith (a .sort) range w (at t p)
 
         here : at (placed t p new) p ≡ new
-        here = placed-here t p (place-inside t k p (a .there) sound) new
+        here = placed-here t p (index-inside t k p (a .there) sound) new
 
     pub next-load : (k : Key) (range : Range) (w : ℕ) → numberOf (loadOf st (k .unit) (k .channel) (k .selector) range w) ≡ 0
         → LoadStored t k range w (tableAfter t (loadOf st (k .unit) (k .channel) (k .selector) range w))
@@ -241,7 +241,7 @@ got-answers st run h w s room bytes a = record {
     held = sense-at v (namedBy s) (a .index) (a .there)
 
     was : SoundAs (senseOf (byte s 3)) (at t0 (a .index))
-    was = rw (← sense-at t0 (namedBy s) (a .index) there) (h .each (a .index) (place-below t0 (namedBy s) (a .index) there))
+    was = rw (← sense-at t0 (namedBy s) (a .index) there) (h .each (a .index) (index-below t0 (namedBy s) (a .index) there))
 
 pub get-answers : (st : State) (run : List Step) → Sound (st .table) → Wired run → (s d : List ℕ) (room : ℕ) → AsksGet s
     → numberOf (requestOf (after st run) s d room) ≡ 0 → Answers st run s (bytesOf (requestOf (after st run) s d room))

@@ -1,9 +1,9 @@
 -- What an accepted load or Set leaves: a table that 30 has nothing against.
 --   load-same, set-same    ==  the control that is stored is the same control
 --   load-sound, set-sound  ==  30 has nothing against it
---   place-below, place-inside  ==  a control that is found stands below the count, and in the array
+--   index-below, index-inside  ==  a control that is found stands below the count, and in the array
 --   found-stands, stands-found, none-stands  ==  a control stands where it is found; it is found where it stands, and stands
---                              nowhere if it is not found, in a table that 30 does not turn away; stands-one: it stands at one place
+--                              nowhere if it is not found, in a table that 30 does not turn away; stands-one: it stands at one index
 --   settles-closest        ==  the closest setting is what is to be stored, by crate setting's statements
 --   sent-fits              ==  the data of a Set are not too wide for the control
 use Prim.Native.Nat.{ℕ, _+_, _*_, _≤_, _<_, min}
@@ -43,32 +43,32 @@ load-same s range w c = record { unit = refl; channel = refl; selector = refl }
 pub set-same : (x : ℕ) (c : Control) → Same (withCur x c) c
 set-same x c = record { unit = refl; channel = refl; selector = refl }
 
--- a place that was found
+-- an index that was found
 module _ (t : Table) (k : Key) (p : ℕ) (f : whereIs t k ≡ seat p) where
-  place-answers : answersTo (k .unit) (k .channel) (k .selector) (at t p) ≡ true
+  index-answers : answersTo (k .unit) (k .channel) (k .selector) (at t p) ≡ true
   unfolding foundIn
-  place-answers = found-first _ (places t) p f .passes
+  index-answers = found-first _ (places t) p f .passes
 
-  pub place-below : p < t .count
+  pub index-below : p < t .count
   unfolding foundIn
-  place-below = let h = found-first _ (places t) p f .inside in omega arith
+  index-below = let h = found-first _ (places t) p f .inside in omega arith
 
-  pub place-inside : Sound t → p < length (t .controls)
-  place-inside s = sound-counted t s p place-below
+  pub index-inside : Sound t → p < length (t .controls)
+  index-inside s = sound-counted t s p index-below
 
 -- two numbers, neither of which is the less, are one
 apart : (q p : ℕ) → (q ≡ p → ⊥) → (p < q → ⊥) → (q < p → ⊥) → ⊥
 apart q p i m n = ⊎-elim (λ (l : p < q). m l) (λ (l : p < q → ⊥). n (omega arith)) (decided (ltb p q) (reads-lt p q))
 
--- the search's place, in statements
+-- the search, in statements
 answers-reads : (k : Key) (c : Control) → Reads (answersTo (k .unit) (k .channel) (k .selector) c) ((c .unit ≡ k .unit) × ((c .channel ≡ k .channel) × (c .selector ≡ k .selector)))
 unfolding answersTo
 answers-reads k c = reads-and _ _ (reads-eq (c .unit) (k .unit)) (reads-and _ _ (reads-eq (c .channel) (k .channel)) (reads-eq (c .selector) (k .selector)))
 
 pub found-stands : (t : Table) (k : Key) (p : ℕ) → whereIs t k ≡ seat p → StandsAt t k p
 found-stands t k p f =
-    let h = answers-reads k (at t p) .says (place-answers t k p f) in
-    record { inside = place-below t k p f; bears = record { unit = h .0; channel = h .1 .0; selector = h .1 .1 } }
+    let h = answers-reads k (at t p) .says (index-answers t k p f) in
+    record { inside = index-below t k p f; bears = record { unit = h .0; channel = h .1 .0; selector = h .1 .1 } }
 
 module _ (t : Table) (sound : Sound t) (k : Key) where
   stands-once : (p q : ℕ) → StandsAt t k p → StandsAt t k q → p < q → ⊥

@@ -1,4 +1,4 @@
--- What a step, and then a run, does to one control, the one of the key k at place p.
+-- What a step, and then a run, does to one control, the one of the key k at index p.
 --   still, moved-then    ==  nothing told moves nothing; one such move and then another
 --   sense-at             ==  the control that is found holds what its key's selector says
 --   one-step             ==  so does every step, with what it tells k if it is accepted
@@ -37,7 +37,7 @@ use Rattle.runs.specs.Runs.{namedBy, Step, accepted, next, after, sameKe
 use Rattle.runs.specs.Runs.Step.{load, request}
 use Rattle.runs.specs.Promises.{StandsFor, Moved}
 use Rattle.runs.proofs.Taken.{LoadTaken, SetTaken, load-taken, set-taken, get-taken, load-not-got}
-use Rattle.runs.proofs.Kept.{load-same, set-same, load-sound, set-sound, place-below, place-inside, found-stands, stands-found, settles-closest, sent-fits}
+use Rattle.runs.proofs.Kept.{load-same, set-same, load-sound, set-sound, index-below, index-inside, found-stands, stands-found, settles-closest, sent-fits}
 
 last-append : {A : Type 0} (x : A) (xs ys : List A) → lastOf x (xs ++ ys) ≡ lastOf (lastOf x xs) ys
 unfolding lastOf
@@ -104,34 +104,34 @@ reads-key k l =
 found-at-one : {p q : ℕ} → seat p ≡ seat q → p ≡ q
 found-at-one e = cc
 
--- two keys are one exactly where they are found at one place
+-- two keys are one exactly where they are found at one index
 module _ (t : Table) (k l : Key) (p q : ℕ) (f : whereIs t k ≡ seat p) (g : whereIs t l ≡ seat q) where
-  one-place : sameKey k l ≡ true → q ≡ p
-  one-place e =
+  one-index : sameKey k l ≡ true → q ≡ p
+  one-index e =
       let h = reads-key k l .says e in
       let i : whereIs t k ≡ whereIs t l = rw (h .unit, h .channel, h .selector) in
       found-at-one (sym g ∙ sym i ∙ f)
 
-  two-places : sameKey k l ≡ false → p ≡ q → ⊥
-  two-places e i =
+  two-indices : sameKey k l ≡ false → p ≡ q → ⊥
+  two-indices e i =
       let a = found-stands t k p f in
       let b : StandsAt t l p = rw i (found-stands t l q g) in
       reads-key k l .denies e
       (let x = a .bears in let y = b .bears in record { unit = sym (x .unit) ∙ y .unit; channel = sym (x .channel) ∙ y .channel; selector = sym (x .selector) ∙ y .selector })
 
--- a control is stored at another place
+-- a control is stored at another index
 module _ (t : Table) (k : Key) (p : ℕ) (s : Sound t) (f : whereIs t k ≡ seat p) (l : Key) (q : ℕ) (g : whereIs t l ≡ seat q) (c : Control)
     (h : Same c (at t q)) (ok : SoundAs (senseOf (c .selector)) c) where
   stored-sound : Sound (placed t q c)
-  stored-sound = placed-sound t q (place-inside t l q g s) c h s ok
+  stored-sound = placed-sound t q (index-inside t l q g s) c h s ok
 
   stored-there : whereIs (placed t q c) k ≡ seat p
-  stored-there = placed-found t q (place-inside t l q g s) c h (k .unit) (k .channel) (k .selector) ∙ f
+  stored-there = placed-found t q (index-inside t l q g s) c h (k .unit) (k .channel) (k .selector) ∙ f
 
   elsewhere : sameKey k l ≡ false → Moved t k p [] [] (placed t q c)
   unfolding lastOf
   elsewhere e =
-      let i : at (placed t q c) p ≡ at t p = placed-elsewhere t q c p (two-places t k l p q f g e) in
+      let i : at (placed t q c) p ≡ at t p = placed-elsewhere t q c p (two-indices t k l p q f g e) in
       record {
         sound = stored-sound;
         there = found-stands _ k p stored-there;
@@ -148,8 +148,8 @@ module _ (t : Table) (k : Key) (p : ℕ) (s : Sound t) (f : whereIs t k ≡ seat
       → rangeOf c ≡ lastOf (rangeOf (at t q)) rs → (ns ≡ [] → ⊥)
       → ((x : ℕ) → StandsFor (senseOf (k .selector)) (at t q) x → StandsFor (senseOf (k .selector)) c (lastOf x ns)) → Moved t k p rs ns (placed t q c)
   here e rs ns m n a o b =
-      let j : q ≡ p = one-place t k l p q f g e in
-      let i : at (placed t q c) p ≡ c = ap (at (placed t q c)) (sym j) ∙ placed-here t q (place-inside t l q g s) c in
+      let j : q ≡ p = one-index t k l p q f g e in
+      let i : at (placed t q c) p ≡ c = ap (at (placed t q c)) (sym j) ∙ placed-here t q (index-inside t l q g s) c in
       record {
         sound = stored-sound;
         there = found-stands _ k p stored-there;
@@ -189,7 +189,7 @@ module _ (t : Table) (k : Key) (p : ℕ) (s : Sound t) (f : whereIs t k ≡ seat
     where
       ok : SoundAs (senseOf (loadedWith (a .sort) range w (at t (a .index)) .selector)) (loadedWith (a .sort) range w (at t (a .index)))
       ok =
-          load-sound (a .sort) range w (at t (a .index)) (a .sense) (s .each (a .index) (place-below t l (a .index) (a .there))) (a .legal) (a .fits)
+          load-sound (a .sort) range w (at t (a .index)) (a .sense) (s .each (a .index) (index-below t l (a .index) (a .there))) (a .legal) (a .fits)
 
       held : sameKey k l ≡ true → senseOf (k .selector) ≡ sense.Ranged (a .sort)
       held e = ap senseOf (reads-key k l .says e .selector) ∙ sym (sense-at t l (a .index) (a .there)) ∙ a .sense
@@ -215,7 +215,7 @@ module _ (t : Table) (k : Key) (p : ℕ) (s : Sound t) (f : whereIs t k ≡ seat
       changed = withCur (storedFor (senseOf (c .selector)) c (valueIn d)) c
 
       whole : SoundAs (senseOf (c .selector)) c
-      whole = s .each (a .index) (place-below t l (a .index) (a .there))
+      whole = s .each (a .index) (index-below t l (a .index) (a .there))
 
       ok : SoundAs (senseOf (changed .selector)) changed
       ok = set-sound c d whole b (a .sized) (a .taken)

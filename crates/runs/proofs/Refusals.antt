@@ -42,7 +42,8 @@ use Rattle.request.specs.declared.State.{State}
 use Rattle.request.specs.declared.Answer.{Answer}
 use Rattle.request.specs.Outcome.{Outcome, numberOf, bytesOf, tableAfter, answerOf, Answered}
 use Rattle.request.specs.Outcome.Outcome.{refused, got, done}
-use Rattle.request.specs.Addressed.{addressedIn, outcomeAt}
+use Rattle.address.specs.Addressed.{addressedIn}
+use Rattle.request.specs.Stored.{outcomeAt}
 use Rattle.request.specs.Load.{loadAt, loadOf}
 use Rattle.request.specs.Request.{elsewhereBy, barredBy, doingOf, doneAt, answerAsked, requestOf}
 use Rattle.runs.specs.Runs.{Step, stepOf, accepted}

@@ -45,10 +45,11 @@ use Rattle.loads.specs.Load.{loadRange, loadBy, loadOn}
 use Rattle.request.specs.declared.State.{State}
 use Rattle.request.specs.Outcome.{Outcome, numberOf}
 use Rattle.request.specs.Outcome.Outcome.{refused}
-use Rattle.request.specs.Addressed.{placesOf, addressedIn, outcomeAt}
+use Rattle.address.specs.Addressed.{indicesOf, addressedIn}
+use Rattle.request.specs.Stored.{outcomeAt}
 use Rattle.request.specs.Load.{loadAt, loadOf}
 use Rattle.request.specs.Request.{elsewhereBy, barredBy, doingOf, doneAt, answerAsked, requestOf}
-use Rattle.runs.specs.RequestRows.{Row, given as is-given, passed, NoRow, Owned, Rising, none as no-more, more, Addressed, Along, HasRange, Unloaded, Outside, Beyond, first, later, RangedThere, InRange, lastRows, controlRows, addressedRows, askedRows, requestRows, loadRows, stepRows}
+use Rattle.runs.specs.RequestRows.{Row, given as is-given, passed, NoRow, Owned, ByChannel, none as no-more, more, Addressed, Along, HasRange, Unloaded, Outside, Beyond, first, later, RangedThere, InRange, lastRows, controlRows, addressedRows, askedRows, requestRows, loadRows, stepRows}
 use Rattle.runs.specs.Runs.{namedBy, Step, stepOf}
 use Rattle.runs.specs.Runs.Step.{load, request}
 use Rattle.runs.proofs.Kept.{found-stands, none-stands, stands-one}
@@ -183,13 +184,13 @@ module _ (s d : List ℕ) (room : ℕ) where
 
 -- lists whose channels rise and that have the same members are one
 module _ where
-  rising-head : {c : Control} {cs : List Control} → Rising (c ∷ cs) → (e : Control) → e ∈ cs → c .channel < e .channel
+  rising-head : {c : Control} {cs : List Control} → ByChannel (c ∷ cs) → (e : Control) → e ∈ cs → c .channel < e .channel
   rising-head (more h r) = h
 
-  rising-tail : {c : Control} {cs : List Control} → Rising (c ∷ cs) → Rising cs
+  rising-tail : {c : Control} {cs : List Control} → ByChannel (c ∷ cs) → ByChannel cs
   rising-tail (more h r) = r
 
-  one-head : (c e : Control) (cs es : List Control) → Rising (c ∷ cs) → Rising (e ∷ es) → c ∈ (e ∷ es) → e ∈ (c ∷ cs) → c ≡ e
+  one-head : (c e : Control) (cs es : List Control) → ByChannel (c ∷ cs) → ByChannel (e ∷ es) → c ∈ (e ∷ es) → e ∈ (c ∷ cs) → c ≡ e
   one-head c e cs es r q m n = go (List·Memᴰ·cases-cons m) (List·Memᴰ·cases-cons n)
     where
       go : (c ≡ e) ⊎ (c ∈ es) → (e ≡ c) ⊎ (e ∈ cs) → c ≡ e
@@ -197,14 +198,14 @@ module _ where
       go (inr x) (inl j) = sym j
       go (inr x) (inr y) = let a = rising-head q c x in let b = rising-head r e y in absurd (omega arith)
 
-  rest-of : (c e : Control) (cs es : List Control) → c ≡ e → Rising (c ∷ cs) → ((x : Control) → x ∈ (c ∷ cs) → x ∈ (e ∷ es)) → (x : Control) → x ∈ cs → x ∈ es
+  rest-of : (c e : Control) (cs es : List Control) → c ≡ e → ByChannel (c ∷ cs) → ((x : Control) → x ∈ (c ∷ cs) → x ∈ (e ∷ es)) → (x : Control) → x ∈ cs → x ∈ es
   rest-of c e cs es i r h x m = go (List·Memᴰ·cases-cons (h x (List·Memᴰ·tail m)))
     where
       go : (x ≡ e) ⊎ (x ∈ es) → x ∈ es
       go (inl j) = let a = rising-head r x m in let b : x .channel ≡ c .channel = ap (λ (y : Control). y .channel) (j ∙ sym i) in absurd (omega arith)
       go (inr y) = y
 
-  rising-one : (cs es : List Control) → Rising cs → Rising es → ((x : Control) → x ∈ cs → x ∈ es) → ((x : Control) → x ∈ es → x ∈ cs) → cs ≡ es
+  rising-one : (cs es : List Control) → ByChannel cs → ByChannel es → ((x : Control) → x ∈ cs → x ∈ es) → ((x : Control) → x ∈ es → x ∈ cs) → cs ≡ es
   rising-one [] [] r q h k = refl
   rising-one [] (e ∷ es) r q h k = absurd (List·Memᴰ·not-nil (k e (List·Memᴰ·head refl)))
   rising-one (c ∷ cs) [] r q h k = absurd (List·Memᴰ·not-nil (h c (List·Memᴰ·head refl)))
@@ -234,7 +235,7 @@ module _ (t : Table) (sound : Sound t) where
   the-one : (k : Key) (p : ℕ) → whereIs t k ≡ seat p → (c : Control) → InTable t c → Bears k c → c ≡ at t p
   the-one k p f c i b = sym (i .is) ∙ ap (at t) (stands-one t sound k (i .index) p (bears-stands k c i b) (found-stands t k p f))
 
-  pub addressed-found : (s : List ℕ) (f : Seat) → whereIs t (namedBy s) ≡ f → Addressed t s (map (at t) (placesOf f))
+  pub addressed-found : (s : List ℕ) (f : Seat) → whereIs t (namedBy s) ≡ f → Addressed t s (map (at t) (indicesOf f))
   addressed-found s absent e = record {
     each = λ c. (λ m. absurd (List·Memᴰ·not-nil m), λ h. absurd (none-stands t sound (namedBy s) e (h .0 .index) (bears-stands (namedBy s) c (h .0) (h .1))));
     rising = no-more;
@@ -258,7 +259,7 @@ module _ (st : State) (sound : Sound (st .table)) (s d : List ℕ) (room : ℕ) 
   t = st .table
 
   found-rows : (f : Seat) → whereIs t (namedBy s) ≡ f → (b : Bool) → Reads b (Owned t (byte s 5)) → unitIn t (byte s 5) ≡ b
-      → Row 33 (Owned t (byte s 5) → ⊥) (Along t s (addressedRows s d room)) (numberOf (doneAt t (byte s 5) (placesOf f) act))
+      → Row 33 (Owned t (byte s 5) → ⊥) (Along t s (addressedRows s d room)) (numberOf (doneAt t (byte s 5) (indicesOf f) act))
   unfolding doneAt
   found-rows (seat p) e b r h =
       let a = found-stands t (namedBy s) p e in
@@ -333,7 +334,7 @@ module _ (t : Table) (sound : Sound t) (k : Key) (range : Range) (w : ℕ) where
   by-sense c i b (Ranged r) e = passed (λ n. n (record { control = c; there = i; bears = b; ranged = (r, e) })) (by-range r c e _ (in-range r e) _)
   by-sense c i b Pin e = is-given (unranged Pin e refl) refl
 
-  by-place : (f : Seat) → whereIs t k ≡ f → rangeRows (numberOf (loadAt t (placesOf f) range w))
+  by-place : (f : Seat) → whereIs t k ≡ f → rangeRows (numberOf (loadAt t (indicesOf f) range w))
   unfolding loadAt
   by-place absent e = is-given (λ h. none-stands t sound k e (h .there .index) (bears-stands t sound k (h .control) (h .there) (h .bears))) refl
   by-place (seat p) e =

@@ -42,7 +42,8 @@ use Rattle.loads.specs.Load.{loadedWith, loadRange, loadBy, loadOn}
 use Rattle.request.specs.declared.State.{State}
 use Rattle.request.specs.Outcome.{Outcome}
 use Rattle.request.specs.Outcome.Outcome.{refused, got, done}
-use Rattle.request.specs.Addressed.{placesOf, storedAt, outcomeAt}
+use Rattle.address.specs.Addressed.{indicesOf}
+use Rattle.request.specs.Stored.{storedAt, outcomeAt}
 use Rattle.request.specs.Load.{loadAt, loadOf}
 use Rattle.request.specs.Request.{barredBy, doingOf, doneAt, answerAsked, requestOf}
 use Rattle.runs.specs.Runs.{namedBy}
@@ -117,7 +118,7 @@ module _ (t : Table) (k : Key) (range : Range) (w : ℕ) (v : Table) (q : soundO
   sense-taken Pin h cs e i = no-change e
 
 found-taken : (t : Table) (k : Key) (range : Range) (w : ℕ) (v : Table) → soundOf t ≡ true → (f : Seat) → whereIs t k ≡ f
-    → loadAt t (placesOf f) range w ≡ done v → LoadTaken t k range w v
+    → loadAt t (indicesOf f) range w ≡ done v → LoadTaken t k range w v
 unfolding loadAt
 found-taken t k range w v q absent f e = no-done e
 found-taken t k range w v q (seat p) f e =
@@ -229,27 +230,27 @@ module _ (st : State) (s d : List ℕ) (room : ℕ) (q : soundOf (st .table) ≡
   t = st .table
 
   -- what is done where the named control was found
-  set-found : AsksSet s → (f : Seat) → whereIs t (namedBy s) ≡ f → (v : Table) → doneAt t (byte s 5) (placesOf f) (λ cs. setOf cs (word s 6) d) ≡ done v → SetTaken t s d v
+  set-found : AsksSet s → (f : Seat) → whereIs t (namedBy s) ≡ f → (v : Table) → doneAt t (byte s 5) (indicesOf f) (λ cs. setOf cs (word s 6) d) ≡ done v → SetTaken t s d v
   unfolding doneAt
   set-found a absent i v e = no-done e
   set-found a (seat p) i v e =
       let x = done-changed t (p ∷ []) (setOf (at t p ∷ []) (word s 6) d) v e in
       set-changed t s d q p i a (word s 6) v (x .0) (sym (set-one (at t p) (word s 6) d) ∙ x .1 .0) (x .1 .1)
 
-  set-found-not : (f : Seat) (bytes : List ℕ) → doneAt t (byte s 5) (placesOf f) (λ cs. setOf cs (word s 6) d) ≡ got bytes → ⊥
+  set-found-not : (f : Seat) (bytes : List ℕ) → doneAt t (byte s 5) (indicesOf f) (λ cs. setOf cs (word s 6) d) ≡ got bytes → ⊥
   unfolding doneAt
   set-found-not absent bytes e = no-got e
   set-found-not (seat p) bytes e =
       set-no-gift (at t p) (word s 6) d bytes (sym (set-one (at t p) (word s 6) d) ∙ got-given t (p ∷ []) (setOf (at t p ∷ []) (word s 6) d) bytes e)
 
   get-found : AsksGet s → (part : Part) → byte s 1 ≡ codeOf part → (f : Seat) → whereIs t (namedBy s) ≡ f → (bytes : List ℕ)
-      → doneAt t (byte s 5) (placesOf f) (λ cs. getOf part cs (word s 6) room) ≡ got bytes → GetTaken t s room bytes
+      → doneAt t (byte s 5) (indicesOf f) (λ cs. getOf part cs (word s 6) room) ≡ got bytes → GetTaken t s room bytes
   unfolding doneAt
   get-found a part c absent i bytes e = no-got e
   get-found a part c (seat p) i bytes e =
       get-gave t s d q p i a part c room bytes (sym (get-one (at t p) part (word s 6) room) ∙ got-given t (p ∷ []) (getOf part (at t p ∷ []) (word s 6) room) bytes e)
 
-  get-found-not : (part : Part) (f : Seat) (v : Table) → doneAt t (byte s 5) (placesOf f) (λ cs. getOf part cs (word s 6) room) ≡ done v → ⊥
+  get-found-not : (part : Part) (f : Seat) (v : Table) → doneAt t (byte s 5) (indicesOf f) (λ cs. getOf part cs (word s 6) room) ≡ done v → ⊥
   unfolding doneAt
   get-found-not part absent v e = no-done e
   get-found-not part (seat p) v e =
@@ -296,7 +297,7 @@ load-by-no-gift YesNo c range w bytes e = no-gift e
 load-by-no-gift (Ranged r) c range w bytes e = ⊎-elim (λ h. change-no-gift (h .1)) (λ h. no-gift (h .1)) (picked (legalOf r range && fitsOf r w) _ _ (given bytes) e)
 load-by-no-gift Pin c range w bytes e = no-gift e
 
-load-at-not-got : (t : Table) (f : Seat) (range : Range) (w : ℕ) (bytes : List ℕ) → loadAt t (placesOf f) range w ≡ got bytes → ⊥
+load-at-not-got : (t : Table) (f : Seat) (range : Range) (w : ℕ) (bytes : List ℕ) → loadAt t (indicesOf f) range w ≡ got bytes → ⊥
 unfolding loadAt
 load-at-not-got t absent range w bytes e = no-got e
 load-at-not-got t (seat p) range w bytes e = load-by-no-gift (senseOf (at t p .selector)) (at t p) range w bytes (got-given t (p ∷ []) (loadOn (at t p) range w) bytes e)

@@ -2,7 +2,7 @@
 --   Seat                ==  where a control stands in a table: absent, or its index
 --   places t            ==  the indices below it hold a control: as many as the table counts, and no more than 128
 --   foundIn t u ch s    ==  where the control of unit u, channel ch and selector s first stands
---   heldAt t x, heldIn t u ch s  ==  the same with the control that stands there
+--   entryAt t x, entryIn t u ch s  ==  the same with the control that stands there
 --   found-first, none-found  ==  a search that answers an index has its first there; one that answers none has none
 use Prim.Native.Nat.{ℕ, _<_, min}
 use mathlib.Core.Path.{_≡_, subst}
@@ -10,8 +10,8 @@ use mathlib.Core.Bool.{Bool, false}
 use native.Mathlib.Omega.{arith}
 use Rattle.ground.specs.Places.{firstIn, FirstAt, Finding, nothing, first, finding}
 use Rattle.table.specs.declared.Table.{Table}
-use Rattle.table.specs.declared.Held.{Held}
-use Rattle.table.specs.declared.Held.the-variants.{Nothing, At}
+use Rattle.table.specs.declared.Entry.{Entry}
+use Rattle.table.specs.declared.Entry.the-variants.{Nothing, At}
 use Rattle.table.specs.Controls.{mostControls, at, answersTo}
 
 pub data Seat : Type 0 where
@@ -24,12 +24,12 @@ places t = min (t .count) mostControls
 unfoldable pub foundIn : Table → ℕ → ℕ → ℕ → Seat
 foundIn t u ch s = firstIn (λ p. answersTo u ch s (at t p)) seat absent 0 (places t)
 
-abbrev pub heldAt : Table → Seat → Held
-heldAt t absent = Nothing
-heldAt t (seat p) = At p (at t p)
+abbrev pub entryAt : Table → Seat → Entry
+entryAt t absent = Nothing
+entryAt t (seat p) = At p (at t p)
 
-abbrev pub heldIn : Table → ℕ → ℕ → ℕ → Held
-heldIn t u ch s = heldAt t (foundIn t u ch s)
+abbrev pub entryIn : Table → ℕ → ℕ → ℕ → Entry
+entryIn t u ch s = entryAt t (foundIn t u ch s)
 
 -- what the two answers say of the test
 module _ (t : ℕ → Bool) (n : ℕ) where

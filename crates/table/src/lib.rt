@@ -2,7 +2,7 @@
 // crate promises to the layer above: each function answers, for every table whatever, as the definitions of specs/ say.
 ghost use mathlib.Core.Path.{_≡_};
 ghost use Rattle.table.specs.Controls.{blankControl, emptyTable, at, placed, senseOf, sizeOf, answersTo};
-ghost use Rattle.table.specs.First.{heldIn};
+ghost use Rattle.table.specs.First.{entryIn};
 use setting::Sort;
 
 // How many controls a table has room for.
@@ -37,7 +37,7 @@ pub enum Sense {
 }
 
 // What a table holds of the control that is sought: nothing, or the control, with its index.
-pub enum Held {
+pub enum Entry {
     Nothing,
     At(usize, Control),
 }
@@ -140,20 +140,20 @@ pub fn answers(control: Control, unit: u8, channel: u8, selector: u8) -> bool
 }
 
 // Where the control of this unit, channel and selector first stands, with the control.
-pub fn find(table: Table, unit: u8, channel: u8, selector: u8) -> Held
-    ensures { λ r. ⌜ r ≡ heldIn table unit channel selector ⌝ }
+pub fn find(table: Table, unit: u8, channel: u8, selector: u8) -> Entry
+    ensures { λ r. ⌜ r ≡ entryIn table unit channel selector ⌝ }
 {
     let count = table.count;
     let mut index = 0;
     while index < CONTROLS {
         if count <= index {
-            return Held::Nothing;
+            return Entry::Nothing;
         }
         let control = table.controls[index];
         if answers(control, unit, channel, selector) {
-            return Held::At(index, control);
+            return Entry::At(index, control);
         }
         index += 1;
     }
-    Held::Nothing
+    Entry::Nothing
 }

@@ -32,7 +32,8 @@ use Rattle.request.specs.declared.State.{State}
 use Rattle.request.specs.declared.Answer.{Answer}
 use Rattle.request.specs.Outcome.{Outcome, bytesOf, answerOf, refusal, deedAnswer, Answered}
 use Rattle.request.specs.Outcome.Outcome.{refused}
-use Rattle.request.specs.Addressed.{placesOf, outcomeAt}
+use Rattle.address.specs.Addressed.{indicesOf}
+use Rattle.request.specs.Stored.{outcomeAt}
 use Rattle.request.specs.Request.{barredBy, missedBy, lostBy, doingOf, actOf, doneAt, answerAsked, requestOf}
 use Rattle.request.proofs.Searched.{There, Missed, is-unsound, is-missed-unit, is-missed-control, is-there}
 use Rattle.request.proofs.Stored.{done-answer, refuses}
@@ -69,7 +70,7 @@ module _ (st : State) (k : Asked) (d : List ℕ) (room : ℕ) where
       ⊎-elim
       (λ (z : barredBy k (st .control) ≡ 0).
       yes _ _ (eq-eqb _ _ z)
-      ∙ ap (λ (f : Seat). doneAt (st .table) unit (placesOf f) (doingOf k d room)) (h .none)
+      ∙ ap (λ (f : Seat). doneAt (st .table) unit (indicesOf f) (doingOf k d room)) (h .none)
       ∙ ap (λ (y : Bool). refused (lookupNumber (missingBy y))) (h .unit)
       ∙ ap refused (sym (e ∙ yes _ _ (eq-eqb _ _ z))))
       (λ (z : barredBy k (st .control) ≡ 0 → ⊥). no _ _ (ne-eqb _ _ z) ∙ ap refused (sym (e ∙ no _ _ (ne-eqb _ _ z))))
@@ -82,7 +83,7 @@ module _ (st : State) (k : Asked) (d : List ℕ) (room : ℕ) where
       ⊎-elim
       (λ (z : barredBy k (st .control) ≡ 0).
       yes _ _ (eq-eqb _ _ z)
-      ∙ ap (λ (x : Seat). doneAt (st .table) unit (placesOf x) (doingOf k d room)) f
+      ∙ ap (λ (x : Seat). doneAt (st .table) unit (indicesOf x) (doingOf k d room)) f
       ∙ ap (outcomeAt (st .table) (p ∷ [])) (sym (yes (doingOf k d room (at (st .table) p ∷ [])) (denied (barredBy k (st .control))) (eq-eqb _ _ z))))
       (λ (z : barredBy k (st .control) ≡ 0 → ⊥).
       no _ _ (ne-eqb _ _ z)

@@ -5,11 +5,11 @@ use mathlib.Core.Path.{_≡_, ap}
 use mathlib.Core.Bool.{Bool, true, false}
 use native.Mathlib.Omega.{arith}
 use Rattle.table.specs.declared.Table.{Table}
-use Rattle.table.specs.declared.Held.the-variants.{Nothing, At}
+use Rattle.table.specs.declared.Entry.the-variants.{Nothing, At}
 use Rattle.table.specs.First.Seat.{absent, seat}
 use Rattle.table.specs.Controls.{mostControls, at, answersTo}
 use Rattle.ground.specs.Places.{Come, come-none, come-here, come-more, come-over}
-use Rattle.table.specs.First.{places, foundIn, heldAt, heldIn}
+use Rattle.table.specs.First.{places, foundIn, entryAt, entryIn}
 use Rattle.table.proofs.find.Statement.{statement}
 use Rattle.table.proofs.find.Tie as tie
 
@@ -24,18 +24,18 @@ module _ (t : Table) (u ch s : ℕ) where
   start = come-none wanted seat absent (places t)
 
   module _ (p : ℕ) (g : Here p) where
-    none-left : t .count ≤ p → Nothing ≡ heldIn t u ch s
+    none-left : t .count ≤ p → Nothing ≡ entryIn t u ch s
     unfolding foundIn
-    none-left h = ap (heldAt t) (come-over wanted seat absent (places t) p g (omega arith))
+    none-left h = ap (entryAt t) (come-over wanted seat absent (places t) p g (omega arith))
 
-    no-index : mostControls ≤ p → Nothing ≡ heldIn t u ch s
+    no-index : mostControls ≤ p → Nothing ≡ entryIn t u ch s
     unfolding foundIn
-    no-index h = ap (heldAt t) (come-over wanted seat absent (places t) p g (omega arith))
+    no-index h = ap (entryAt t) (come-over wanted seat absent (places t) p g (omega arith))
 
     module _ (h : p < mostControls) (k : p < t .count) (b : Bool) (e : b ≡ wanted p) where
-      here : b ≡ true → At p (at t p) ≡ heldIn t u ch s
+      here : b ≡ true → At p (at t p) ≡ entryIn t u ch s
       unfolding foundIn
-      here f = ap (heldAt t) (come-here wanted seat absent (places t) p g (omega arith) b e f)
+      here f = ap (entryAt t) (come-here wanted seat absent (places t) p g (omega arith) b e f)
 
       on : b ≡ false → Here (p + 1)
       on = come-more wanted seat absent (places t) p g (omega arith) b e

@@ -1,26 +1,15 @@
--- Who is addressed: a list of controls, in the order in which a request takes them; and where what is done to them is stored.
---   placesOf f        ==  the index that was found, if any
---   addressedIn t u ch s  ==  where the controls stand that a unit, a channel and a selector name: one today
+-- Where what is done to the addressed controls is stored.
 --   storedAt t ps cs  ==  the table with each of the controls cs at its index of ps
 --   outcomeAt t ps o  ==  what it comes to where o is done at the controls of these indices
 use Prim.Native.Nat.{ℕ}
 use mathlib.Core.List.{List, [], _∷_}
 use Rattle.table.specs.declared.Control.{Control}
 use Rattle.table.specs.declared.Table.{Table}
-use Rattle.table.specs.First.{Seat, foundIn}
-use Rattle.table.specs.First.Seat.{absent, seat}
 use Rattle.table.specs.Controls.{placed}
 use Rattle.deed.specs.Doing.{Doing}
 use Rattle.deed.specs.Doing.Doing.{denied, given, changed}
 use Rattle.request.specs.Outcome.{Outcome}
 use Rattle.request.specs.Outcome.Outcome.{refused, got, done}
-
-abbrev pub placesOf : Seat → List ℕ
-placesOf absent = []
-placesOf (seat p) = p ∷ []
-
-abbrev pub addressedIn : Table → ℕ → ℕ → ℕ → List ℕ
-addressedIn t u ch s = placesOf (foundIn t u ch s)
 
 unfoldable pub storedAt : Table → List ℕ → List Control → Table
 storedAt t [] cs = t
