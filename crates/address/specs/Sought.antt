@@ -3,6 +3,7 @@
 --   looking-start, looking-over, looking-here, looking-on  ==  its start, its end and its turns
 --   soughtBy t l      ==  what a lookup found, with the control that stands there
 --   soughtIn t u ch s ==  30, or that of the control of unit u, channel ch and selector s
+--   soughtNumber r    ==  the paper's number for each case: 30 "the table is not one", 33 and 34 as of a lookup, 0 where the control stands
 --   sought-unsound, sought-no-unit, sought-no-control, sought-at  ==  the four answers, from what they say
 --   Standing t u ch s r  ==  what the answer r says; standing: the answer says so
 --   Seeking t u ch s seen p  ==  30 has nothing against the table, and the search has come to p
@@ -25,7 +26,7 @@ use Rattle.address.specs.declared.Sought.the-variants as sought
 use Rattle.table.specs.Controls.{mostControls, at, answersTo}
 use Rattle.ground.specs.Pick.{pick, yes, no}
 use Rattle.ground.specs.Places.{firstIn, Come, come-none, come-here, come-more, come-over, somewhere}
-use Rattle.address.specs.LookedUp.{unitIn, sawUnit, missingBy, lookupBy, lookedUp}
+use Rattle.address.specs.LookedUp.{unitIn, sawUnit, missingBy, lookupBy, lookedUp, lookupNumber}
 use Rattle.sound.specs.Sound.{soundOf}
 
 some-or : (b x : Bool) → pick b true x ≡ (b || x)
@@ -82,6 +83,12 @@ abbrev pub soughtBy : Table → Lookup → Sought
 soughtBy t lookup.NoUnit = sought.NoUnit
 soughtBy t lookup.NoControl = sought.NoControl
 soughtBy t (lookup.At p) = sought.At p (at t p)
+
+abbrev pub soughtNumber : Sought → ℕ
+soughtNumber sought.Unsound = 30
+soughtNumber sought.NoUnit = lookupNumber lookup.NoUnit
+soughtNumber sought.NoControl = lookupNumber lookup.NoControl
+soughtNumber (sought.At p c) = 0
 
 unfoldable pub soughtIn : Table → ℕ → ℕ → ℕ → Sought
 soughtIn t u ch s = pick (soundOf t) (soughtBy t (lookedUp t u ch s)) sought.Unsound

@@ -1,8 +1,8 @@
 -- What the rows 35 to 38 ask of one control, by what it holds.
---   isRanged k, ofRange part, partOf part c  ==  k is a range's; the part is MIN, MAX or RES; the number that the part of c is
+--   isRanged k, ofRange part, partOf part c  ==  k is ranged; the part is MIN, MAX or RES; the number that the part of c is
 --   lacking k part   ==  35: "MIN, MAX, RES of an unranged control"
 --   unready k c      ==  36: "ranged control not loaded"
---   valueIn d        ==  the number that the data of a Set is
+--   valueIn d        ==  the number that the data of a Set is: one byte, or two with the low one first; 0 for another length, which 37 refuses
 --   takes k c x      ==  not 38: "Set of a yes/no to other than 0, 1, or of a Selector outside its pins"
 --   storedFor k c x  ==  what is stored where x is taken: "The closest one is stored"
 --   withCur x c      ==  the control c with x for its CUR

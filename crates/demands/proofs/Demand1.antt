@@ -14,14 +14,15 @@ use Rattle.reader.proofs.Exactly.{accepted-exactly, refused-exactly}
 use Rattle.reader.proofs.Shows.{number-told}
 use Rattle.request.specs.declared.State.{State}
 use Rattle.request.specs.declared.Answer.{Answer}
-use Rattle.request.specs.Outcome.{Outcome, numberOf, answerOf}
+use Rattle.deed.specs.Doing.{laid}
+use Rattle.request.specs.Outcome.{Outcome, numberOf, bytesOf, answerOf, Answered}
 use Rattle.request.specs.Outcome.Outcome.{refused, got, done}
 use Rattle.request.specs.Load.{loadOf}
 use Rattle.request.specs.Request.{requestOf}
 use Rattle.runs.specs.RequestRows.{requestRows, loadRows}
-use Rattle.runs.proofs.Rows.{request-rows, load-rows}
-use Rattle.runs.proofs.Refusals.{refused-keeps}
-use Rattle.demands.specs.Demand1.{RefusedReading, RefusedAnswer, Demand1}
+use Rattle.runs.proofs.Rows.{request-rows, load-rows, step-rows, step-row-one}
+use Rattle.runs.proofs.Refusals.{refused-keeps, answered-one}
+use Rattle.demands.specs.Demand1.{RefusedReading, RefusedAnswer, Agree, Demand1}
 
 module _ (s d : List ℕ) where
   refuses : (readingOf s (length d) .number ≡ 0 → ⊥) → RefusedReading s d
@@ -54,6 +55,19 @@ answer-refuses Rows st (refused n) row r e h = record { row = rw e row; none-wri
 answer-refuses Rows st (got bytes) row r e h = absurd (h (ap (λ (x : Answer). x .number) e))
 answer-refuses Rows st (done u) row r e h = absurd (h (ap (λ (x : Answer). x .number) e))
 
+-- two calls that differ in what the lent reply held
+unread : (st : State) (s d b c : List ℕ) → length b ≡ length c → (r q : Answer) (a e : List ℕ)
+    → Answered st (requestOf st s d (length b)) b r a → Answered st (requestOf st s d (length c)) c q e → (r ≡ q) × Agree b a c e
+unread st s d b c l r q a e x y =
+    let o : requestOf st s d (length c) ≡ requestOf st s d (length b) = ap (λ (m : ℕ). requestOf st s d m) (sym l) in (
+      x .result ∙ ap (answerOf st) (sym o) ∙ sym (y .result),
+      record {
+        bytes = bytesOf (requestOf st s d (length b));
+        left = x .lent;
+        right = y .lent ∙ ap (λ (z : Outcome). laid (bytesOf z) c) o;
+      },
+    )
+
 pub demand-1 : Demand1
 unfolding answerOf
 demand-1 = record {
@@ -66,4 +80,8 @@ demand-1 = record {
         answer-refuses (requestRows st setup «data» (length b)) st o (request-rows st setup «data» (length b)) r (k .result) h,
         k .lent ∙ refused-keeps (st .table) b o (λ e. h (ap (λ (x : Answer). x .number) (k .result) ∙ e)) .reply,
       );
+  numbers = step-rows;
+  one-number = step-row-one;
+  one-answer = λ st setup «data» b r q a e. answered-one st (requestOf st setup «data» (length b)) b r q a e;
+  reply-unread = unread;
 }

@@ -11,8 +11,8 @@ use Rattle.request.specs.declared.State.{State}
 use Rattle.request.specs.declared.Plugged.{Plugged}
 use Rattle.request.specs.Plugged.{PluggedIn}
 use Rattle.runs.specs.Runs.{Step, after, Wired}
-use Rattle.runs.proofs.Alone.{alone, run-sound}
-use Rattle.runs.proofs.Answers.{next-get, next-set, next-load, get-answers}
+use Rattle.runs.proofs.Alone.{alone, run-interface, run-sound}
+use Rattle.runs.proofs.Answers.{next-get, get-keeps, next-set, set-silent, next-load, get-answers}
 use Rattle.runs.proofs.Moved.{whole-run}
 use Rattle.runs.proofs.Rows.{step-rows}
 use Rattle.demands.specs.Demand2.{EveryRun, Demand2}
@@ -22,9 +22,12 @@ runs-so st h run w =
     let s = run-sound st run w h in
     record {
       sound = s;
+      interface = run-interface st run;
       numbers = step-rows (after st run);
       next-get = next-get (after st run);
+      get-keeps = get-keeps (after st run);
       next-set = next-set (after st run) s;
+      set-silent = set-silent (after st run);
       next-load = next-load (after st run) s;
       alone = alone (after st run);
       stored = λ k i f. whole-run st k i run h f w;

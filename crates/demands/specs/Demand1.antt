@@ -7,9 +7,12 @@
 --                           gives, "interface number 0, zero counts and an empty table; the sheet keeps its bytes"
 --   RefusedAnswer Rows st r  ==  what an answer r says where it refuses: the number of the first of the Rows that applies, nothing
 --                               written, and st, the state as it stood
+--   Agree b a c e       ==  two replies, b that became a and c that became e, agree in the bytes written
 --   Demand1             ==  of every configuration and sheet, the reader's number is 0, and the bytes are a configuration with room for
 --                           its records, or it refuses so; and every answer that the contract of a load or a request allows and
---                           whose number is not 0 refuses so, the request with the reply as it stood
+--                           whose number is not 0 refuses so, the request with the reply as it stood. In every state whatever the number is
+--                           that of the first row that applies (numbers), and the rows say one number. Two results that the contract of a
+--                           request allows are equal (one-answer), and they do not hang on what the reply held (reply-unread)
 use Prim.Native.Nat.{ℕ}
 use mathlib.Core.Path.{_≡_}
 use mathlib.Core.List.{List}
@@ -22,10 +25,12 @@ use Rattle.topology.specs.Reading.{readingOf, sheetOf}
 use Rattle.reader.specs.Refusals.{Refused, Shown}
 use Rattle.request.specs.declared.State.{State}
 use Rattle.request.specs.declared.Answer.{Answer}
-use Rattle.request.specs.Outcome.{answerOf, Answered}
+use Rattle.deed.specs.Doing.{laid}
+use Rattle.request.specs.Outcome.{numberOf, answerOf, Answered}
 use Rattle.request.specs.Load.{loadOf}
 use Rattle.request.specs.Request.{requestOf}
-use Rattle.runs.specs.RequestRows.{requestRows, loadRows}
+use Rattle.runs.specs.Runs.{Step, stepOf}
+use Rattle.runs.specs.RequestRows.{requestRows, loadRows, stepRows}
 
 pub record RefusedReading (s d : List ℕ) : Type 0 where
   pub named : Refused s (length d) (readingOf s (length d) .number) (readingOf s (length d) .place)
@@ -40,6 +45,11 @@ pub record RefusedAnswer (Rows : ℕ → Type 0) (st : State) (r : Answer) : Typ
   pub none-written : r .written ≡ 0
   pub state : r .state ≡ st
 
+pub record Agree (b a c e : List ℕ) : Type 0 where
+  pub bytes : List ℕ
+  pub left : a ≡ laid bytes b
+  pub right : e ≡ laid bytes c
+
 pub record Demand1 : Type 0 where
   pub reader-answers : (s d : List ℕ) → ((readingOf s (length d) .number ≡ 0) × Shown s (length d)) ⊎ RefusedReading s d
   pub reader-refuses : (s d : List ℕ) → (readingOf s (length d) .number ≡ 0 → ⊥) → RefusedReading s d
@@ -48,3 +58,9 @@ pub record Demand1 : Type 0 where
   -- b is the reply at the call, a what it holds afterwards
   pub request-refuses : (st : State) (setup «data» b : List ℕ) (r : Answer) (a : List ℕ) → Answered st (requestOf st setup «data» (length b)) b r a
       → (r .number ≡ 0 → ⊥) → RefusedAnswer (requestRows st setup «data» (length b)) st r × (a ≡ b)
+  pub numbers : (st : State) (step : Step) → stepRows st step (numberOf (stepOf st step))
+  pub one-number : (st : State) (step : Step) (m n : ℕ) → stepRows st step m → stepRows st step n → m ≡ n
+  pub one-answer : (st : State) (setup «data» b : List ℕ) (r q : Answer) (a e : List ℕ)
+      → Answered st (requestOf st setup «data» (length b)) b r a → Answered st (requestOf st setup «data» (length b)) b q e → (r ≡ q) × (a ≡ e)
+  pub reply-unread : (st : State) (setup «data» b c : List ℕ) → length b ≡ length c → (r q : Answer) (a e : List ℕ)
+      → Answered st (requestOf st setup «data» (length b)) b r a → Answered st (requestOf st setup «data» (length c)) c q e → (r ≡ q) × Agree b a c e

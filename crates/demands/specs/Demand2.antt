@@ -3,16 +3,17 @@
 -- itself), and changes that control alone." What the reading is stands in Demand3; here are the runs that begin with a plug-in.
 --   now-is st run   ==  the state that the run leaves; Accepted st run step: the next step is accepted in it
 --   EveryRun st run ==  what is true of every run of loads and requests from the state st. Refusal 30 has nothing against the table it
---                       leaves. Of the next step: it has the number of the first row of the papers' table that applies, 0 where none
---                       does; an accepted Get returns the addressed control; an accepted Set stores the closest available setting of
---                       it, and an accepted load the range and that; and every other control is as it was. Over the whole run: each
---                       control is what its last accepted load and Set made it, and so each accepted Get is answered
+--                       leaves, and the AudioControl number is what it was. Of the next step: it has the number of the first row of
+--                       the papers' table that applies, 0 where none does; an accepted Get returns the addressed control, and no Get
+--                       changes the table; an accepted Set stores the closest available setting of it, and no Set writes to the
+--                       reply; an accepted load stores the range and that; and every other control is as it was. Over the whole run:
+--                       each control is what its last accepted load and Set made it, and so each accepted Get is answered
 --   Demand2         ==  whatever is plugged in, the table is as document 01 has it before any load: first values, nothing loaded, spare
 --                       places zero; and all that is true of every run from that state whose data are bytes (Wired), as every lent
 --                       slice's are
 use Prim.Native.Nat.{ℕ}
 use mathlib.Core.Path.{_≡_}
-use mathlib.Core.List.{List}
+use mathlib.Core.List.{List, []}
 use Rattle.setting.specs.declared.Range.{Range}
 use Rattle.table.specs.Keys.{Key, StandsAt}
 use Rattle.sound.specs.Meaning.{Sound}
@@ -37,11 +38,14 @@ module _ (st : State) (run : List Step) where
 
   pub record EveryRun : Type 0 where
     pub sound : Sound (now-is .table)
+    pub interface : now-is .control ≡ st .control
     pub numbers : (step : Step) → stepRows now-is step (numberOf (stepOf now-is step))
     pub next-get : (setup «data» : List ℕ) (room : ℕ) → AsksGet setup → Accepted (request setup «data» room)
         → GetGiven (now-is .table) setup (bytesOf (stepOf now-is (request setup «data» room)))
+    pub get-keeps : (setup «data» : List ℕ) (room : ℕ) → AsksGet setup → next now-is (request setup «data» room) .table ≡ now-is .table
     pub next-set : (setup «data» : List ℕ) (room : ℕ) → Bytes «data» → AsksSet setup → Accepted (request setup «data» room)
         → SetStored (now-is .table) setup «data» (next now-is (request setup «data» room) .table)
+    pub set-silent : (setup «data» : List ℕ) (room : ℕ) → AsksSet setup → bytesOf (stepOf now-is (request setup «data» room)) ≡ []
     pub next-load : (k : Key) (range : Range) (w : ℕ) → Accepted (load k range w) → LoadStored (now-is .table) k range w (next now-is (load k range w) .table)
     pub alone : (step : Step) → Alone (now-is .table) (stepKey step) (next now-is step .table)
     pub stored : (k : Key) (i : ℕ) → StandsAt (st .table) k i → Moved (st .table) k i (told (rangesIn k) st run) (told (numbersIn k) st run) (now-is .table)

@@ -6,7 +6,7 @@
 --   doingOf k d room cs  ==  a Set or a Get of the addressed controls (crate answers)
 --   actOf k m d room cs  ==  31 or 32, or that
 --   doneAt t u ps act  ==  33 or 34 where no control is addressed; else what is done at those that are
---   answerAsked st k d room  ==  what is asked comes to that, behind 31 and 32
+--   answerAsked st k d room  ==  31 or 32, or what k comes to at the controls that it names
 --   requestOf st s d room    ==  the whole request; room is the reply's length
 use Prim.Native.Nat.{ℕ}
 use mathlib.Core.List.{List, [], _∷_, map}
@@ -15,7 +15,8 @@ use Rattle.ground.specs.Pick.{pick}
 use Rattle.table.specs.declared.Control.{Control}
 use Rattle.table.specs.declared.Table.{Table}
 use Rattle.table.specs.Controls.{at}
-use Rattle.address.specs.LookedUp.{unitIn, missingBy, lookupNumber}
+use Rattle.address.specs.LookedUp.{unitIn, missingBy}
+use Rattle.address.specs.Sought.{soughtBy, soughtNumber}
 use Rattle.sound.specs.Sound.{soundOf}
 use Rattle.setup.specs.declared.Target.{Target}
 use Rattle.setup.specs.declared.Asked.{Asked}
@@ -39,7 +40,7 @@ barredBy (asks.Set g) m = elsewhereBy g m
 barredBy (asks.Get part g) m = elsewhereBy g m
 
 abbrev pub missedBy : Table → ℕ → ℕ
-missedBy t u = lookupNumber (missingBy (unitIn t u))
+missedBy t u = soughtNumber (soughtBy t (missingBy (unitIn t u)))
 
 unfoldable pub lostBy : Asked → ℕ → ℕ → ℕ
 lostBy k m n = pick (eqb (barredBy k m) 0) n (barredBy k m)

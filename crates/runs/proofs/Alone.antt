@@ -1,6 +1,7 @@
 -- An accepted Set "changes that control alone" (demand 2): every other control, and every spare place, is what it was, and the
 -- addressed one is still the same control, with as many pins. And no step leaves a table that 30 turns away.
 --   alone         ==  so does every step's table
+--   run-interface ==  no run changes the AudioControl number
 --   step-sound, run-sound  ==  no step, and no run, leaves a table that 30 turns away
 use Prim.Native.Nat.{ℕ}
 use mathlib.Core.Path.{_≡_, refl, sym, ap, _∙_}
@@ -103,3 +104,8 @@ unfolding after
 run-sound st [] w s = s
 run-sound st (step ∷ run) w s =
     run-sound (next st step) run (λ x m. w x (List·Memᴰ·tail m)) (step-sound st step (w step (List·Memᴰ·head refl)) s)
+
+pub run-interface : (st : State) (run : List Step) → after st run .control ≡ st .control
+unfolding after
+run-interface st [] = refl
+run-interface st (step ∷ run) = run-interface (next st step) run

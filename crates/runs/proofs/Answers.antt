@@ -4,6 +4,7 @@
 -- what the last accepted Set made them.
 --   settles-one            ==  one number is settled where a number is wanted
 --   next-get, next-set, next-load  ==  an accepted Get gives, an accepted Set and an accepted load store, what the papers ask
+--   get-keeps, set-silent  ==  no Get changes the table, and no Set writes to the reply
 --   run-found              ==  every control is found where it was
 --   get-answers            ==  every Get that is accepted after a run is answered so
 use Prim.Native.Nat.{ℕ}
@@ -116,6 +117,22 @@ module _ (st : State) where
   next-get s d room a z =
       let g = get-got s d room a z in
       subst (GetGiven t s) (sym (ap bytesOf (g .1))) (get-given s room (g .0) (get-taken st s d room (g .0) (g .1)))
+
+  pub get-keeps : (s d : List ℕ) (room : ℕ) → AsksGet s → tableAfter t (requestOf st s d room) ≡ t
+  get-keeps s d room a = go (requestOf st s d room) refl
+    where
+      go : (o : Outcome) → requestOf st s d room ≡ o → tableAfter t o ≡ t
+      go (refused m) e = refl
+      go (got bytes) e = refl
+      go (done v) e = absurd (set-no-get s (set-taken st s d room v e .asked) a)
+
+  pub set-silent : (s d : List ℕ) (room : ℕ) → AsksSet s → bytesOf (requestOf st s d room) ≡ []
+  set-silent s d room a = go (requestOf st s d room) refl
+    where
+      go : (o : Outcome) → requestOf st s d room ≡ o → bytesOf o ≡ []
+      go (refused m) e = refl
+      go (got bytes) e = absurd (set-no-get s a (get-taken st s d room bytes e .asked))
+      go (done v) e = refl
 
   module _ (sound : Sound t) where
     set-stored : (s d : List ℕ) → Bytes d → (v : Table) → SetTaken t s d v → SetStored t s d v

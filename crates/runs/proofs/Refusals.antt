@@ -1,12 +1,10 @@
 -- What a refusal leaves, which numbers there are, and what an answer depends on.
 --   Keeps t b o      ==  the outcome o leaves the table t and the reply b as they stood
 --   Numbered P o     ==  if o is a refusal, its number has P; Denied P o: the same of what is done at the controls
---   Agree b a c e    ==  two replies, as they were and as they are, agree in what was written
 --   refused-keeps    ==  "All leave table and reply as they stood": a step whose number is not 0 changes neither
 --   LoadNumber, RequestNumber  ==  the numbers that the paper has for a load and for a request
 --   load-numbers, request-numbers, accepted-is-0  ==  every step gets 0 or a number of the paper, and 0 exactly where it is accepted: never both
 --   answered-one     ==  two results that the contract of a request allows are equal, and so are the two replies
---   reply-unread     ==  the answer and the bytes written depend on the state, the setup, the data and the reply's length alone
 use Prim.Native.Nat.{ℕ, _≤_}
 use mathlib.Core.Path.{_≡_, refl, sym, ap, _∙_, subst}
 use mathlib.Core.List.{List, [], _∷_, map}
@@ -22,11 +20,15 @@ use Rattle.setting.specs.Setting.{fitsOf, legalOf}
 use Rattle.setting.specs.declared.Range.{Range}
 use Rattle.table.specs.declared.Control.{Control}
 use Rattle.table.specs.declared.Table.{Table}
+use Rattle.table.specs.declared.Entry.{Entry}
+use Rattle.table.specs.declared.Entry.the-variants.{Nothing, At}
+use Rattle.table.specs.First.{entryIn}
 use Rattle.table.specs.declared.Sense.{Sense}
 use Rattle.table.specs.declared.Sense.the-variants.{Unknown, YesNo, Ranged, Pin}
 use Rattle.table.specs.Controls.{at, senseOf}
 use Rattle.table.specs.Keys.{Key}
-use Rattle.address.specs.LookedUp.{unitIn, missingBy, lookupNumber}
+use Rattle.address.specs.LookedUp.{unitIn, missingBy}
+use Rattle.address.specs.Sought.{soughtBy, soughtNumber}
 use Rattle.sound.specs.Sound.{soundOf}
 use Rattle.setup.specs.declared.Target.{Target}
 use Rattle.setup.specs.declared.Part.{Part}
@@ -98,15 +100,15 @@ load-by-numbers YesNo c range w = load-20
 load-by-numbers Pin c range w = load-20
 load-by-numbers (Ranged s) c range w = either-denied LoadNumber (legalOf s range && fitsOf s w) _ _ tt load-21
 
-load-at-numbers : (t : Table) (ps : List ℕ) (range : Range) (w : ℕ) → Numbered LoadNumber (loadAt t ps range w)
+load-at-numbers : (t : Table) (e : Entry) (range : Range) (w : ℕ) → Numbered LoadNumber (loadAt t e range w)
 unfolding loadAt
-load-at-numbers t [] range w = load-20
-load-at-numbers t (p ∷ ps) range w = denied-numbered LoadNumber t (p ∷ ps) (loadOn (at t p) range w) (load-by-numbers (senseOf (at t p .selector)) (at t p) range w)
+load-at-numbers t Nothing range w = load-20
+load-at-numbers t (At p c) range w = denied-numbered LoadNumber t (p ∷ []) (loadOn c range w) (load-by-numbers (senseOf (c .selector)) c range w)
 
 pub load-numbers : (st : State) (k : Key) (range : Range) (w : ℕ) → Numbered LoadNumber (loadOf st (k .unit) (k .channel) (k .selector) range w)
 unfolding loadOf
 load-numbers st k range w =
-    either-numbered LoadNumber (soundOf (st .table)) _ _ (load-at-numbers (st .table) (addressedIn (st .table) (k .unit) (k .channel) (k .selector)) range w) load-30
+    either-numbered LoadNumber (soundOf (st .table)) _ _ (load-at-numbers (st .table) (entryIn (st .table) (k .unit) (k .channel) (k .selector)) range w) load-30
 
 number : (n : ℕ) → 30 ≤ n → n ≤ 39 → RequestNumber n
 number n h k = record { from = h; to = k }
@@ -132,13 +134,13 @@ doing-numbers (asks.Set g) d room cs = set-numbers cs (g .bytes) d
 doing-numbers (asks.Get part g) d room cs = get-numbers part cs (g .bytes) room
 
 -- where no control is addressed, one of 33 and 34
-missed-numbers : (b : Bool) → RequestNumber (lookupNumber (missingBy b))
-missed-numbers true = number 34 (omega arith) (omega arith)
-missed-numbers false = number 33 (omega arith) (omega arith)
+missed-numbers : (t : Table) (b : Bool) → RequestNumber (soughtNumber (soughtBy t (missingBy b)))
+missed-numbers t true = number 34 (omega arith) (omega arith)
+missed-numbers t false = number 33 (omega arith) (omega arith)
 
 done-numbers : (t : Table) (u : ℕ) (ps : List ℕ) (k : Asked) (d : List ℕ) (room : ℕ) → Numbered RequestNumber (doneAt t u ps (doingOf k d room))
 unfolding doneAt
-done-numbers t u [] k d room = missed-numbers (unitIn t u)
+done-numbers t u [] k d room = missed-numbers t (unitIn t u)
 done-numbers t u (p ∷ ps) k d room =
     denied-numbered RequestNumber t (p ∷ ps) (doingOf k d room (map (at t) (p ∷ ps))) (doing-numbers k d room (map (at t) (p ∷ ps)))
 
@@ -196,21 +198,3 @@ accepted-is-0 st (request s d room) = accepted-by RequestNumber (λ h. let f = h
 -- the contract of a request settles its result and its reply
 pub answered-one : (st : State) (o : Outcome) (b : List ℕ) (r q : Answer) (a e : List ℕ) → Answered st o b r a → Answered st o b q e → (r ≡ q) × (a ≡ e)
 answered-one st o b r q a e x y = (x .result ∙ sym (y .result), x .lent ∙ sym (y .lent))
-
--- two calls that differ in what the lent reply held
-pub record Agree (b a c e : List ℕ) : Type 0 where
-  pub bytes : List ℕ
-  pub left : a ≡ laid bytes b
-  pub right : e ≡ laid bytes c
-
-pub reply-unread : (st : State) (s d b c : List ℕ) → length b ≡ length c → (r q : Answer) (a e : List ℕ)
-    → Answered st (requestOf st s d (length b)) b r a → Answered st (requestOf st s d (length c)) c q e → (r ≡ q) × Agree b a c e
-reply-unread st s d b c l r q a e x y =
-    let o : requestOf st s d (length c) ≡ requestOf st s d (length b) = ap (λ (m : ℕ). requestOf st s d m) (sym l) in (
-      x .result ∙ ap (answerOf st) (sym o) ∙ sym (y .result),
-      record {
-        bytes = bytesOf (requestOf st s d (length b));
-        left = x .lent;
-        right = y .lent ∙ ap (λ (z : Outcome). laid (bytesOf z) c) o;
-      },
-    )

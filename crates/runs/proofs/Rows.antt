@@ -2,7 +2,7 @@
 -- that is given, and 0 where none is; and no other number is.
 --   addressed-found, addressed-one  ==  the addressed controls are those that are found; and no other list is
 --   request-rows, load-rows    ==  the number that is answered is the one that the rows say; step-rows: so it is of every step
---   request-row-one, load-row-one ==  the rows say one number
+--   request-row-one, load-row-one, step-row-one ==  the rows say one number
 use Prim.Native.Nat.{ℕ, _≤_, _<_}
 use mathlib.Core.Path.{_≡_, refl, sym, ap, _∙_, subst}
 use mathlib.Core.List.{List, [], _∷_, map, List·Memᴰ, List·Memᴰ·head, List·Memᴰ·tail, List·Memᴰ·cases-cons, List·Memᴰ·not-nil}
@@ -24,7 +24,7 @@ use Rattle.table.specs.declared.Control.{Control}
 use Rattle.table.specs.declared.Table.{Table}
 use Rattle.table.specs.declared.Sense.{Sense}
 use Rattle.table.specs.declared.Sense.the-variants.{Unknown, YesNo, Ranged, Pin}
-use Rattle.table.specs.First.{Seat, places}
+use Rattle.table.specs.First.{Seat, places, entryAt}
 use Rattle.table.specs.First.Seat.{absent, seat}
 use Rattle.table.specs.Controls.{at, senseOf}
 use Rattle.table.specs.Keys.{Key, whereIs, Bears, StandsAt, InTable}
@@ -334,7 +334,7 @@ module _ (t : Table) (sound : Sound t) (k : Key) (range : Range) (w : ℕ) where
   by-sense c i b (Ranged r) e = passed (λ n. n (record { control = c; there = i; bears = b; ranged = (r, e) })) (by-range r c e _ (in-range r e) _)
   by-sense c i b Pin e = is-given (unranged Pin e refl) refl
 
-  by-place : (f : Seat) → whereIs t k ≡ f → rangeRows (numberOf (loadAt t (indicesOf f) range w))
+  by-place : (f : Seat) → whereIs t k ≡ f → rangeRows (numberOf (loadAt t (entryAt t f) range w))
   unfolding loadAt
   by-place absent e = is-given (λ h. none-stands t sound k e (h .there .index) (bears-stands t sound k (h .control) (h .there) (h .bears))) refl
   by-place (seat p) e =
@@ -353,3 +353,7 @@ load-row-one st k range w = row-one (row-one (row-one no-row-one))
 pub step-rows : (st : State) (step : Step) → stepRows st step (numberOf (stepOf st step))
 step-rows st (load k range w) = load-rows st k range w
 step-rows st (request s d room) = request-rows st s d room
+
+pub step-row-one : (st : State) (step : Step) (a b : ℕ) → stepRows st step a → stepRows st step b → a ≡ b
+step-row-one st (load k range w) = load-row-one st k range w
+step-row-one st (request s d room) = request-row-one st s d room

@@ -23,7 +23,7 @@ use Rattle.table.specs.declared.Control.{Control}
 use Rattle.table.specs.declared.Table.{Table}
 use Rattle.table.specs.declared.Sense.{Sense}
 use Rattle.table.specs.declared.Sense.the-variants.{Unknown, YesNo, Ranged, Pin}
-use Rattle.table.specs.First.{Seat, foundIn}
+use Rattle.table.specs.First.{Seat, foundIn, entryAt}
 use Rattle.table.specs.First.Seat.{absent, seat}
 use Rattle.table.specs.Controls.{at, placed, senseOf}
 use Rattle.table.specs.Keys.{Key, whereIs}
@@ -118,7 +118,7 @@ module _ (t : Table) (k : Key) (range : Range) (w : ℕ) (v : Table) (q : soundO
   sense-taken Pin h cs e i = no-change e
 
 found-taken : (t : Table) (k : Key) (range : Range) (w : ℕ) (v : Table) → soundOf t ≡ true → (f : Seat) → whereIs t k ≡ f
-    → loadAt t (indicesOf f) range w ≡ done v → LoadTaken t k range w v
+    → loadAt t (entryAt t f) range w ≡ done v → LoadTaken t k range w v
 unfolding loadAt
 found-taken t k range w v q absent f e = no-done e
 found-taken t k range w v q (seat p) f e =
@@ -297,7 +297,7 @@ load-by-no-gift YesNo c range w bytes e = no-gift e
 load-by-no-gift (Ranged r) c range w bytes e = ⊎-elim (λ h. change-no-gift (h .1)) (λ h. no-gift (h .1)) (picked (legalOf r range && fitsOf r w) _ _ (given bytes) e)
 load-by-no-gift Pin c range w bytes e = no-gift e
 
-load-at-not-got : (t : Table) (f : Seat) (range : Range) (w : ℕ) (bytes : List ℕ) → loadAt t (indicesOf f) range w ≡ got bytes → ⊥
+load-at-not-got : (t : Table) (f : Seat) (range : Range) (w : ℕ) (bytes : List ℕ) → loadAt t (entryAt t f) range w ≡ got bytes → ⊥
 unfolding loadAt
 load-at-not-got t absent range w bytes e = no-got e
 load-at-not-got t (seat p) range w bytes e = load-by-no-gift (senseOf (at t p .selector)) (at t p) range w bytes (got-given t (p ∷ []) (loadOn (at t p) range w) bytes e)

@@ -2,7 +2,7 @@
 --   mostControls        ==  128; a table has no more ("over 128 controls", row 30)
 --   blankControl        ==  a "spare place": all zeros
 --   emptyTable          ==  the table with no control
---   at t p              ==  what stands at index p of the table t
+--   at t p              ==  what stands at index p of the table t; past the last, a spare place
 --   placed t p c        ==  the table with the control c at index p, and else as it was
 --   senseOf n           ==  what a control with selector n holds: "Yes/no: 1 mute, 7 AGC, 9 bass boost, 10 loudness.
 --                           Ranged: 2 volume, 3 bass, 4 mid, 5 treble, 8 delay. A Selector's value is a pin"

@@ -3,6 +3,7 @@
 --   places t            ==  the indices below it hold a control: as many as the table counts, and no more than 128
 --   foundIn t u ch s    ==  where the control of unit u, channel ch and selector s first stands
 --   entryAt t x, entryIn t u ch s  ==  the same with the control that stands there
+--   entryNumber e       ==  the paper's number for each case: 20 "no such ranged control" where there is none, 0 where it stands
 --   found-first, none-found  ==  a search that answers an index has its first there; one that answers none has none
 use Prim.Native.Nat.{ℕ, _<_, min}
 use mathlib.Core.Path.{_≡_, subst}
@@ -30,6 +31,10 @@ entryAt t (seat p) = At p (at t p)
 
 abbrev pub entryIn : Table → ℕ → ℕ → ℕ → Entry
 entryIn t u ch s = entryAt t (foundIn t u ch s)
+
+abbrev pub entryNumber : Entry → ℕ
+entryNumber Nothing = 20
+entryNumber (At p c) = 0
 
 -- what the two answers say of the test
 module _ (t : ℕ → Bool) (n : ℕ) where

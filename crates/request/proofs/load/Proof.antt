@@ -22,21 +22,16 @@ use Rattle.loads.specs.Load.{loadOn, load-of-one}
 use Rattle.request.specs.declared.State.{State}
 use Rattle.request.specs.declared.Answer.{Answer}
 use Rattle.request.specs.Outcome.{answerOf, refusal, deedAnswer}
-use Rattle.address.specs.Addressed.{indicesOf}
 use Rattle.request.specs.Stored.{outcomeAt}
 use Rattle.request.specs.Load.{loadAt, loadOf}
 use Rattle.request.proofs.Stored.{done-answer, refuses}
 use Rattle.request.proofs.load.Statement.{statement}
 use Rattle.request.proofs.load.Tie as tie
 
--- what was found, from the entry
-entry-nothing : (t : Table) (x : Seat) → entryAt t x ≡ Nothing → x ≡ absent
-entry-nothing t absent e = refl
-entry-nothing t (seat p) e = absurd (let z : _≡_ {A = ℕ} 0 1 = cc in omega arith)
-
-entry-at : (t : Table) (x : Seat) (p : ℕ) (c : Control) → entryAt t x ≡ At p c → (x ≡ seat p) × (c ≡ at t p)
-entry-at t absent p c e = absurd (let z : _≡_ {A = ℕ} 0 1 = cc in omega arith)
-entry-at t (seat q) p c e = let i : q ≡ p = cc in let j : at t q ≡ c = cc in (ap seat i, sym j ∙ ap (at t) i)
+-- the control of an entry is the one that stands there
+entry-control : (t : Table) (x : Seat) (p : ℕ) (c : Control) → entryAt t x ≡ At p c → c ≡ at t p
+entry-control t absent p c e = absurd (let z : _≡_ {A = ℕ} 0 1 = cc in omega arith)
+entry-control t (seat q) p c e = let i : q ≡ p = cc in let j : at t q ≡ c = cc in sym j ∙ ap (at t) i
 
 -- one law for each way out
 module _ (st : State) (u ch s : ℕ) (range : Range) (w : ℕ) (r : Answer) (a : Bool) (e : a ≡ soundOf (st .table)) where
@@ -45,23 +40,23 @@ module _ (st : State) (u ch s : ℕ) (range : Range) (w : ℕ) (r : Answer) (a :
   no-table h = refuses st _ r 30 (no _ _ (sym e ∙ not-true a h))
 
   module _ (sound : not a ≡ false) (f : Entry) (g : f ≡ entryIn (st .table) u ch s) where
-    comes : (x : Seat) → foundIn (st .table) u ch s ≡ x → loadOf st u ch s range w ≡ loadAt (st .table) (indicesOf x) range w
+    comes : loadOf st u ch s range w ≡ loadAt (st .table) f range w
     unfolding loadOf
-    comes x h = yes _ _ (sym e ∙ not-false a sound) ∙ ap (λ (y : Seat). loadAt (st .table) (indicesOf y) range w) h
+    comes = yes _ _ (sym e ∙ not-false a sound) ∙ ap (λ (y : Entry). loadAt (st .table) y range w) (sym g)
 
     missed : f ≡ Nothing → r ≡ refusal st 20 → r ≡ answerOf st (loadOf st u ch s range w)
     unfolding loadAt
-    missed h = refuses st _ r 20 (comes absent (entry-nothing (st .table) (foundIn (st .table) u ch s) (sym g ∙ h)))
+    missed h = refuses st _ r 20 (comes ∙ ap (λ (y : Entry). loadAt (st .table) y range w) h)
 
     there : (p : ℕ) (c : Control) → f ≡ At p c → (d : Deed) → d ≡ deedOf c (loadOn c range w) → r ≡ deedAnswer st p d
         → r ≡ answerOf st (loadOf st u ch s range w)
     unfolding loadAt
     there p c h d j q =
-        let k = entry-at (st .table) (foundIn (st .table) u ch s) p c (sym g ∙ h) in
+        let k : c ≡ at (st .table) p = entry-control (st .table) (foundIn (st .table) u ch s) p c (sym g ∙ h) in
         q
-        ∙ ap (deedAnswer st p) (j ∙ ap (λ (x : Control). deedOf x (loadOn x range w)) (k .1))
+        ∙ ap (deedAnswer st p) (j ∙ ap (λ (x : Control). deedOf x (loadOn x range w)) k)
         ∙ done-answer st p (loadOn (at (st .table) p) range w) (load-of-one (at (st .table) p) range w)
-        ∙ sym (ap (answerOf st) (comes (seat p) (k .0)))
+        ∙ sym (ap (answerOf st) (comes ∙ ap (λ (y : Entry). loadAt (st .table) y range w) h ∙ ap (λ (x : Control). outcomeAt (st .table) (p ∷ []) (loadOn x range w)) k))
 
 ruleset laws = (no-table, missed, there, needs)
 

@@ -11,14 +11,14 @@ use borrow.Author.Tests.{eq-eqb, ne-eqb}
 use Rattle.ground.specs.Pick.{pick, yes, no, decided, reads-eq}
 use Rattle.table.specs.declared.Control.{Control}
 use Rattle.table.specs.declared.Table.{Table}
-use Rattle.address.specs.LookedUp.{missingBy, lookupNumber}
+use Rattle.address.specs.LookedUp.{missingBy}
 use Rattle.table.specs.First.{Seat, foundIn}
 use Rattle.table.specs.First.Seat.{absent, seat}
 use Rattle.address.specs.declared.Sought.{Sought}
 use Rattle.address.specs.declared.Sought.the-variants as sought
 use Rattle.table.specs.Controls.{at}
 use Rattle.sound.specs.Sound.{soundOf}
-use Rattle.address.specs.Sought.{soughtIn}
+use Rattle.address.specs.Sought.{soughtIn, soughtBy, soughtNumber}
 use Rattle.setup.specs.declared.Target.{Target}
 use Rattle.setup.specs.declared.Part.{Part}
 use Rattle.setup.specs.declared.Asked.{Asked}
@@ -63,7 +63,7 @@ module _ (st : State) (k : Asked) (d : List ℕ) (room : ℕ) where
   where-is = foundIn (st .table) unit (targetIn k .channel) (targetIn k .selector)
 
   -- where no control is addressed
-  lost-asked : (b : Bool) → Missed (st .table) unit (targetIn k .channel) (targetIn k .selector) b → (x : ℕ) → x ≡ lostBy k (st .control) (lookupNumber (missingBy b))
+  lost-asked : (b : Bool) → Missed (st .table) unit (targetIn k .channel) (targetIn k .selector) b → (x : ℕ) → x ≡ lostBy k (st .control) (soughtNumber (soughtBy (st .table) (missingBy b)))
       → answerAsked st k d room ≡ refused x
   unfolding answerAsked doneAt lostBy
   lost-asked b h x e =
@@ -71,7 +71,7 @@ module _ (st : State) (k : Asked) (d : List ℕ) (room : ℕ) where
       (λ (z : barredBy k (st .control) ≡ 0).
       yes _ _ (eq-eqb _ _ z)
       ∙ ap (λ (f : Seat). doneAt (st .table) unit (indicesOf f) (doingOf k d room)) (h .none)
-      ∙ ap (λ (y : Bool). refused (lookupNumber (missingBy y))) (h .unit)
+      ∙ ap (λ (y : Bool). refused (soughtNumber (soughtBy (st .table) (missingBy y)))) (h .unit)
       ∙ ap refused (sym (e ∙ yes _ _ (eq-eqb _ _ z))))
       (λ (z : barredBy k (st .control) ≡ 0 → ⊥). no _ _ (ne-eqb _ _ z) ∙ ap refused (sym (e ∙ no _ _ (ne-eqb _ _ z))))
       (decided (eqb (barredBy k (st .control)) 0) (reads-eq (barredBy k (st .control)) 0))
