@@ -33,7 +33,8 @@ use Rattle.table.specs.declared.Sense.{Sense}
 use Rattle.table.specs.declared.Sense.the-variants.{YesNo, Ranged}
 use Rattle.table.specs.Controls.{mostControls, blankControl, at, senseOf}
 use Rattle.table.specs.Keys.{InTable}
-use Rattle.sound.specs.Fresh.{FreshAs, Fresh}
+use Rattle.single.specs.FreshControl.{FreshAs}
+use Rattle.sound.specs.Fresh.{Fresh}
 use Rattle.controls.specs.Controls.{unitControl, entityControls, controlsOf, nodeControls, controlsTo, controlsOfRun}
 use Rattle.controls.specs.Growth.{tableOf}
 use Rattle.controls.specs.Standing.{Carries, feature, selector, Stands, stands-of, control-stands}
