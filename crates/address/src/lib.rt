@@ -91,7 +91,7 @@ pub fn seek(table: Table, unit: u8, channel: u8, selector: u8) -> Sought
     let mut index = 0;
     while index < count {
         let control = table.controls[index];
-        if !sound::sound_control(control) {
+        if !single::sound_control(control) {
             return Sought::Unsound;
         }
         let own = ground::index_of(control.unit);

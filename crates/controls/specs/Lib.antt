@@ -1,6 +1,6 @@
 pub mod Controls
 pub mod Growth
-pub mod Notes
+pub mod Told
 pub mod Counts
 pub mod Standing
 pub mod Order

@@ -33,11 +33,14 @@ use Rattle.table.specs.declared.Sense.{Sense}
 use Rattle.table.specs.declared.Sense.the-variants.{YesNo, Ranged}
 use Rattle.table.specs.Controls.{mostControls, blankControl, at, senseOf}
 use Rattle.table.specs.Keys.{InTable}
-use Rattle.sound.specs.Fresh.{FreshAs, Fresh}
-use Rattle.controls.specs.Controls.{unitControl, entityControls, controlsOf, nodeControls, controlsTo, controlsOfRun}
+use Rattle.single.specs.FreshControl.{FreshAs}
+use Rattle.sound.specs.Fresh.{Fresh}
+use Rattle.masks.specs.Masks.{unitControl}
+use Rattle.masks.specs.Order.{pairs-at}
+use Rattle.controls.specs.Controls.{entityControls, controlsOf, nodeControls, controlsTo, controlsOfRun}
 use Rattle.controls.specs.Growth.{tableOf}
 use Rattle.controls.specs.Standing.{Carries, feature, selector, Stands, stands-of, control-stands}
-use Rattle.controls.specs.Order.{pairs-at, Before, controls-ordered}
+use Rattle.controls.specs.Order.{Before, controls-ordered}
 use Rattle.controls.specs.Rule15.{Rule15, before-other, listed-few}
 
 controls-append : (cluster : ℕ → Cluster) (xs ys : List (List ℕ))

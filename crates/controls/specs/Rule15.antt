@@ -23,10 +23,11 @@ use Rattle.edition.specs.Edition.{ownId, DistinctIds}
 use Rattle.table.specs.declared.Control.{Control}
 use Rattle.table.specs.Controls.{mostControls}
 use Rattle.table.specs.Same.{Same}
+use Rattle.masks.specs.Order.{Pairs, none, more, pairs-as}
 use Rattle.controls.specs.Controls.{controlsOf, breach15}
 use Rattle.controls.specs.Growth.{tableOf}
 use Rattle.controls.specs.Standing.{Stands, stands-of, control-stands}
-use Rattle.controls.specs.Order.{Pairs, none, more, pairs-as, Before, controls-ordered}
+use Rattle.controls.specs.Order.{Before, controls-ordered}
 
 pub record Rule15 (ds : List (List ℕ)) (cluster : ℕ → Cluster) : Type 0 where
   pub listed : List Control

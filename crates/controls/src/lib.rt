@@ -1,47 +1,22 @@
 // Controls (document 01, "Controls and settings", first paragraph). What it promises to the layer above: for every configuration, every run
 // and every cluster of its entities, the table of controls that the masks of the Feature Units and the Selectors give, none loaded; and
-// rule 15, which counts them. A Feature Unit's channels are its cluster's, never told by its own length.
+// rule 15, which counts them. What the masks are is crate masks's. A Feature Unit's channels are its cluster's, never told by its own length.
 ghost use mathlib.Core.Path.{_≡_};
 ghost use Prim.Native.Nat.{_<_};
 ghost use Rattle.layout.specs.Layout.{entityOf};
-ghost use Rattle.controls.specs.Controls.{freshControl, maskOf, bitSet, bitControls, maskControls, featureControls};
+ghost use Rattle.masks.specs.Masks.{bitControls, maskControls, featureControls};
+ghost use Rattle.masks.specs.Notes.{controlFrom};
 ghost use Rattle.controls.specs.Controls.{entityControls, controlsOfRun, breach15};
 ghost use Rattle.controls.specs.Growth.{added, tableOf};
-ghost use Rattle.controls.specs.Notes.{controlFrom, tableBy, tableFrom, Grows, Come, Room};
+ghost use Rattle.controls.specs.Told.{tableBy, tableFrom, Grows, Come, Room};
 use entities::Run;
 use ground::Place;
 use layout::Cluster;
 use layout::Entity;
-use scan::byte_at;
-use scan::stretch;
+use masks::control_from;
+use masks::note_of;
 use scan::word_at;
-use table::Control;
 use table::Table;
-
-// What is kept of a control until the table is made: its unit, channel, selector, pins and first value, a byte each, the unit lowest.
-fn note_of(unit: u8, channel: u8, selector: u8, pins: u8, first: u8) -> u64
-    ensures { λ r. ⌜ controlFrom r ≡ freshControl unit channel selector pins first ⌝ }
-{
-    let above = pins as u64 + 256 * first as u64;
-    unit as u64 + 256 * (channel as u64 + 256 * (selector as u64 + 256 * above))
-}
-
-// The control of a note: not loaded, and its numbers zero but the first value.
-fn control_from(note: u64) -> Control
-    ensures { λ r. ⌜ r ≡ controlFrom note ⌝ }
-{
-    Control {
-        unit: (note % 256) as u8,
-        channel: (note / 256 % 256) as u8,
-        selector: (note / 256 / 256 % 256) as u8,
-        pins: (note / 256 / 256 / 256 % 256) as u8,
-        loaded: false,
-        min: 0,
-        max: 0,
-        res: 0,
-        cur: (note / 256 / 256 / 256 / 256 % 256) as u16,
-    }
-}
 
 // One note more; past the last place it is counted only.
 fn add(notes: &mut [u64; table::CONTROLS], count: usize, note: u64) -> usize
@@ -53,14 +28,6 @@ fn add(notes: &mut [u64; table::CONTROLS], count: usize, note: u64) -> usize
     }
     notes[count] = note;
     count + 1
-}
-
-// Bit b of a mask, the low byte first.
-fn has_bit(mask: &[u8], bit: u8) -> bool
-    ensures { λ r. ⌜ r ≡ bitSet (now (mask .entry)) bit ⌝ }
-{
-    let byte = byte_at(mask, (bit / 8) as usize);
-    (byte >> (bit % 8)) % 2 == 1
 }
 
 // The control that a bit of a channel's mask carries; bit 5 carries none.
@@ -79,7 +46,7 @@ fn add_bit(
     if bit == 5 {
         return count;
     }
-    if !has_bit(mask, bit) {
+    if !masks::has_bit(mask, bit) {
         return count;
     }
     add(notes, count, note_of(unit, channel, bit + 1, 0, 0))
@@ -109,14 +76,6 @@ fn add_mask(
     made
 }
 
-// A channel's mask in a Feature Unit of this control size: masks of so many bytes stand from 6 on.
-fn mask_of(d: &[u8], size: u8, channel: u8) -> &[u8]
-    ensures { λ r. ⌜ now r ≡ maskOf (now (d .entry)) size channel ⌝ }
-{
-    let at = 6 + channel as usize * size as usize;
-    stretch(d, at, at + size as usize)
-}
-
 // The controls of a Feature Unit: channel 0 is master, and one for each channel of its cluster.
 fn add_unit(
     notes: &mut [u64; table::CONTROLS],
@@ -132,7 +91,7 @@ fn add_unit(
     let mut made = count;
     let mut channel: usize = 0;
     while channel <= channels as usize {
-        let mask = mask_of(d, size, channel as u8);
+        let mask = masks::mask_of(d, size, channel as u8);
         let more = add_mask(notes, made, mask, unit, channel as u8);
         made = more;
         channel += 1;

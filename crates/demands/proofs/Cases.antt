@@ -40,7 +40,8 @@ use Rattle.connections.specs.Judgement.{judged}
 use Rattle.terminals.specs.Terminals.{terminalOf, terminalsFrom, terminalsOf, bearerIn, terminalNumber, channelsOf}
 use Rattle.formats.specs.Tests.{opensAs, isGeneral, isFormat, samplesRight, ratesRight, isTypeOne, formatRight}
 use Rattle.streaming.specs.Tests.{bearerRight, describedBy, holdsClass, broken, wrongStream, firstBroken, breach14}
-use Rattle.controls.specs.Controls.{bitCarries, bitSet, bitControls, bitsFrom, maskControls, channelsFrom, featureControls, entityControls, controlsTo, controlsOfRun, breach15}
+use Rattle.masks.specs.Masks.{bitCarries, bitSet, bitControls, bitsFrom, maskControls, channelsFrom, featureControls}
+use Rattle.controls.specs.Controls.{entityControls, controlsTo, controlsOfRun, breach15}
 use Rattle.controls.specs.Growth.{tableOf}
 use Rattle.records.specs.Records.{headOf, recordOf, recordsTo, roomFor, shownIn}
 use lib.IntN.{pos}

@@ -12,7 +12,8 @@ use Rattle.ground.specs.Places.{firstIn, somewhere, everywhere}
 use Rattle.setting.specs.Setting.{fitsOf, legalOf, wholeSteps, onGrid, availableOf, nearer, closestHeight, closestSetting, closestTo}
 use Rattle.table.specs.Controls.{senseOf, answersTo}
 use Rattle.table.specs.First.{foundIn}
-use Rattle.sound.specs.Sound.{narrowOf, soundYesNo, soundPin, soundRanged, soundBy, soundControl, firstThere, soundPlace, soundOf}
+use Rattle.single.specs.Tests.{narrowOf, soundYesNo, soundPin, soundRanged, soundBy, soundControl}
+use Rattle.sound.specs.Sound.{firstThere, soundPlace, soundOf}
 use Rattle.address.specs.LookedUp.{unitIn}
 use Rattle.setup.specs.Setup.{getAsked, askedBy, askedOf}
 use Rattle.deed.specs.Doing.{laid, lowFirst}

@@ -28,7 +28,8 @@ use Rattle.table.specs.declared.Sense.the-variants.{Unknown, YesNo, Ranged, Pin
 use Rattle.table.specs.First.Seat.{absent, seat}
 use Rattle.table.specs.Controls.{at, placed, senseOf, sizeOf, rangeOf}
 use Rattle.table.specs.Keys.{Key, whereIs}
-use Rattle.sound.specs.Meaning.{SoundAs, Sound, sound-reads, loaded-legal, loaded-fits, loaded-setting}
+use Rattle.single.specs.Meaning.{SoundAs, loaded-legal, loaded-fits, loaded-setting}
+use Rattle.sound.specs.Meaning.{Sound, sound-reads}
 use Rattle.table.specs.Placed.{placed-here, placed-elsewhere, kept-found}
 use Rattle.setup.specs.declared.Part.{Part}
 use Rattle.setup.specs.declared.Part.the-variants.{Cur, Min, Max, Res}

@@ -31,7 +31,8 @@ use Rattle.table.specs.First.Seat.{absent, seat}
 use Rattle.table.specs.Controls.{at, senseOf, sizeOf, rangeOf, answersTo}
 use Rattle.table.specs.Keys.{Key, whereIs, Bears, StandsAt}
 use Rattle.table.specs.Same.{Same}
-use Rattle.sound.specs.Meaning.{SoundAs, SoundRanged, SoundLoaded, Sound, loaded-legal, loaded-tested, sound-counted}
+use Rattle.single.specs.Meaning.{SoundAs, SoundRanged, SoundLoaded, loaded-legal, loaded-tested}
+use Rattle.sound.specs.Meaning.{Sound, sound-counted}
 use Rattle.answers.specs.Held.{unready, valueIn, takes, storedFor, withCur}
 use Rattle.loads.specs.Load.{loadedWith}
 use Rattle.runs.specs.Runs.{Bytes}

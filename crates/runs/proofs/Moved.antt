@@ -20,7 +20,8 @@ use Rattle.table.specs.declared.Sense.the-variants as sense
 use Rattle.table.specs.First.Seat.{absent, seat}
 use Rattle.table.specs.Controls.{at, placed, senseOf, sizeOf, rangeOf}
 use Rattle.table.specs.Same.{Same, same-self, same-by}
-use Rattle.sound.specs.Meaning.{SoundAs, Sound, loaded-legal}
+use Rattle.single.specs.Meaning.{SoundAs, loaded-legal}
+use Rattle.sound.specs.Meaning.{Sound}
 use Rattle.table.specs.Placed.{placed-here, placed-elsewhere, placed-found}
 use Rattle.sound.specs.Placed.{placed-sound}
 use Rattle.table.specs.Keys.{Key, whereIs, StandsAt}

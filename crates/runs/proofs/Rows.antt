@@ -30,7 +30,8 @@ use Rattle.table.specs.Controls.{at, senseOf}
 use Rattle.table.specs.Keys.{Key, whereIs, Bears, StandsAt, InTable}
 use Rattle.address.specs.LookedUp.{unitIn}
 use Rattle.sound.specs.Sound.{soundOf}
-use Rattle.sound.specs.Meaning.{SoundAs, Sound, sound-reads}
+use Rattle.single.specs.Meaning.{SoundAs}
+use Rattle.sound.specs.Meaning.{Sound, sound-reads}
 use Rattle.setup.specs.declared.Part.{Part}
 use Rattle.setup.specs.declared.Part.the-variants.{Cur, Min, Max, Res}
 use Rattle.setup.specs.declared.Asked.{Asked}

@@ -11,7 +11,8 @@ use Rattle.table.specs.declared.Table.{Table}
 use Rattle.table.specs.Controls.{at, placed, senseOf}
 use Rattle.table.specs.Same.{Same, same-back, same-by}
 use Rattle.table.specs.Placed.{placed-here, placed-elsewhere, placed-keeps}
-use Rattle.sound.specs.Meaning.{SoundAs, Sound}
+use Rattle.single.specs.Meaning.{SoundAs}
+use Rattle.sound.specs.Meaning.{Sound}
 
 pub placed-sound : (t : Table) (p : ℕ) → p < length (t .controls) → (c : Control) → Same c (at t p) → Sound t → SoundAs (senseOf (c .selector)) c → Sound (placed t p c)
 placed-sound t p inside c h s k = record {

@@ -27,9 +27,11 @@ use Rattle.ground.specs.Places.{somewhere, reads-somewhere}
 use Rattle.table.specs.declared.Control.{Control}
 use Rattle.table.specs.declared.Table.{Table}
 use Rattle.table.specs.Controls.{mostControls, at}
-use Rattle.sound.specs.Sound.{soundControl, soundOf}
 use Rattle.table.specs.Same.{Same}
-use Rattle.sound.specs.Meaning.{Sound, sound-control, sound-reads}
+use Rattle.single.specs.Tests.{soundControl}
+use Rattle.single.specs.Meaning.{sound-control}
+use Rattle.sound.specs.Sound.{soundOf}
+use Rattle.sound.specs.Meaning.{Sound, sound-reads}
 
 unfoldable pub keyOf : Control → ℕ
 keyOf c = c .unit * 65536 + c .channel * 256 + c .selector

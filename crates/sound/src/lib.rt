@@ -1,103 +1,14 @@
 // Refusal 30 (document 01, "Controls and settings"): the test that every entry point makes of a table, since everything in it is
-// public. What this crate promises to the layer above: each function answers, for every table whatever, as the definitions of
-// specs/ say; what 30 means, in document 01's words, stands in specs/Meaning.antt.
+// public. What it asks of one control by itself is crate single's. What this crate promises to the layer above: each function
+// answers, for every table whatever, as the definitions of specs/ say; what 30 means, in document 01's words, stands in
+// specs/Meaning.antt.
 ghost use mathlib.Core.Path.{_≡_};
 ghost use Prim.Native.Nat.{_≤_};
 ghost use Rattle.table.specs.Controls.{mostControls};
-ghost use Rattle.sound.specs.Sound.{narrowOf, soundYesNo, soundPin, soundRanged, soundControl, soundOf};
+ghost use Rattle.sound.specs.Sound.{soundOf};
 ghost use Rattle.sound.specs.Rising.{Keyed, keyAmong};
-use setting::Range;
-use setting::Sort;
 use table::Control;
-use table::Sense;
 use table::Table;
-
-// The last channel that a control may have: row 30 has something against "a channel over 16".
-const LAST_CHANNEL: u8 = 16;
-
-// Whether no number of the control is too wide for one byte.
-fn narrow(control: Control) -> bool
-    ensures { λ r. ⌜ r ≡ narrowOf control ⌝ }
-{
-    if 255 < control.min {
-        return false;
-    }
-    if 255 < control.max {
-        return false;
-    }
-    if 255 < control.res {
-        return false;
-    }
-    control.cur <= 255
-}
-
-fn sound_yes_no(control: Control) -> bool
-    ensures { λ r. ⌜ r ≡ soundYesNo control ⌝ }
-{
-    if LAST_CHANNEL < control.channel {
-        return false;
-    }
-    if !narrow(control) {
-        return false;
-    }
-    control.cur <= 1
-}
-
-fn sound_pin(control: Control) -> bool
-    ensures { λ r. ⌜ r ≡ soundPin control ⌝ }
-{
-    if 0 < control.channel {
-        return false;
-    }
-    if control.pins < 1 {
-        return false;
-    }
-    if layout::MOST_PINS < control.pins {
-        return false;
-    }
-    if !narrow(control) {
-        return false;
-    }
-    if control.cur < 1 {
-        return false;
-    }
-    control.cur <= control.pins as u16
-}
-
-fn sound_ranged(sort: Sort, control: Control) -> bool
-    ensures { λ r. ⌜ r ≡ soundRanged sort control ⌝ }
-{
-    if LAST_CHANNEL < control.channel {
-        return false;
-    }
-    if !control.loaded {
-        return true;
-    }
-    let range = Range {
-        min: control.min,
-        max: control.max,
-        res: control.res,
-    };
-    if !setting::legal(sort, range) {
-        return false;
-    }
-    if !setting::fits(sort, control.cur) {
-        return false;
-    }
-    setting::available(sort, range, control.cur)
-}
-
-// Whether refusal 30 has nothing against this control by itself.
-pub fn sound_control(control: Control) -> bool
-    ensures { λ r. ⌜ r ≡ soundControl control ⌝ }
-{
-    match table::sense_of(control.selector) {
-        Sense::Unknown => false,
-        Sense::YesNo => sound_yes_no(control),
-        Sense::Ranged(sort) => sound_ranged(sort, control),
-        Sense::Pin => sound_pin(control),
-    }
-}
 
 // Unit, channel and selector as one number: within a unit it rises as channel, then selector, do.
 pub fn key_of(control: Control) -> u32
@@ -133,7 +44,7 @@ pub fn sound_any_order(table: Table) -> bool
     let mut index = 0;
     while index < count {
         let control = table.controls[index];
-        if !sound_control(control) {
+        if !single::sound_control(control) {
             return false;
         }
         let key = key_of(control);
@@ -160,7 +71,7 @@ pub fn sound(table: Table) -> bool
     let mut index = 0;
     while index < count {
         let control = table.controls[index];
-        if !sound_control(control) {
+        if !single::sound_control(control) {
             return false;
         }
         let own = ground::index_of(control.unit);

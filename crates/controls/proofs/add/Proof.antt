@@ -5,8 +5,9 @@ use mathlib.Core.Path.{_≡_}
 use mathlib.Core.List.{List}
 use native.Mathlib.Omega.{arith}
 use Rattle.table.specs.Controls.{mostControls}
+use Rattle.masks.specs.Notes.{controlFrom}
 use Rattle.controls.specs.Growth.{added}
-use Rattle.controls.specs.Notes.{controlFrom, tableBy, Room, notes-added, notes-full}
+use Rattle.controls.specs.Told.{tableBy, Room, notes-added, notes-full}
 use Rattle.controls.proofs.add.Statement.{statement}
 use Rattle.controls.proofs.add.Tie as tie
 

@@ -8,9 +8,9 @@ use lib.Dec.{eqb}
 use borrow.Author.Tests.{eq-eqb, ne-eqb, not-true, not-false}
 use Rattle.ground.specs.Pick.{pick}
 use Rattle.table.specs.declared.Table.{Table}
-use Rattle.controls.specs.Controls.{unitControl, bitSet, bitCarries, bitControls}
+use Rattle.masks.specs.Masks.{unitControl, bitSet, bitCarries, bitControls}
+use Rattle.masks.specs.Notes.{controlFrom}
 use Rattle.controls.specs.Growth.{added, grown}
-use Rattle.controls.specs.Notes.{controlFrom}
 use Rattle.controls.proofs.add_bit.Statement.{statement}
 use Rattle.controls.proofs.add_bit.Tie as tie
 

@@ -10,9 +10,11 @@ use Rattle.layout.specs.declared.Entity.{Entity}
 use Rattle.layout.specs.declared.Entity.the-variants.{Unknown, Input, Output, Mixer, Selector, Printed, Feature}
 use Rattle.layout.specs.Layout.{entityOf}
 use Rattle.table.specs.declared.Table.{Table}
-use Rattle.controls.specs.Controls.{selectorControl, featureControls, entityControls}
+use Rattle.masks.specs.Masks.{featureControls}
+use Rattle.masks.specs.Notes.{controlFrom}
+use Rattle.controls.specs.Controls.{selectorControl, entityControls}
 use Rattle.controls.specs.Growth.{added, grown}
-use Rattle.controls.specs.Notes.{controlFrom, Room, room-more}
+use Rattle.controls.specs.Told.{Room, room-more}
 use Rattle.controls.specs.Counts.{entity-few}
 use Rattle.controls.proofs.add_entity.Statement.{statement}
 use Rattle.controls.proofs.add_entity.Tie as tie

@@ -6,10 +6,10 @@ use mathlib.Core.List.{List, []}
 use native.Mathlib.Omega.{arith}
 use Rattle.ground.specs.Numbers.{byte, word}
 use Rattle.table.specs.declared.Table.{Table}
-use Rattle.controls.specs.Controls.{bitSet, bitCarries, bitControls, bitsFrom, maskControls}
+use Rattle.masks.specs.Masks.{bitSet, bitCarries, bitControls, bitsFrom, maskControls}
 use Rattle.controls.specs.Growth.{grown, grown-append}
-use Rattle.controls.specs.Notes.{tableBy, Room, room-more, room-grown}
-use Rattle.controls.specs.Counts.{bit-few}
+use Rattle.controls.specs.Told.{tableBy, Room, room-more, room-grown}
+use Rattle.masks.specs.Counts.{bit-few}
 use Rattle.controls.proofs.add_mask.Statement.{statement}
 use Rattle.controls.proofs.add_mask.Tie as tie
 

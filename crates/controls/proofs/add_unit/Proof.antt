@@ -5,10 +5,10 @@ use mathlib.Core.Path.{_≡_, sym, ap, _∙_}
 use mathlib.Core.List.{List}
 use native.Mathlib.Omega.{arith}
 use Rattle.table.specs.declared.Table.{Table}
-use Rattle.controls.specs.Controls.{maskOf, maskControls, channelsFrom, featureControls}
+use Rattle.masks.specs.Masks.{maskOf, maskControls, channelsFrom, featureControls}
 use Rattle.controls.specs.Growth.{grown, grown-append}
-use Rattle.controls.specs.Notes.{tableBy, Room, room-more, room-grown}
-use Rattle.controls.specs.Counts.{mask-few}
+use Rattle.controls.specs.Told.{tableBy, Room, room-more, room-grown}
+use Rattle.masks.specs.Counts.{mask-few}
 use Rattle.controls.proofs.add_unit.Statement.{statement}
 use Rattle.controls.proofs.add_unit.Tie as tie
 

@@ -18,7 +18,7 @@ use Rattle.table.specs.declared.Table.{Table}
 use Rattle.table.specs.Controls.{mostControls, blankControl}
 use Rattle.controls.specs.Controls.{entityControls, controlsTo, controlsOfRun}
 use Rattle.controls.specs.Growth.{grown, tableOf, table-empty, table-grown}
-use Rattle.controls.specs.Notes.{tableBy, tableFrom, Come, Room, room-more, room-grown, notes-empty, notes-front}
+use Rattle.controls.specs.Told.{tableBy, tableFrom, Come, Room, room-more, room-grown, notes-empty, notes-front}
 use Rattle.controls.proofs.read_controls.Statement.{statement}
 use Rattle.controls.proofs.read_controls.Tie as tie
 

@@ -10,7 +10,8 @@ use lib.Seq.{take-suc, take-all}
 use Rattle.ground.specs.Lists.{pad, pad-blank, pad-set}
 use Rattle.table.specs.declared.Control.{Control}
 use Rattle.table.specs.Controls.{mostControls, blankControl}
-use Rattle.controls.specs.Notes.{controlFrom, tableBy, tableFrom, Room}
+use Rattle.masks.specs.Notes.{controlFrom}
+use Rattle.controls.specs.Told.{tableBy, tableFrom, Room}
 use Rattle.controls.proofs.table_of.Statement.{statement}
 use Rattle.controls.proofs.table_of.Tie as tie
 

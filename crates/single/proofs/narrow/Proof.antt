@@ -6,9 +6,9 @@ use mathlib.Core.Bool.{false}
 use lib.Dec.{leb}
 use borrow.Author.Tests.{le-leb, lt-leb}
 use Rattle.table.specs.declared.Control.{Control}
-use Rattle.sound.specs.Sound.{narrowOf}
-use Rattle.sound.proofs.narrow.Statement.{statement}
-use Rattle.sound.proofs.narrow.Tie as tie
+use Rattle.single.specs.Tests.{narrowOf}
+use Rattle.single.proofs.narrow.Statement.{statement}
+use Rattle.single.proofs.narrow.Tie as tie
 
 -- one law for each way out
 module _ (c : Control) where

@@ -7,9 +7,9 @@ use Rattle.table.specs.declared.Control.{Control}
 use Rattle.table.specs.declared.Sense.{Sense}
 use Rattle.table.specs.declared.Sense.the-variants.{Unknown, YesNo, Ranged, Pin}
 use Rattle.table.specs.Controls.{senseOf}
-use Rattle.sound.specs.Sound.{soundBy, soundYesNo, soundPin, soundRanged, soundControl}
-use Rattle.sound.proofs.sound_control.Statement.{statement}
-use Rattle.sound.proofs.sound_control.Tie as tie
+use Rattle.single.specs.Tests.{soundBy, soundYesNo, soundPin, soundRanged, soundControl}
+use Rattle.single.proofs.sound_control.Statement.{statement}
+use Rattle.single.proofs.sound_control.Tie as tie
 
 -- one law for each way out
 module _ (c : Control) (k : Sense) (e : k ≡ senseOf (c .selector)) where

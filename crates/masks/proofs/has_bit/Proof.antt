@@ -5,9 +5,9 @@ use mathlib.Core.Path.{_≡_}
 use mathlib.Core.List.{List}
 use lib.Dec.{eqb}
 use Rattle.ground.specs.Numbers.{byte}
-use Rattle.controls.specs.Controls.{bitSet}
-use Rattle.controls.proofs.has_bit.Statement.{statement}
-use Rattle.controls.proofs.has_bit.Tie as tie
+use Rattle.masks.specs.Masks.{bitSet}
+use Rattle.masks.proofs.has_bit.Statement.{statement}
+use Rattle.masks.proofs.has_bit.Tie as tie
 
 by-byte : (m : List ℕ) (b x : ℕ) → x ≡ byte m (b / 8) → eqb (x / 2 ^ (b % 8) % 2) 1 ≡ bitSet m b
 unfolding bitSet

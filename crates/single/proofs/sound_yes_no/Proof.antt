@@ -6,9 +6,9 @@ use mathlib.Core.Bool.{Bool, true, false, not}
 use lib.Dec.{leb}
 use borrow.Author.Tests.{le-leb, lt-leb, not-true, not-false}
 use Rattle.table.specs.declared.Control.{Control}
-use Rattle.sound.specs.Sound.{narrowOf, soundYesNo}
-use Rattle.sound.proofs.sound_yes_no.Statement.{statement}
-use Rattle.sound.proofs.sound_yes_no.Tie as tie
+use Rattle.single.specs.Tests.{narrowOf, soundYesNo}
+use Rattle.single.proofs.sound_yes_no.Statement.{statement}
+use Rattle.single.proofs.sound_yes_no.Tie as tie
 
 -- one law for each way out
 module _ (c : Control) where

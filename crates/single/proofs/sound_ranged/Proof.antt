@@ -8,9 +8,9 @@ use Rattle.setting.specs.declared.Sort.{Sort}
 use Rattle.setting.specs.Setting.{legalOf, fitsOf, availableOf}
 use Rattle.table.specs.declared.Control.{Control}
 use Rattle.table.specs.Controls.{rangeOf}
-use Rattle.sound.specs.Sound.{soundRanged}
-use Rattle.sound.proofs.sound_ranged.Statement.{statement}
-use Rattle.sound.proofs.sound_ranged.Tie as tie
+use Rattle.single.specs.Tests.{soundRanged}
+use Rattle.single.proofs.sound_ranged.Statement.{statement}
+use Rattle.single.proofs.sound_ranged.Tie as tie
 
 -- one law for each way out
 module _ (s : Sort) (c : Control) where

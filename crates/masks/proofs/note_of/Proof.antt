@@ -1,10 +1,15 @@
 -- Five bytes, each above the one before.
 use borrow.Author.Needs.{needs}
-use Rattle.controls.specs.Notes.{noted}
-use Rattle.controls.proofs.note_of.Statement.{statement}
-use Rattle.controls.proofs.note_of.Tie as tie
+use Prim.Native.Nat.{ℕ, _<_}
+use mathlib.Core.Path.{refl}
+use Rattle.masks.specs.Notes.{noteOf, noted, Noted}
+use Rattle.masks.proofs.note_of.Statement.{statement}
+use Rattle.masks.proofs.note_of.Tie as tie
 
-ruleset laws = (noted, needs)
+made : (u k v p f : ℕ) → u < 256 → k < 256 → v < 256 → p < 256 → f < 256 → Noted u k v p f (noteOf u k v p f)
+made u k v p f hu hk hv hp hf = record { is = refl; tells = noted u k v p f hu hk hv hp hf }
+
+ruleset laws = (made, needs)
 
 mul-above : tie.Need-mul-above
 mul-above c = search laws

@@ -2,10 +2,10 @@
 use borrow.Author.Needs.{needs}
 use Prim.Native.Nat.{ℕ, _/_, _%_}
 use mathlib.Core.Path.{_≡_, refl}
-use Rattle.controls.specs.Controls.{freshControl}
-use Rattle.controls.specs.Notes.{controlFrom}
-use Rattle.controls.proofs.control_from.Statement.{statement}
-use Rattle.controls.proofs.control_from.Tie as tie
+use Rattle.masks.specs.Masks.{freshControl}
+use Rattle.masks.specs.Notes.{controlFrom}
+use Rattle.masks.proofs.control_from.Statement.{statement}
+use Rattle.masks.proofs.control_from.Tie as tie
 
 told : (n : ℕ) → freshControl (n % 256) (n / 256 % 256) (n / 256 / 256 % 256) (n / 256 / 256 / 256 % 256) (n / 256 / 256 / 256 / 256 % 256) ≡ controlFrom n
 unfolding controlFrom

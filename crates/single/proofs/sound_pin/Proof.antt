@@ -9,9 +9,9 @@ use lib.Dec.{leb}
 use borrow.Author.Tests.{le-leb, lt-leb, eq-eqb, ne-eqb, not-true, not-false}
 use Rattle.table.specs.declared.Control.{Control}
 use Rattle.layout.specs.Layout.{mostPins}
-use Rattle.sound.specs.Sound.{narrowOf, soundPin}
-use Rattle.sound.proofs.sound_pin.Statement.{statement}
-use Rattle.sound.proofs.sound_pin.Tie as tie
+use Rattle.single.specs.Tests.{narrowOf, soundPin}
+use Rattle.single.proofs.sound_pin.Statement.{statement}
+use Rattle.single.proofs.sound_pin.Tie as tie
 
 -- one law for each way out
 module _ (c : Control) where

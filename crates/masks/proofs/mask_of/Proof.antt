@@ -5,8 +5,8 @@ use native.Mathlib.Omega.{arith}
 use native.Mathlib.Nat.{mul-le-mul}
 use mir.Val.{Fits}
 use mir.Syntax.{w64}
-use Rattle.controls.proofs.mask_of.Statement.{statement}
-use Rattle.controls.proofs.mask_of.Tie as tie
+use Rattle.masks.proofs.mask_of.Statement.{statement}
+use Rattle.masks.proofs.mask_of.Tie as tie
 
 module _ (k n : ℕ) (l : k < 256) (m : n < 256) where
   product-few : k * n ≤ 255 * 255

@@ -1,8 +1,4 @@
--- What the reader keeps of the controls until it makes the table of them: a number for each, its note.
---   noteOf u k v p f   ==  the note of the control of unit u, channel k and selector v with p pins and first value f: a byte each,
---                          the unit's lowest
---   controlFrom n      ==  the control that is noted by n; 0 notes a spare place
---   noted              ==  the control of a note is the one that it was made of, where all five are bytes
+-- The table that the notes of controls tell (controlFrom of crate masks), while they grow and when they are all there.
 --   tableBy l n        ==  the table that the notes l tell, n of them counted
 --   tableFrom l n      ==  the same, spare places behind the first n
 --   Grows l n xs m k   ==  the notes m, k of them counted, tell the table that l and n tell, grown by the controls xs
@@ -12,43 +8,17 @@
 --   notes-empty        ==  no notes tell the table with no control
 --   notes-added, notes-full  ==  a note put in the next place, and past the last place, tells the table with that control added
 --   notes-front        ==  where the notes tell the table of some controls, the notes that are counted are enough
-use Prim.Native.Nat.{ℕ, zero, suc, _+_, _*_, _/_, _%_, _≤_, _<_}
+use Prim.Native.Nat.{ℕ, zero, suc, _+_, _≤_, _<_}
 use mathlib.Core.Path.{_≡_, refl, sym, ap, _∙_}
 use mathlib.Core.List.{List, [], _∷_, map}
-use native.Mathlib.Nat.{add-mul-div-left, div-eq-of-lt, add-mul-mod-self-left, mod-eq-of-lt}
 use native.Mathlib.Omega.{arith}
-use lib.Dec.{lit<}
 use lib.ListN.{length, take, set, replicate, length-set}
 use Rattle.ground.specs.Lists.{pad}
 use Rattle.table.specs.declared.Control.{Control}
 use Rattle.table.specs.declared.Table.{Table}
 use Rattle.table.specs.Controls.{mostControls, blankControl, emptyTable}
-use Rattle.controls.specs.Controls.{freshControl}
+use Rattle.masks.specs.Notes.{controlFrom}
 use Rattle.controls.specs.Growth.{added, grown, tableOf, grown-count}
-
-abbrev pub noteOf : ℕ → ℕ → ℕ → ℕ → ℕ → ℕ
-noteOf u k v p f = u + 256 * (k + 256 * (v + 256 * (p + 256 * f)))
-
-unfoldable pub controlFrom : ℕ → Control
-controlFrom n = freshControl (n % 256) (n / 256 % 256) (n / 256 / 256 % 256) (n / 256 / 256 / 256 % 256) (n / 256 / 256 / 256 / 256 % 256)
-
--- the lowest byte, and what stands above it
-low : (a w : ℕ) → a < 256 → (a + 256 * w) % 256 ≡ a
-low a w h = add-mul-mod-self-left a 256 w ∙ mod-eq-of-lt h
-
-above : (a w : ℕ) → a < 256 → (a + 256 * w) / 256 ≡ w
-above a w h = add-mul-div-left a w (lit< tt) ∙ ap (λ (x : ℕ). x + w) (div-eq-of-lt h) ∙ omega arith
-
-pub noted : (u k v p f : ℕ) → u < 256 → k < 256 → v < 256 → p < 256 → f < 256 → controlFrom (noteOf u k v p f) ≡ freshControl u k v p f
-unfolding controlFrom
-noted u k v p f hu hk hv hp hf =
-    let a = above u (k + 256 * (v + 256 * (p + 256 * f))) hu in
-    let b = above k (v + 256 * (p + 256 * f)) hk in
-    let c = above v (p + 256 * f) hv in
-    let d = above p f hp in
-    let e = low u (k + 256 * (v + 256 * (p + 256 * f))) hu in
-    let g = low k (v + 256 * (p + 256 * f)) hk in
-    rw (a, b, c, d, e, g, low v (p + 256 * f) hv, low p f hp, mod-eq-of-lt hf) refl
 
 abbrev pub tableBy : List ℕ → ℕ → Table
 tableBy l n = record { count = n; controls = map controlFrom l }

@@ -1,0 +1,5 @@
+pub mod Masks
+pub mod Notes
+pub mod Counts
+pub mod Carried
+pub mod Order
