@@ -21,7 +21,8 @@ use Rattle.graph.specs.Members.{_∈_}
 use Rattle.edition.specs.Edition.{Edition}
 use Rattle.edition.specs.Audio.{audio}
 use Rattle.entities.specs.Run.{mostEntities}
-use Rattle.interfaces.specs.Rules1to4.{Rule1, Rule2, Rule4, Broken4}
+use Rattle.opening.specs.Rules1and2.{Rule1, Rule2}
+use Rattle.interfaces.specs.Rule4.{Rule4, Broken4}
 use Rattle.collection.specs.Rule7.{Rule7}
 use Rattle.groups.specs.Rules5and6.{Rule5, listedOf, Rule6}
 

@@ -16,7 +16,8 @@ use Rattle.scan.specs.Want.{isInterface, isClass, isAudio, isSetting, isMember,
 use Rattle.layout.specs.Layout.{entityOf, kindOf, isUnknown}
 use Rattle.layout.specs.Sources.{pinsOf, sourcesFrom, feedsOf}
 use Rattle.entities.specs.Run.{nodeOf, nodesFrom, blankNode, runIn}
-use Rattle.interfaces.specs.Reading.{breach1, breach2, wrongInterface, breach4, interfacesJudged}
+use Rattle.opening.specs.Reading.{breach1, breach2}
+use Rattle.interfaces.specs.Reading.{wrongInterface, breach4, interfacesJudged}
 use Rattle.collection.specs.Reading.{isDistinct, allKnown, unlisted, collects}
 use Rattle.groups.specs.Reading.{runEnd, frameFrom, frameOf, opens, isHeader, breach5, straysFrom, breach6, breach7, groupJudged}
 use Rattle.groups.specs.Reading as groups

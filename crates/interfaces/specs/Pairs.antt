@@ -23,7 +23,7 @@ use Rattle.scan.specs.CuttingLaws.{end-off}
 use Rattle.scan.specs.Search.{Passed}
 use Rattle.scan.specs.Want.{isInterface, isSetting, reads-interface, reads-setting, wants}
 use Rattle.scan.specs.declared.Want.the-variants as want
-use Rattle.interfaces.specs.Rules1to4.{mostBytes}
+use Rattle.opening.specs.Rules1and2.{mostBytes}
 use Rattle.scan.specs.Before.{standsBefore, before-none, before-more}
 
 abbrev pub mostInterfaces : ℕ

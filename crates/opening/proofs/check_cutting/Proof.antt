@@ -8,8 +8,8 @@ use borrow.Author.Tests.{eq-eqb, ne-eqb}
 use Rattle.ground.specs.declared.Place.the-variants.{Nowhere, At}
 use Rattle.ground.specs.Pick.{yes, no}
 use Rattle.scan.specs.Cutting.{reach, breach3}
-use Rattle.interfaces.proofs.check_cutting.Statement.{statement}
-use Rattle.interfaces.proofs.check_cutting.Tie as tie
+use Rattle.opening.proofs.check_cutting.Statement.{statement}
+use Rattle.opening.proofs.check_cutting.Tie as tie
 
 module _ (s : List ℕ) (r : ℕ) (e : r ≡ reach s 0) where
   whole : r ≡ length s → Nowhere ≡ breach3 s

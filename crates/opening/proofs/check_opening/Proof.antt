@@ -7,9 +7,9 @@ use lib.ListN.{length}
 use borrow.Author.Tests.{eq-eqb, ne-eqb}
 use Rattle.ground.specs.declared.Place.the-variants.{Nowhere, At}
 use Rattle.ground.specs.Numbers.{byte, word}
-use Rattle.interfaces.specs.Reading.{breach2}
-use Rattle.interfaces.proofs.check_opening.Statement.{statement}
-use Rattle.interfaces.proofs.check_opening.Tie as tie
+use Rattle.opening.specs.Reading.{breach2}
+use Rattle.opening.proofs.check_opening.Statement.{statement}
+use Rattle.opening.proofs.check_opening.Tie as tie
 
 module _ (s : List ℕ) (a : ℕ) (e : a ≡ byte s 0) where
   not-nine : (a ≡ 9 → ⊥) → At 0 ≡ breach2 s

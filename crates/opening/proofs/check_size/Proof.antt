@@ -6,9 +6,9 @@ use mathlib.Core.List.{List}
 use lib.ListN.{length}
 use borrow.Author.Tests.{le-leb, lt-leb}
 use Rattle.ground.specs.declared.Place.the-variants.{Nowhere, At}
-use Rattle.interfaces.specs.Reading.{breach1}
-use Rattle.interfaces.proofs.check_size.Statement.{statement}
-use Rattle.interfaces.proofs.check_size.Tie as tie
+use Rattle.opening.specs.Reading.{breach1}
+use Rattle.opening.proofs.check_size.Statement.{statement}
+use Rattle.opening.proofs.check_size.Tie as tie
 
 module _ (s : List ℕ) where
   short : length s < 9 → At 0 ≡ breach1 s
