@@ -16,7 +16,7 @@ use Rattle.ground.specs.Lists.{total}
 use Rattle.ground.specs.First.{Breaks}
 use Rattle.ground.specs.Rows.{Rows, row}
 use Rattle.scan.specs.Cutting.{Cutting, Rule3, Misfit}
-use Rattle.scan.specs.Want.{Audio}
+use Rattle.search.specs.Want.{Audio}
 use Rattle.graph.specs.Members.{_∈_}
 use Rattle.edition.specs.Edition.{Edition}
 use Rattle.edition.specs.Audio.{audio}

@@ -12,7 +12,7 @@ use Rattle.ground.specs.First.{firstFrom, isBefore}
 use Rattle.ground.specs.Lists.{total, any, pad}
 use Rattle.scan.specs.Cutting.{endAt, restFrom, rest, reach, breach3}
 use Rattle.scan.specs.Search.{searched}
-use Rattle.scan.specs.Want.{isInterface, isClass, isAudio, isSetting, isMember, wants, foundFrom}
+use Rattle.search.specs.Want.{isInterface, isClass, isAudio, isSetting, isMember, wants, foundFrom}
 use Rattle.layout.specs.Layout.{entityOf, kindOf, isUnknown}
 use Rattle.layout.specs.Sources.{pinsOf, sourcesFrom, feedsOf}
 use Rattle.entities.specs.Run.{nodeOf, nodesFrom, blankNode, runIn}

@@ -21,8 +21,8 @@ use Rattle.ground.specs.First.{isBefore}
 use Rattle.ground.specs.Refuse.{none, keptAt, refuse, placeOr}
 use Rattle.scan.specs.Cutting.{rest, breach3}
 use Rattle.scan.specs.Search.{searched}
-use Rattle.scan.specs.Want.{isInterface, isAudio, isSetting, foundFrom}
-use Rattle.scan.specs.declared.Want.the-variants as want
+use Rattle.search.specs.Want.{isInterface, isAudio, isSetting, foundFrom}
+use Rattle.search.specs.declared.Want.the-variants as want
 use Rattle.opening.specs.Reading.{breach1, breach2}
 use Rattle.interfaces.specs.declared.Location.{Location}
 

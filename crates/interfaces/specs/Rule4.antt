@@ -10,7 +10,7 @@ use lib.ListN.{length}
 use Rattle.ground.specs.Numbers.{byte}
 use Rattle.ground.specs.Lists.{Some}
 use Rattle.ground.specs.First.{Sound, Breaks}
-use Rattle.scan.specs.Want.{Interface, Audio, Setting}
+use Rattle.search.specs.Want.{Interface, Audio, Setting}
 
 pub data WrongInterface (earlier : List (List ℕ)) (i : List ℕ) : Type 0 where
   not-nine : Interface i → (length i ≡ 9 → ⊥) → WrongInterface earlier i

@@ -8,7 +8,7 @@ ghost use lib.ListN.{length, take};
 ghost use Rattle.ground.specs.Pick.{pick};
 ghost use Rattle.ground.specs.Lists.{any};
 ghost use Rattle.scan.specs.Search.{searched};
-ghost use Rattle.scan.specs.Want.{isInterface, isAudio};
+ghost use Rattle.search.specs.Want.{isInterface, isAudio};
 ghost use Rattle.opening.specs.Rules1and2.{mostBytes};
 ghost use Rattle.interfaces.specs.Reading.{breach4, wrongInterface, unlocated, locationOf};
 ghost use Rattle.interfaces.specs.Tops.{controlBefore, Tops, Repeats, Looked, Interfaced};
@@ -21,8 +21,8 @@ use opening::check_opening;
 use opening::check_size;
 use scan::byte_at;
 use scan::end_of;
-use scan::is_audio;
-use scan::is_interface;
+use search::is_audio;
+use search::is_interface;
 
 // The most interface descriptors, of 9 bytes each, that a configuration may hold.
 const MOST_INTERFACES: usize = 455;

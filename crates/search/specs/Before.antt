@@ -16,12 +16,12 @@ use Rattle.ground.specs.declared.Place.the-variants.{Nowhere, At}
 use Rattle.ground.specs.Pick.{reads-true}
 use Rattle.ground.specs.Lists.{part, part-length, total, total-append, any, any-snoc, Some, reads-any}
 use Rattle.ground.specs.First.{firstFrom, first-at, first-before, isBefore, sound-each}
 use Rattle.scan.specs.Cutting.{endAt, rest}
 use Rattle.scan.specs.CuttingLaws.{standing, end-off, rest-none, rest-more}
 use Rattle.scan.specs.Search.{searched, Passed}
-use Rattle.scan.specs.Want.{wants, foundFrom}
-use Rattle.scan.specs.Found.{found-before}
-use Rattle.scan.specs.declared.Want.{Want}
+use Rattle.search.specs.Want.{wants, foundFrom}
+use Rattle.search.specs.Found.{found-before}
+use Rattle.search.specs.declared.Want.{Want}
 
 abbrev pub standsBefore : List ℕ → ℕ → Want → Bool
 standsBefore s at w = isBefore (foundFrom s 0 w) at

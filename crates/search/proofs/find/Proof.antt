@@ -7,12 +7,12 @@ use mathlib.Core.List.{List}
 use lib.ListN.{length}
 use Rattle.ground.specs.declared.Place.the-variants.{Nowhere, At}
 use Rattle.ground.specs.Lists.{part}
 use Rattle.scan.specs.Cutting.{endAt}
 use Rattle.scan.specs.Search.{Passed, start, stop, hit, miss, ordered, inside, falls}
-use Rattle.scan.specs.Want.{wants, foundFrom}
-use Rattle.scan.specs.declared.Want.{Want}
-use Rattle.scan.proofs.find.Statement.{statement}
-use Rattle.scan.proofs.find.Tie as tie
+use Rattle.search.specs.Want.{wants, foundFrom}
+use Rattle.search.specs.declared.Want.{Want}
+use Rattle.search.proofs.find.Statement.{statement}
+use Rattle.search.proofs.find.Tie as tie
 
 abbrev Sought : Want → List ℕ → ℕ → ℕ → Type 0
 Sought w s from at = Passed (λ b d. wants w d) s from at

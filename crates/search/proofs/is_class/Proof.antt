@@ -1,9 +1,9 @@
 -- The one test of byte 1.
 use borrow.Author.Needs.{needs}
-use Rattle.scan.specs.Want.{isInterface, isClass}
-use Rattle.scan.proofs.Tests.{one-test}
-use Rattle.scan.proofs.is_class.Statement.{statement}
-use Rattle.scan.proofs.is_class.Tie as tie
+use Rattle.search.specs.Want.{isInterface, isClass}
+use Rattle.search.proofs.Tests.{one-test}
+use Rattle.search.proofs.is_class.Statement.{statement}
+use Rattle.search.proofs.is_class.Tie as tie
 
 ruleset laws = (one-test, needs)
 

@@ -1,9 +1,9 @@
--- By its three ways out: another type, another class, or the subclass decides.
+-- By its three ways out: another type, another number, or the alternate setting decides.
 use borrow.Author.Needs.{needs}
-use Rattle.scan.specs.Want.{isAudio, isSetting, isInterface}
-use Rattle.scan.proofs.Tests.{first-fails, second-fails, third-decides}
-use Rattle.scan.proofs.is_audio.Statement.{statement}
-use Rattle.scan.proofs.is_audio.Tie as tie
+use Rattle.search.specs.Want.{isAudio, isSetting, isInterface}
+use Rattle.search.proofs.Tests.{first-fails, second-fails, third-decides}
+use Rattle.search.proofs.is_setting.Statement.{statement}
+use Rattle.search.proofs.is_setting.Tie as tie
 
 ruleset laws = (first-fails, second-fails, third-decides, needs)
 
@@ -28,7 +28,7 @@ returns-3 : tie.Need-returns-3
 unfolding isAudio isSetting isInterface
 returns-3 c = search laws
 
-pub is-audio-spec : {M : Type 1} → statement M
-is-audio-spec =
+pub is-setting-spec : {M : Type 1} → statement M
+is-setting-spec =
     tie.close
     (tie.spec byte-at-requires returns byte-at-requires-2 returns-2 byte-at-requires-3 returns-3)

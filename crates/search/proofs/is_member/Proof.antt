@@ -6,9 +6,9 @@ use mathlib.Core.Bool.{Bool, true, false}
 use mathlib.Core.List.{List}
 use lib.Dec.{eqb}
 use Rattle.ground.specs.Numbers.{byte}
-use Rattle.scan.specs.Want.{isAudio, isMember}
-use Rattle.scan.proofs.is_member.Statement.{statement}
-use Rattle.scan.proofs.is_member.Tie as tie
+use Rattle.search.specs.Want.{isAudio, isMember}
+use Rattle.search.proofs.is_member.Statement.{statement}
+use Rattle.search.proofs.is_member.Tie as tie
 
 module _ (d : List ℕ) (n x : ℕ) (a : Bool) (e : a ≡ isAudio 2 d) where
   streaming : a ≡ true → x ≡ byte d 2 → eqb x n ≡ isMember n d

@@ -20,11 +20,11 @@ use Rattle.ground.specs.declared.Place.the-variants.{Nowhere, At}
 use Rattle.ground.specs.Pick.{reads-true, true≠false}
 use Rattle.ground.specs.Lists.{part-drop, drop-take, length-flatten, flatten-append, total, total-append, any, of-split}
 use Rattle.ground.specs.First.{firstFrom, Breaks, first-at, first-none-any, first-at-any, first-before, isBefore, sound-none}
 use Rattle.scan.specs.Cutting.{Descriptor, rest}
 use Rattle.scan.specs.CuttingLaws.{Standing, standing, rest-of, rest-none, end-none}
 use Rattle.scan.specs.Search.{searched, Passed}
-use Rattle.scan.specs.Want.{wants, foundFrom}
-use Rattle.scan.specs.declared.Want.{Want}
+use Rattle.search.specs.Want.{wants, foundFrom}
+use Rattle.search.specs.declared.Want.{Want}
 
 pub found-any : (w : Want) (s : List ℕ) (from q : ℕ) → foundFrom s from w ≡ At q → any (wants w) (rest s from) ≡ true
 unfolding foundFrom searched

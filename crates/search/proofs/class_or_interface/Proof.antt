@@ -2,8 +2,8 @@
 use borrow.Author.Needs.{needs}
 use mathlib.Core.Path.{_≡_, sym, _∙_}
 use mathlib.Core.Bool.{Bool, true, false, _||_}
-use Rattle.scan.proofs.class_or_interface.Statement.{statement}
-use Rattle.scan.proofs.class_or_interface.Tie as tie
+use Rattle.search.proofs.class_or_interface.Statement.{statement}
+use Rattle.search.proofs.class_or_interface.Tie as tie
 
 first-holds : (a x y : Bool) → a ≡ x → a ≡ true → true ≡ (x || y)
 first-holds a x y e h = simp (sym e ∙ h)

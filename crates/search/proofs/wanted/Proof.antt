@@ -4,11 +4,11 @@ use Prim.Native.Nat.{ℕ}
 use mathlib.Core.Path.{_≡_, ap}
 use mathlib.Core.Bool.{Bool, not, _||_}
 use mathlib.Core.List.{List}
-use Rattle.scan.specs.declared.Want.{Want}
-use Rattle.scan.specs.declared.Want.the-variants as want
-use Rattle.scan.specs.Want.{wants, isInterface, isClass, isAudio, isSetting, isMember}
-use Rattle.scan.proofs.wanted.Statement.{statement}
-use Rattle.scan.proofs.wanted.Tie as tie
+use Rattle.search.specs.declared.Want.{Want}
+use Rattle.search.specs.declared.Want.the-variants as want
+use Rattle.search.specs.Want.{wants, isInterface, isClass, isAudio, isSetting, isMember}
+use Rattle.search.proofs.wanted.Statement.{statement}
+use Rattle.search.proofs.wanted.Tie as tie
 
 module _ (w : Want) (d : List ℕ) (r : Bool) where
   audio : (k : ℕ) → w ≡ want.Audio k → r ≡ isAudio k d → r ≡ wants w d

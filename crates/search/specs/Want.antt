@@ -18,9 +18,9 @@ use lib.Dec.{eqb}
 use Rattle.ground.specs.Pick.{Reads, reads-eq, reads-and, reads-or}
 use Rattle.ground.specs.Numbers.{byte}
 use Rattle.ground.specs.declared.Place.{Place}
 use Rattle.scan.specs.Search.{searched}
-use Rattle.scan.specs.declared.Want.{Want}
-use Rattle.scan.specs.declared.Want.the-variants as want
+use Rattle.search.specs.declared.Want.{Want}
+use Rattle.search.specs.declared.Want.the-variants as want
 
 abbrev pub Interface : List ℕ → Type 0
 Interface d = byte d 1 ≡ 4
