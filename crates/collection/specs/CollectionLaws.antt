@@ -10,7 +10,7 @@ use Rattle.ground.specs.Pick.{Reads, reads-same, reads-eq, reads-and, reads-or,
 use Rattle.ground.specs.Numbers.{byte}
 use Rattle.ground.specs.Lists.{any, Some, reads-any}
 use Rattle.scan.specs.Cutting.{rest}
-use Rattle.scan.specs.Want.{Audio, Member, isMember, reads-audio, reads-member}
+use Rattle.search.specs.Want.{Audio, Member, isMember, reads-audio, reads-member}
 use Rattle.collection.specs.Rule7.{Rule7}
 use Rattle.collection.specs.Reading.{isDistinct, allKnown, unlisted, collects}
 

@@ -24,7 +24,7 @@ use borrow.Author.Tests.{eq-eqb, ne-eqb, eqb-true}
 use Rattle.ground.specs.Pick.{decided, reads-eq, true≠false}
 use Rattle.ground.specs.Numbers.{byte}
 use Rattle.ground.specs.Lists.{any, any-append, any-snoc, replicate-at}
-use Rattle.scan.specs.Want.{isAudio, isMember}
+use Rattle.search.specs.Want.{isAudio, isMember}
 use Rattle.collection.specs.Reading.{isDistinct, allKnown, unlisted}
 
 pub record Holds (t : ℕ → Bool) (marks : List Bool) : Type 0 where

@@ -10,7 +10,7 @@ use lib.Dec.{eqb}
 use Rattle.ground.specs.Numbers.{byte}
 use Rattle.ground.specs.Lists.{any}
 use Rattle.scan.specs.Cutting.{rest}
-use Rattle.scan.specs.Want.{isAudio, isMember}
+use Rattle.search.specs.Want.{isAudio, isMember}
 
 unfoldable pub isDistinct : List ℕ → Bool
 isDistinct [] = true

@@ -6,7 +6,7 @@ use mathlib.Core.List.{List, _∷_, _++_, List·Memᴰ}
 use mathlib.Core.Logic.{_⊎_}
 use Rattle.ground.specs.Numbers.{byte}
 use Rattle.ground.specs.Lists.{Some}
-use Rattle.scan.specs.Want.{Audio, Member}
+use Rattle.search.specs.Want.{Audio, Member}
 
 pub record Rule7 (ds : List (List ℕ)) (listed : List ℕ) : Type 0 where
   pub distinct : (x y : List ℕ) (k : ℕ) → listed ≡ x ++ k ∷ y → List·Memᴰ k y → ⊥

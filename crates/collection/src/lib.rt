@@ -4,13 +4,13 @@ ghost use mathlib.Core.Path.{_≡_};
 ghost use mathlib.Core.Bool.{false, _||_};
 ghost use lib.ListN.{replicate};
 ghost use Rattle.scan.specs.Cutting.{rest};
-ghost use Rattle.scan.specs.Want.{isAudio};
+ghost use Rattle.search.specs.Want.{isAudio};
 ghost use Rattle.collection.specs.Reading.{collects};
 ghost use Rattle.collection.specs.Marks.{allMarked, Listed, Met, Members};
 use ground::index_of;
 use scan::byte_at;
 use scan::end_of;
-use scan::is_audio;
+use search::is_audio;
 
 // Whether the listed numbers are distinct; where they are, they are marked.
 fn mark_listed(listed: &[u8], marks: &mut [bool; 256]) -> bool

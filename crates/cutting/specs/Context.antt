@@ -18,8 +18,8 @@ use Rattle.ground.specs.Lists.{total, total-append, length-flatten, stop-at, fr
 use Rattle.ground.specs.First.{Sound}
 use Rattle.scan.specs.Cutting.{rest}
 use Rattle.scan.specs.CuttingLaws.{cutting-rest}
-use Rattle.scan.specs.Want.{Audio}
-use Rattle.interfaces.specs.Rules1to4.{second-control}
+use Rattle.search.specs.Want.{Audio}
+use Rattle.interfaces.specs.Rule4.{second-control}
 use Rattle.interfaces.specs.InterfaceLaws.{nine}
 use Rattle.collection.specs.Rule7.{Rule7}
 use Rattle.collection.specs.Reading.{collects}

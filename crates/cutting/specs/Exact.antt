@@ -29,8 +29,10 @@ use Rattle.layout.specs.Layout.{LaidOut, entityOf, isUnknown}
 use Rattle.layout.specs.LayoutLaws.{reads-unknown, laid-out}
 use Rattle.edition.specs.Audio.{audio}
 use Rattle.entities.specs.Run.{mostEntities}
-use Rattle.interfaces.specs.Rules1to4.{mostBytes, Rule1, Rule2, Rule4, Broken4}
-use Rattle.interfaces.specs.Reading.{breach1, breach2, breach4, interfacesJudged}
+use Rattle.opening.specs.Rules1and2.{mostBytes, Rule1, Rule2}
+use Rattle.opening.specs.Reading.{breach1, breach2}
+use Rattle.interfaces.specs.Rule4.{Rule4, Broken4}
+use Rattle.interfaces.specs.Reading.{breach4, interfacesJudged}
 use Rattle.interfaces.specs.InterfaceLaws.{rule4-kept, rule4-broken}
 use Rattle.collection.specs.Rule7.{Rule7}
 use Rattle.groups.specs.Rules5and6.{Rule5, listedOf, Rule6}

@@ -16,12 +16,13 @@ use Rattle.ground.specs.Lists.{total}
 use Rattle.ground.specs.First.{Breaks}
 use Rattle.ground.specs.Rows.{Rows, row}
 use Rattle.scan.specs.Cutting.{Cutting, Rule3, Misfit}
-use Rattle.scan.specs.Want.{Audio}
+use Rattle.search.specs.Want.{Audio}
 use Rattle.graph.specs.Members.{_∈_}
 use Rattle.edition.specs.Edition.{Edition}
 use Rattle.edition.specs.Audio.{audio}
 use Rattle.entities.specs.Run.{mostEntities}
-use Rattle.interfaces.specs.Rules1to4.{Rule1, Rule2, Rule4, Broken4}
+use Rattle.opening.specs.Rules1and2.{Rule1, Rule2}
+use Rattle.interfaces.specs.Rule4.{Rule4, Broken4}
 use Rattle.collection.specs.Rule7.{Rule7}
 use Rattle.groups.specs.Rules5and6.{Rule5, listedOf, Rule6}
 

@@ -12,11 +12,12 @@ use Rattle.ground.specs.First.{firstFrom, isBefore}
 use Rattle.ground.specs.Lists.{total, any, pad}
 use Rattle.scan.specs.Cutting.{endAt, restFrom, rest, reach, breach3}
 use Rattle.scan.specs.Search.{searched}
-use Rattle.scan.specs.Want.{isInterface, isClass, isAudio, isSetting, isMember, wants, foundFrom}
+use Rattle.search.specs.Want.{isInterface, isClass, isAudio, isSetting, isMember, wants, foundFrom}
 use Rattle.layout.specs.Layout.{entityOf, kindOf, isUnknown}
 use Rattle.layout.specs.Sources.{pinsOf, sourcesFrom, feedsOf}
 use Rattle.entities.specs.Run.{nodeOf, nodesFrom, blankNode, runIn}
-use Rattle.interfaces.specs.Reading.{breach1, breach2, wrongInterface, breach4, interfacesJudged}
+use Rattle.opening.specs.Reading.{breach1, breach2}
+use Rattle.interfaces.specs.Reading.{wrongInterface, breach4, interfacesJudged}
 use Rattle.collection.specs.Reading.{isDistinct, allKnown, unlisted, collects}
 use Rattle.groups.specs.Reading.{runEnd, frameFrom, frameOf, opens, isHeader, breach5, straysFrom, breach6, breach7, groupJudged}
 use Rattle.groups.specs.Reading as groups

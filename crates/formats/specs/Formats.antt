@@ -10,7 +10,7 @@ use mathlib.Core.Path.{_≡_}
 use mathlib.Core.List.{List}
 use lib.ListN.{length}
 use Rattle.ground.specs.Numbers.{byte, triple}
-use Rattle.scan.specs.Want.{Class}
+use Rattle.search.specs.Want.{Class}
 
 abbrev pub OpensAs : ℕ → List ℕ → Type 0
 OpensAs k d = Class d × (byte d 2 ≡ k)

@@ -19,10 +19,10 @@ use Rattle.ground.specs.Lists.{part, part-none, part-length, total, total-appen
 use Rattle.ground.specs.Refuse.{placeOr}
 use Rattle.scan.specs.Cutting.{endAt, rest}
 use Rattle.scan.specs.CuttingLaws.{rest-none, rest-more, end-off}
-use Rattle.scan.specs.Want.{Audio, isAudio, reads-audio, wants, foundFrom}
-use Rattle.scan.specs.Found.{found, found-none, rest-split}
-use Rattle.scan.specs.declared.Want.the-variants as want
-use Rattle.interfaces.specs.Rules1to4.{Rule4}
+use Rattle.search.specs.Want.{Audio, isAudio, reads-audio, wants, foundFrom}
+use Rattle.search.specs.Found.{found, found-none, rest-split}
+use Rattle.search.specs.declared.Want.the-variants as want
+use Rattle.interfaces.specs.Rule4.{Rule4}
 use Rattle.interfaces.specs.InterfaceLaws.{nine}
 use Rattle.groups.specs.Rules5and6.{Header, Rule5}
 use Rattle.groups.specs.Reading.{frameOf, frameFrom, headerOf, isHeader}

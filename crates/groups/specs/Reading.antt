@@ -27,8 +27,8 @@ use Rattle.ground.specs.Numbers.{byte, word}
 use Rattle.ground.specs.Lists.{part}
 use Rattle.ground.specs.Refuse.{none, keptAt, refuse, placeOr}
 use Rattle.scan.specs.Cutting.{endAt}
-use Rattle.scan.specs.Want.{foundFrom}
-use Rattle.scan.specs.declared.Want.the-variants as want
+use Rattle.search.specs.Want.{foundFrom}
+use Rattle.search.specs.declared.Want.the-variants as want
 use Rattle.interfaces.specs.Reading.{controlAt, interfacesJudged}
 use Rattle.collection.specs.Reading.{collects}
 use Rattle.groups.specs.Rules5and6.{listedOf}

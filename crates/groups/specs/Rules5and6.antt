@@ -13,7 +13,7 @@ use mathlib.Core.List.{List, [], _∷_, _++_, List·Memᴰ}
 use lib.ListN.{length, take, drop}
 use Rattle.ground.specs.Numbers.{byte, word}
 use Rattle.ground.specs.Lists.{total}
-use Rattle.scan.specs.Want.{Interface, Class}
+use Rattle.search.specs.Want.{Interface, Class}
 
 abbrev pub Opening : List ℕ → Type 0
 Opening h = take 4 (drop 1 h) ≡ 0x24 ∷ 1 ∷ 0 ∷ 1 ∷ []

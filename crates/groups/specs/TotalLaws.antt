@@ -20,9 +20,9 @@ use Rattle.ground.specs.Lists.{part, total, total-append, any, reads-any, Stops
 use Rattle.ground.specs.Refuse.{placeOr}
 use Rattle.scan.specs.Cutting.{endAt, rest}
 use Rattle.scan.specs.CuttingLaws.{rest-none, rest-more, end-off}
-use Rattle.scan.specs.Want.{Interface, Class, isClass, reads-interface, reads-class, wants, foundFrom}
-use Rattle.scan.specs.Found.{Found, found, found-none, rest-split, rest-front}
-use Rattle.scan.specs.declared.Want.the-variants as want
+use Rattle.search.specs.Want.{Interface, Class, isClass, reads-interface, reads-class, wants, foundFrom}
+use Rattle.search.specs.Found.{Found, found, found-none, rest-split, rest-front}
+use Rattle.search.specs.declared.Want.the-variants as want
 use Rattle.groups.specs.Rules5and6.{GroupEnds, last, next, Rule6}
 use Rattle.groups.specs.Reading.{runEnd, straysFrom}
 

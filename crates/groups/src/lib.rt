@@ -8,17 +8,17 @@ ghost use lib.ListN.{length};
 ghost use Rattle.ground.specs.Numbers.{word};
 ghost use Rattle.ground.specs.Lists.{part};
 ghost use Rattle.ground.specs.Refuse.{none, placeOr};
-ghost use Rattle.scan.specs.Want.{foundFrom};
+ghost use Rattle.search.specs.Want.{foundFrom};
 ghost use Rattle.groups.specs.Reading.{frameFrom, isHeader, opens, straysFrom};
 ghost use Rattle.groups.specs.Reading.{groupJudged, unframed, framedAs, framedOf};
 use ground::Place;
 use ground::Refusal;
-use scan::Want;
 use scan::byte_at;
 use scan::end_of;
-use scan::find;
 use scan::stretch;
 use scan::word_at;
+use search::Want;
+use search::find;
 
 // Where the parts of the AudioControl group stand: its interface descriptor, the header, the run of entities, and the run's end.
 pub struct Frame {

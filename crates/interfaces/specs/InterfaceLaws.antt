@@ -19,8 +19,8 @@ use Rattle.ground.specs.First.{Sound, Breaks, first-nowhere, first-at}
 use Rattle.ground.specs.Refuse.{keptAt, kept-nowhere, kept-at}
 use Rattle.scan.specs.Cutting.{rest}
 use Rattle.scan.specs.Search.{searched}
-use Rattle.scan.specs.Want.{Interface, Audio, Setting, isAudio, reads-interface, reads-audio, reads-setting}
-use Rattle.interfaces.specs.Rules1to4.{WrongInterface, not-nine, repeats, second-control, other-setting, Rule4, Broken4, wrong, missing}
+use Rattle.search.specs.Want.{Interface, Audio, Setting, isAudio, reads-interface, reads-audio, reads-setting}
+use Rattle.interfaces.specs.Rule4.{WrongInterface, not-nine, repeats, second-control, other-setting, Rule4, Broken4, wrong, missing}
 use Rattle.interfaces.specs.Reading.{wrongInterface, breach4}
 
 -- the four parts of refusal 4, as one statement

@@ -14,8 +14,9 @@ use Rattle.ground.specs.declared.Refusal.{Refusal}
 use Rattle.ground.specs.Pick.{pick, yes, no}
 use Rattle.ground.specs.Refuse.{none, Chain, chain-end, chain-more}
 use Rattle.scan.specs.Cutting.{breach3}
+use Rattle.opening.specs.Reading.{breach1, breach2}
 use Rattle.interfaces.specs.declared.Location.{Location}
-use Rattle.interfaces.specs.Reading.{breach1, breach2, breach4, controlAt, interfacesJudged, unlocated, locationOf}
+use Rattle.interfaces.specs.Reading.{breach4, controlAt, interfacesJudged, unlocated, locationOf}
 
 pub interfaces-chain : (s : List ℕ) → Chain (interfacesJudged s)
 unfolding interfacesJudged

@@ -1,4 +1,4 @@
-pub mod Rules1to4
+pub mod Rule4
 pub mod Reading
 pub mod InterfaceLaws
 pub mod Pairs

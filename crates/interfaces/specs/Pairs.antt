@@ -21,10 +21,10 @@ use Rattle.ground.specs.Lists.{part, part-length, any, any-snoc}
 use Rattle.scan.specs.Cutting.{endAt}
 use Rattle.scan.specs.CuttingLaws.{end-off}
 use Rattle.scan.specs.Search.{Passed}
-use Rattle.scan.specs.Want.{isInterface, isSetting, reads-interface, reads-setting, wants}
-use Rattle.scan.specs.declared.Want.the-variants as want
-use Rattle.interfaces.specs.Rules1to4.{mostBytes}
-use Rattle.scan.specs.Before.{standsBefore, before-none, before-more}
+use Rattle.search.specs.Want.{isInterface, isSetting, reads-interface, reads-setting, wants}
+use Rattle.search.specs.declared.Want.the-variants as want
+use Rattle.opening.specs.Rules1and2.{mostBytes}
+use Rattle.search.specs.Before.{standsBefore, before-none, before-more}
 
 abbrev pub mostInterfaces : ℕ
 mostInterfaces = 455

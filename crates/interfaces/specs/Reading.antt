@@ -1,5 +1,5 @@
--- What the reader computes for the rules 1 to 4: for each, nowhere or the place of the refusal (document 01's table).
---   breach1, breach2, breach4 ==  where rule 1, 2, 4 is broken (breach3 stands with the cutting)
+-- What the reader computes for rule 4, nowhere or the place of the refusal (document 01's table), and for the rules 1 to 4 together.
+--   breach4                   ==  where rule 4 is broken
 --   wrongInterface b i        ==  the test that i, behind the descriptors b, is an interface descriptor that refusal 4 names
 --   wrongAt s p i             ==  the same of i at place p of s, where two searches from the first byte on tell what stands before
 --   controlAt s               ==  the place of the first AudioControl interface; L if there is none
@@ -14,23 +14,17 @@ use lib.Dec.{eqb}
 use Rattle.ground.specs.declared.Place.{Place}
 use Rattle.ground.specs.declared.Place.the-variants.{Nowhere, At}
 use Rattle.ground.specs.declared.Refusal.{Refusal}
-use Rattle.ground.specs.Pick.{pick, within}
-use Rattle.ground.specs.Numbers.{byte, word}
+use Rattle.ground.specs.Pick.{pick}
+use Rattle.ground.specs.Numbers.{byte}
 use Rattle.ground.specs.Lists.{any}
 use Rattle.ground.specs.First.{isBefore}
 use Rattle.ground.specs.Refuse.{none, keptAt, refuse, placeOr}
 use Rattle.scan.specs.Cutting.{rest, breach3}
 use Rattle.scan.specs.Search.{searched}
-use Rattle.scan.specs.Want.{isInterface, isAudio, isSetting, foundFrom}
-use Rattle.scan.specs.declared.Want.the-variants as want
-use Rattle.interfaces.specs.Rules1to4.{mostBytes}
+use Rattle.search.specs.Want.{isInterface, isAudio, isSetting, foundFrom}
+use Rattle.search.specs.declared.Want.the-variants as want
+use Rattle.opening.specs.Reading.{breach1, breach2}
 use Rattle.interfaces.specs.declared.Location.{Location}
-
-unfoldable pub breach1 : List ℕ → Place
-breach1 s = keptAt (within 9 (length s) mostBytes) 0
-
-unfoldable pub breach2 : List ℕ → Place
-breach2 s = keptAt (eqb (byte s 0) 9 && (eqb (byte s 1) 2 && eqb (word s 2) (length s))) 0
 
 unfoldable pub wrongInterface : List (List ℕ) → List ℕ → Bool
 wrongInterface earlier i =

@@ -31,12 +31,12 @@ use Rattle.ground.specs.Refuse.{placeOr}
 use Rattle.scan.specs.Cutting.{endAt}
 use Rattle.scan.specs.CuttingLaws.{end-off}
 use Rattle.scan.specs.Search.{Passed}
-use Rattle.scan.specs.Want.{isInterface, isAudio, isSetting, reads-interface, reads-setting, wants, foundFrom}
-use Rattle.scan.specs.Found.{found-any, found-room}
-use Rattle.scan.specs.declared.Want.the-variants as want
+use Rattle.search.specs.Want.{isInterface, isAudio, isSetting, reads-interface, reads-setting, wants, foundFrom}
+use Rattle.search.specs.Found.{found-any, found-room}
+use Rattle.search.specs.declared.Want.the-variants as want
 use Rattle.interfaces.specs.declared.Interfaces.{Interfaces}
 use Rattle.interfaces.specs.Reading.{wrongAt, controlAt}
-use Rattle.scan.specs.Before.{standsBefore, before-none, before-more, before-all, before-here}
+use Rattle.search.specs.Before.{standsBefore, before-none, before-more, before-all, before-here}
 
 unfoldable pub controlBefore : List ℕ → ℕ → ℕ
 controlBefore s at = pick (standsBefore s at (want.Audio 1)) (controlAt s) (length s)

@@ -1,5 +1,5 @@
-// The interface descriptors of a configuration (document 01). What it promises to the crate above: the lowest number of the rules 1 to 4 that a
-// configuration breaks, with its place; and where the AudioControl interface stands, if it keeps them.
+// The interface descriptors of a configuration (document 01, rule 4). What it promises to the crate above: the lowest number of the rules 1 to 4
+// that a configuration breaks, with its place; and where the AudioControl interface stands, if it keeps them.
 ghost use mathlib.Core.Path.{_≡_};
 ghost use mathlib.Core.Bool.{true};
 ghost use Prim.Native.Nat.{_≤_, _<_};
@@ -7,26 +7,24 @@ ghost use lib.Dec.{eqb};
 ghost use lib.ListN.{length, take};
 ghost use Rattle.ground.specs.Pick.{pick};
 ghost use Rattle.ground.specs.Lists.{any};
-ghost use Rattle.scan.specs.Cutting.{breach3};
 ghost use Rattle.scan.specs.Search.{searched};
-ghost use Rattle.scan.specs.Want.{isInterface, isAudio};
-ghost use Rattle.interfaces.specs.Reading.{breach1, breach2, breach4, wrongInterface, unlocated, locationOf};
+ghost use Rattle.search.specs.Want.{isInterface, isAudio};
+ghost use Rattle.opening.specs.Rules1and2.{mostBytes};
+ghost use Rattle.interfaces.specs.Reading.{breach4, wrongInterface, unlocated, locationOf};
 ghost use Rattle.interfaces.specs.Tops.{controlBefore, Tops, Repeats, Looked, Interfaced};
 ghost use Rattle.interfaces.specs.Pairs.{mostInterfaces, Pair, Noted, Pairs};
-ghost use Rattle.interfaces.specs.Rules1to4.{mostBytes};
 use ground::Place;
 use ground::Refusal;
 use ground::index_of;
+use opening::check_cutting;
+use opening::check_opening;
+use opening::check_size;
 use scan::byte_at;
 use scan::end_of;
-use scan::is_audio;
-use scan::is_interface;
-use scan::word_at;
+use search::is_audio;
+use search::is_interface;
 
-// The most bytes that a configuration may have.
-pub const MOST_BYTES: usize = 4096;
-
-// The most interface descriptors, of 9 bytes each, that so many bytes hold.
+// The most interface descriptors, of 9 bytes each, that a configuration may hold.
 const MOST_INTERFACES: usize = 455;
 
 // What rule 4 finds in one pass over the descriptors: where it is broken, and where the AudioControl interface stands.
@@ -39,46 +37,6 @@ struct Interfaces {
 pub struct Location {
     pub refusal: Refusal,
     pub control: usize,
-}
-
-// Rule 1.
-fn check_size(config: &[u8]) -> Place
-    ensures { λ r. ⌜ r ≡ breach1 (now (config .entry)) ⌝ }
-{
-    if config.len() < 9 {
-        return Place::At(0);
-    }
-    if MOST_BYTES < config.len() {
-        return Place::At(0);
-    }
-    Place::Nowhere
-}
-
-// Rule 2.
-fn check_opening(config: &[u8]) -> Place
-    ensures { λ r. ⌜ r ≡ breach2 (now (config .entry)) ⌝ }
-{
-    if byte_at(config, 0) != 9 {
-        return Place::At(0);
-    }
-    if byte_at(config, 1) != 2 {
-        return Place::At(0);
-    }
-    if word_at(config, 2) as usize != config.len() {
-        return Place::At(0);
-    }
-    Place::Nowhere
-}
-
-// Rule 3.
-fn check_cutting(config: &[u8]) -> Place
-    ensures { λ r. ⌜ r ≡ breach3 (now (config .entry)) ⌝ }
-{
-    let reached = scan::reach_of(config, 0);
-    if reached == config.len() {
-        return Place::Nowhere;
-    }
-    Place::At(reached)
 }
 
 // The number and the alternate setting of an interface descriptor, as one number.

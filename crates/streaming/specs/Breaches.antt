@@ -19,7 +19,7 @@ use Rattle.layout.specs.declared.Cluster.{Cluster}
 use Rattle.scan.specs.Cutting.{Cutting, rest}
 use Rattle.scan.specs.CuttingLaws.{cutting-rest}
 use Rattle.scan.specs.Search.{searched}
-use Rattle.scan.specs.Want.{Class, Audio, reads-audio}
+use Rattle.search.specs.Want.{Class, Audio, reads-audio}
 use Rattle.terminals.specs.Terminals.{Terminal, bearerIn, OneEach}
 use Rattle.terminals.specs.Said.{AreAll}
 use Rattle.streaming.specs.Rule14.{Described, StreamKept, no-endpoints, endpoints, Group, Rule14, Breaks14}

@@ -19,9 +19,9 @@ use Rattle.ground.specs.Lists.{part, part-none, any}
 use Rattle.scan.specs.Cutting.{endAt, rest}
 use Rattle.scan.specs.CuttingLaws.{rest-none, rest-more}
 use Rattle.scan.specs.Search.{Passed, inside}
-use Rattle.scan.specs.Want.{isInterface, isClass, wants, foundFrom}
-use Rattle.scan.specs.Found.{found, found-none}
-use Rattle.scan.specs.declared.Want.the-variants as want
+use Rattle.search.specs.Want.{isInterface, isClass, wants, foundFrom}
+use Rattle.search.specs.Found.{found, found-none}
+use Rattle.search.specs.declared.Want.the-variants as want
 use Rattle.groups.specs.Reading.{straysFrom}
 use Rattle.groups.specs.TotalLaws.{type-of}
 use Rattle.terminals.specs.declared.Bearer.{Bearer}

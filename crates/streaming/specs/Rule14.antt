@@ -14,7 +14,7 @@ use mathlib.Core.List.{List, _∷_, _++_, List·Memᴰ}
 use lib.ListN.{length}
 use Rattle.ground.specs.Numbers.{byte, word}
 use Rattle.ground.specs.Lists.{total}
-use Rattle.scan.specs.Want.{Interface, Class, Audio}
+use Rattle.search.specs.Want.{Interface, Class, Audio}
 use Rattle.layout.specs.declared.Cluster.{Cluster}
 use Rattle.groups.specs.Rules5and6.{GroupEnds}
 use Rattle.formats.specs.Formats.{General, Format, TypeOne}

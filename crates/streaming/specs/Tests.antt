@@ -20,7 +20,7 @@ use Rattle.ground.specs.Numbers.{byte, word}
 use Rattle.ground.specs.Lists.{part}
 use Rattle.scan.specs.Cutting.{endAt, rest}
 use Rattle.scan.specs.Search.{searched}
-use Rattle.scan.specs.Want.{isInterface, isClass, isAudio}
+use Rattle.search.specs.Want.{isInterface, isClass, isAudio}
 use Rattle.groups.specs.Reading.{straysFrom}
 use Rattle.formats.specs.Tests.{isGeneral, formatRight}
 use Rattle.terminals.specs.declared.Bearer.{Bearer}

@@ -49,7 +49,7 @@ fn described_at(config: &[u8], from: usize, kinds: &[u16; 256], counts: &[u16; 2
 fn is_broken(config: &[u8], i: &[u8], from: usize, kinds: &[u16; 256], counts: &[u16; 256]) -> bool
     ensures { λ r. ⌜ r ≡ brokenAt (bearerAt (now (kinds .entry)) (now (counts .entry))) (now (config .entry)) (now (i .entry)) from ⌝ }
 {
-    if !scan::is_audio(i, 2) {
+    if !search::is_audio(i, 2) {
         return false;
     }
     if byte_at(i, 4) == 0 {

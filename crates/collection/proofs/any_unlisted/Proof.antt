@@ -12,9 +12,9 @@ use Rattle.ground.specs.Lists.{part}
 use Rattle.ground.specs.First.{first-none-any, first-at-any}
 use Rattle.scan.specs.Cutting.{endAt, rest}
 use Rattle.scan.specs.Search.{searched, Passed, start, stop, hit, miss, ordered, inside, falls}
-use Rattle.scan.specs.Want.{isMember, wants}
-use Rattle.scan.specs.declared.Want.the-variants as want
-use Rattle.scan.specs.Before.{standsBefore, before-none, before-more, before-all}
+use Rattle.search.specs.Want.{isMember, wants}
+use Rattle.search.specs.declared.Want.the-variants as want
+use Rattle.search.specs.Before.{standsBefore, before-none, before-more, before-all}
 use Rattle.collection.specs.Marks.{Holds, holds-none, holds-same, holds-more, isGrouped, unlistedBy, Met, other, member, Members}
 use Rattle.collection.proofs.any_unlisted.Statement.{statement}
 use Rattle.collection.proofs.any_unlisted.Tie as tie

@@ -8,7 +8,7 @@ use mathlib.Core.List.{List}
 use native.Mathlib.Omega.{arith}
 use lib.ListN.{getD, set}
 use Rattle.ground.specs.Numbers.{byte}
-use Rattle.scan.specs.Want.{isAudio}
+use Rattle.search.specs.Want.{isAudio}
 use Rattle.collection.specs.Marks.{Met, other, member}
 use Rattle.collection.proofs.is_unlisted.Statement.{statement}
 use Rattle.collection.proofs.is_unlisted.Tie as tie

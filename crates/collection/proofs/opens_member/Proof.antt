@@ -4,7 +4,7 @@ use Prim.Native.Nat.{ℕ}
 use mathlib.Core.Path.{_≡_, refl, sym, _∙_}
 use mathlib.Core.Bool.{Bool, true, false, _||_}
 use mathlib.Core.List.{List}
-use Rattle.scan.specs.Want.{isAudio}
+use Rattle.search.specs.Want.{isAudio}
 use Rattle.collection.proofs.opens_member.Statement.{statement}
 use Rattle.collection.proofs.opens_member.Tie as tie
 

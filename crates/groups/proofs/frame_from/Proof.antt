@@ -6,8 +6,8 @@ use mathlib.Core.List.{List}
 use lib.ListN.{length}
 use Rattle.ground.specs.Refuse.{placeOr}
 use Rattle.scan.specs.Cutting.{endAt}
-use Rattle.scan.specs.Want.{foundFrom}
-use Rattle.scan.specs.declared.Want.the-variants as want
+use Rattle.search.specs.Want.{foundFrom}
+use Rattle.search.specs.declared.Want.the-variants as want
 use Rattle.groups.specs.Reading.{frameFrom, runEnd}
 use Rattle.groups.proofs.frame_from.Statement.{statement}
 use Rattle.groups.proofs.frame_from.Tie as tie

@@ -10,9 +10,9 @@ use lib.Dec.{eqb}
 use Rattle.ground.specs.declared.Place.{Place}
 use Rattle.ground.specs.declared.Place.the-variants.{Nowhere, At}
 use Rattle.ground.specs.Numbers.{byte}
-use Rattle.scan.specs.Want.{foundFrom}
-use Rattle.scan.specs.Found.{found-room}
-use Rattle.scan.specs.declared.Want.the-variants as want
+use Rattle.search.specs.Want.{foundFrom}
+use Rattle.search.specs.Found.{found-room}
+use Rattle.search.specs.declared.Want.the-variants as want
 use Rattle.groups.specs.Reading.{straysFrom}
 use mir.Val.{Fits}
 use mir.Syntax.{w64}

@@ -12,9 +12,9 @@ use Rattle.ground.specs.Lists.{any}
 use Rattle.ground.specs.Refuse.{placeOr}
 use Rattle.scan.specs.Cutting.{rest}
 use Rattle.scan.specs.Search.{searched}
-use Rattle.scan.specs.Want.{isAudio, wants, foundFrom}
-use Rattle.scan.specs.Found.{found-any, found-none, found-room}
-use Rattle.scan.specs.declared.Want.the-variants as want
+use Rattle.search.specs.Want.{isAudio, wants, foundFrom}
+use Rattle.search.specs.Found.{found-any, found-none, found-room}
+use Rattle.search.specs.declared.Want.the-variants as want
 use Rattle.interfaces.specs.declared.Interfaces.{Interfaces}
 use Rattle.interfaces.specs.Reading.{breach4, wrongInterface, controlAt}
 use Rattle.interfaces.specs.Tops.{Interfaced}

@@ -5,7 +5,7 @@ use mathlib.Core.Path.{_≡_, sym, _∙_}
 use mathlib.Core.Bool.{Bool, true, false}
 use mathlib.Core.List.{List}
 use Rattle.ground.specs.Pick.{pick, yes, no}
-use Rattle.scan.specs.Want.{isAudio}
+use Rattle.search.specs.Want.{isAudio}
 use Rattle.interfaces.proofs.control_from.Statement.{statement}
 use Rattle.interfaces.proofs.control_from.Tie as tie
 

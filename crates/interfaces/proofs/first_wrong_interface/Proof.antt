@@ -15,10 +15,10 @@ use Rattle.ground.specs.Lists.{part}
 use Rattle.ground.specs.First.{isBefore}
 use Rattle.scan.specs.Cutting.{endAt}
 use Rattle.scan.specs.Search.{searched, Passed, start, stop, hit, miss, ordered, inside, falls}
-use Rattle.scan.specs.Want.{isInterface, isAudio, reads-interface, reads-audio, wants, foundFrom}
-use Rattle.scan.specs.Found.{found-before}
-use Rattle.scan.specs.declared.Want.the-variants as want
-use Rattle.interfaces.specs.Rules1to4.{mostBytes}
+use Rattle.search.specs.Want.{isInterface, isAudio, reads-interface, reads-audio, wants, foundFrom}
+use Rattle.search.specs.Found.{found-before}
+use Rattle.search.specs.declared.Want.the-variants as want
+use Rattle.opening.specs.Rules1and2.{mostBytes}
 use Rattle.interfaces.specs.Reading.{wrongInterface, wrongAt}
 use Rattle.interfaces.specs.Pairs.{mostInterfaces, Noted, Pairs, pairs-none, pairs-room, pairs-more}
 use Rattle.interfaces.specs.Tops.{controlBefore, Tops, Looked, Interfaced, control-none, control-first, control-later, control-all, tops-none, tops-more}

@@ -13,8 +13,9 @@ use Rattle.scan.specs.Cutting.{breach3}
 use lib.Dec.{eqb}
 use Rattle.interfaces.specs.declared.Location.{Location}
 use Rattle.interfaces.specs.declared.Interfaces.{Interfaces}
-use Rattle.interfaces.specs.Rules1to4.{mostBytes}
-use Rattle.interfaces.specs.Reading.{breach1, breach2, breach4, controlAt, interfacesJudged, unlocated, locationOf}
+use Rattle.opening.specs.Rules1and2.{mostBytes}
+use Rattle.opening.specs.Reading.{breach1, breach2}
+use Rattle.interfaces.specs.Reading.{breach4, controlAt, interfacesJudged, unlocated, locationOf}
 use Rattle.interfaces.specs.Tops.{Interfaced}
 use Rattle.interfaces.specs.Judged.{location-refused}
 use Rattle.interfaces.proofs.locate.Statement.{statement}

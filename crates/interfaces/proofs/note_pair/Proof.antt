@@ -9,7 +9,7 @@ use native.Mathlib.Omega.{arith}
 use lib.ListN.{set}
 use mir.Val.{Fits}
 use mir.Syntax.{w64}
-use Rattle.scan.specs.Want.{isInterface}
+use Rattle.search.specs.Want.{isInterface}
 use Rattle.interfaces.specs.Pairs.{mostInterfaces, Pair, Noted, other, noted}
 use Rattle.interfaces.proofs.note_pair.Statement.{statement}
 use Rattle.interfaces.proofs.note_pair.Tie as tie

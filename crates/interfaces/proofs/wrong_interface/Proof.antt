@@ -9,7 +9,7 @@ use lib.Dec.{eqb}
 use borrow.Author.Tests.{eq-eqb, ne-eqb, lt-ltb, le-ltb, not-true, not-false}
 use Rattle.ground.specs.Pick.{true≠false}
 use Rattle.ground.specs.Numbers.{byte}
-use Rattle.scan.specs.Want.{isInterface, isAudio}
+use Rattle.search.specs.Want.{isInterface, isAudio}
 use Rattle.interfaces.specs.Reading.{wrongAt}
 use Rattle.interfaces.specs.Tops.{controlBefore, Repeats, other, interface, Looked, control-seen}
 use Rattle.interfaces.proofs.wrong_interface.Statement.{statement}

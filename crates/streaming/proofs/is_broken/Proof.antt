@@ -6,7 +6,7 @@ use mathlib.Core.Bool.{Bool, true, false, not}
 use mathlib.Core.List.{List}
 use borrow.Author.Tests.{eq-eqb, ne-eqb, not-true, not-false}
 use Rattle.ground.specs.Numbers.{byte}
-use Rattle.scan.specs.Want.{isAudio}
+use Rattle.search.specs.Want.{isAudio}
 use Rattle.groups.specs.Reading.{straysFrom}
 use Rattle.terminals.specs.declared.Bearer.{Bearer}
 use Rattle.streaming.specs.Tests.{describedAt, brokenAt}

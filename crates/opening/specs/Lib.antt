@@ -1,0 +1,2 @@
+pub mod Rules1and2
+pub mod Reading

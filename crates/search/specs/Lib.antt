@@ -1,0 +1,3 @@
+pub mod Want
+pub mod Found
+pub mod Before
