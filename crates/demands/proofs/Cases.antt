@@ -13,8 +13,9 @@ use Rattle.ground.specs.Lists.{total, any, pad}
 use Rattle.scan.specs.Cutting.{endAt, restFrom, rest, reach, breach3}
 use Rattle.scan.specs.Search.{searched}
 use Rattle.scan.specs.Want.{isInterface, isClass, isAudio, isSetting, isMember, wants, foundFrom}
-use Rattle.layout.specs.Layout.{entityOf, kindOf, isUnknown}
-use Rattle.layout.specs.Sources.{pinsOf, sourcesFrom, feedsOf}
+use Rattle.layout.specs.Layout.{entityOf, isUnknown}
+use Rattle.kinds.specs.Shown.{kindOf}
+use Rattle.kinds.specs.Sources.{pinsOf, sourcesFrom, feedsOf}
 use Rattle.entities.specs.Run.{nodeOf, nodesFrom, blankNode, runIn}
 use Rattle.interfaces.specs.Reading.{breach1, breach2, wrongInterface, breach4, interfacesJudged}
 use Rattle.collection.specs.Reading.{isDistinct, allKnown, unlisted, collects}

@@ -2,12 +2,12 @@
 use borrow.Author.Needs.{needs}
 use Prim.Native.Nat.{ℕ}
 use mathlib.Core.Path.{_≡_, sym, ap}
 use Rattle.layout.specs.declared.Cluster.{Cluster}
 use Rattle.layout.specs.declared.Entity.{Entity}
 use Rattle.layout.specs.declared.Entity.the-variants.{Unknown, Input, Output, Mixer, Selector, Printed, Feature}
-use Rattle.layout.specs.Sources.{sourcesFrom}
-use Rattle.layout.proofs.sources_from.Statement.{statement}
-use Rattle.layout.proofs.sources_from.Tie as tie
+use Rattle.kinds.specs.Sources.{sourcesFrom}
+use Rattle.kinds.proofs.sources_from.Statement.{statement}
+use Rattle.kinds.proofs.sources_from.Tie as tie
 
 module _ (e : Entity) where
   unknown : e ≡ Unknown → 0 ≡ sourcesFrom e

@@ -3,12 +3,12 @@ use borrow.Author.Needs.{needs}
 use Prim.Native.Nat.{ℕ}
 use mathlib.Core.Path.{_≡_, sym, ap}
 use mathlib.Core.Bool.{true, false}
 use Rattle.layout.specs.declared.Cluster.{Cluster}
 use Rattle.layout.specs.declared.Entity.{Entity}
 use Rattle.layout.specs.declared.Entity.the-variants.{Unknown, Input, Output, Mixer, Selector, Printed, Feature}
-use Rattle.layout.specs.Sources.{feedsOf}
-use Rattle.layout.proofs.feeds.Statement.{statement}
-use Rattle.layout.proofs.feeds.Tie as tie
+use Rattle.kinds.specs.Sources.{feedsOf}
+use Rattle.kinds.proofs.feeds.Statement.{statement}
+use Rattle.kinds.proofs.feeds.Tie as tie
 
 module _ (e : Entity) where
   unknown : e ≡ Unknown → false ≡ feedsOf e

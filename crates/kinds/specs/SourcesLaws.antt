@@ -13,16 +13,16 @@ use lib.ListN.{length, take, drop}
 use lib.Seq.{getD-take, getD-drop}
 use native.Mathlib.Omega.{arith}
 use Rattle.ground.specs.Numbers.{byte}
 use Rattle.layout.specs.declared.Entity.{Entity}
 use Rattle.layout.specs.declared.Entity.the-variants.{Unknown, Input, Output, Mixer, Selector, Printed, Feature}
 use Rattle.layout.specs.FormatLaws.{stretch-length}
 use Rattle.layout.specs.Layouts.{mostPins}
 use Rattle.layout.specs.Fields as fields
 use Rattle.layout.specs.Fields.{Fields, fieldsOf, fedBy, fedFrom}
 use Rattle.layout.specs.FieldsLaws.{fed-standing}
 use Rattle.layout.specs.Layout.{entityOf, entityIn}
 use Rattle.layout.specs.LayoutLaws.{Told, told, unknown, input, output, mixer, selector, printed, feature}
-use Rattle.layout.specs.Sources.{pinsOf, sourcesFrom, sourceIds}
+use Rattle.kinds.specs.Sources.{pinsOf, sourcesFrom, sourceIds}
 
 pub sources-from-low : (e : Entity) → sourcesFrom e ≤ 7
 unfolding sourcesFrom

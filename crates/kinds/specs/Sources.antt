@@ -8,11 +8,12 @@ use mathlib.Core.Bool.{Bool, true, false}
 use mathlib.Core.Option.{Option, none, some}
 use mathlib.Core.List.{List}
 use lib.ListN.{take, drop}
 use Rattle.layout.specs.declared.Entity.{Entity}
 use Rattle.layout.specs.declared.Entity.the-variants.{Unknown, Input, Output, Mixer, Selector, Printed, Feature}
 use Rattle.layout.specs.Format.{firstSource}
 use Rattle.layout.specs.Layouts.{Kind, formatOf}
-use Rattle.layout.specs.Layout.{entityOf, layoutOf}
+use Rattle.layout.specs.Layout.{entityOf}
+use Rattle.kinds.specs.Shown.{layoutOf}
 
 unfoldable pub pinsOf : Entity → ℕ
 pinsOf Unknown = 0
