@@ -34,7 +34,8 @@ use Rattle.sources.specs.Breach.{wrongSource, breach11}
 use Rattle.ranks.specs.Order.{ordered}
 use Rattle.ranks.specs.Breach.{breach12}
 use Rattle.sweep.specs.Sweep.{givesBy, givenIn, clustersOf}
-use Rattle.clusters.specs.Breach.{keepsBy, breach13}
+use Rattle.keeping.specs.Keeping.{keepsBy}
+use Rattle.clusters.specs.Breach.{breach13}
 use Rattle.edition.specs.Audio.{firstOf, channelsIn, giveOut, mixerLength, featureLength, alike, alikeIn, mixerKept, featureKept, keeps}
 use Rattle.channels.specs.Declared.{clusterKept, namesKept}
 use Rattle.connections.specs.Judgement.{judged}

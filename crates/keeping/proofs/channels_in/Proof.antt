@@ -10,9 +10,9 @@ use lib.Seq.{drop-cons}
 use mir.Val.{Fits}
 use mir.Syntax.{w64}
 use Rattle.edition.specs.Audio.{channelsIn}
-use Rattle.clusters.specs.Breach.{channelsOn, Entering}
-use Rattle.clusters.proofs.channels_in.Statement.{statement}
-use Rattle.clusters.proofs.channels_in.Tie as tie
+use Rattle.keeping.specs.Keeping.{channelsOn, Entering}
+use Rattle.keeping.proofs.channels_in.Statement.{statement}
+use Rattle.keeping.proofs.channels_in.Tie as tie
 
 -- The sum is that of the pins before pin k, at most 255 each.
 module _ (ids counts : List ℕ) where

@@ -9,9 +9,9 @@ use borrow.Author.Tests.{not-true, not-false}
 use Rattle.layout.specs.declared.Cluster.{Cluster}
 use Rattle.channels.specs.Declared.{clusterKept}
 use Rattle.edition.specs.Audio.{channelsIn, mixerLength, mixerKept}
-use Rattle.clusters.specs.Breach.{Entering}
-use Rattle.clusters.proofs.mixer_kept.Statement.{statement}
-use Rattle.clusters.proofs.mixer_kept.Tie as tie
+use Rattle.keeping.specs.Keeping.{Entering}
+use Rattle.keeping.proofs.mixer_kept.Statement.{statement}
+use Rattle.keeping.proofs.mixer_kept.Tie as tie
 
 module _ (p : ℕ) (c : Cluster) (l : ℕ) (cs : List Cluster) (b : Bool) (e : b ≡ clusterKept c) where
   cluster-broken : not b ≡ true → false ≡ mixerKept p c l cs

@@ -11,9 +11,9 @@ use lib.Seq.{drop-cons}
 use borrow.Author.Tests.{eq-eqb, ne-eqb}
 use Rattle.graph.specs.Members.{all}
 use Rattle.edition.specs.Audio.{alike}
-use Rattle.clusters.specs.Breach.{channelsOn}
-use Rattle.clusters.proofs.all_have.Statement.{statement}
-use Rattle.clusters.proofs.all_have.Tie as tie
+use Rattle.keeping.specs.Keeping.{channelsOn}
+use Rattle.keeping.proofs.all_have.Statement.{statement}
+use Rattle.keeping.proofs.all_have.Tie as tie
 
 -- c channels enter by the pins before pin k; whether by all is whether by all from there on.
 module _ (ids counts : List ℕ) (c : ℕ) where

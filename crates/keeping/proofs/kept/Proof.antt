@@ -14,9 +14,9 @@ use Rattle.channels.specs.Declared.{clusterKept}
 use Rattle.entities.specs.declared.Node.{Node}
 use Rattle.entities.specs.Run.{sourcesOf, descriptorOf}
 use Rattle.edition.specs.Audio.{alikeIn, mixerKept, featureKept, keeps}
-use Rattle.clusters.specs.Breach.{channelsOn, keepsBy}
-use Rattle.clusters.proofs.kept.Statement.{statement}
-use Rattle.clusters.proofs.kept.Tie as tie
+use Rattle.keeping.specs.Keeping.{channelsOn, keepsBy}
+use Rattle.keeping.proofs.kept.Statement.{statement}
+use Rattle.keeping.proofs.kept.Tie as tie
 
 -- a byte says how many pins there are
 few : (s : List ℕ) (n : Node) → n .pins < 256 → (ids : List ℕ) → ids ≡ sourcesOf s n → length ids ≤ 255

@@ -5,10 +5,10 @@ use mathlib.Core.Path.{_≡_, ap, _∙_}
 use mathlib.Core.Bool.{Bool}
 use mathlib.Core.List.{List, map}
 use Rattle.edition.specs.Audio.{alike, alikeIn}
-use Rattle.clusters.specs.Breach.{channelsOn}
+use Rattle.keeping.specs.Keeping.{channelsOn}
 use Rattle.sweep.specs.Sweep.{firstBy}
-use Rattle.clusters.proofs.selector_kept.Statement.{statement}
-use Rattle.clusters.proofs.selector_kept.Tie as tie
+use Rattle.keeping.proofs.selector_kept.Statement.{statement}
+use Rattle.keeping.proofs.selector_kept.Tie as tie
 
 as-first : (ids counts : List ℕ) (c : ℕ) (b : Bool) → c ≡ firstBy (channelsOn counts) ids .channels
     → b ≡ alike c (map (channelsOn counts) ids) → b ≡ alikeIn (map (channelsOn counts) ids)

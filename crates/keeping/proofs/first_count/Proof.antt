@@ -6,10 +6,10 @@ use mathlib.Core.List.{List, [], _∷_}
 use native.Mathlib.Omega.{arith}
 use lib.ListN.{length, getD}
 use Rattle.edition.specs.Audio.{firstOf}
-use Rattle.clusters.specs.Breach.{channelsOn}
+use Rattle.keeping.specs.Keeping.{channelsOn}
 use Rattle.sweep.specs.Sweep.{firstBy}
-use Rattle.clusters.proofs.first_count.Statement.{statement}
-use Rattle.clusters.proofs.first_count.Tie as tie
+use Rattle.keeping.proofs.first_count.Statement.{statement}
+use Rattle.keeping.proofs.first_count.Tie as tie
 
 module _ (counts : List ℕ) where
   no-pin : (ids : List ℕ) → length ids ≡ 0 → 0 ≡ firstBy (channelsOn counts) ids .channels

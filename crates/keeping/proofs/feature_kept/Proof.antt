@@ -5,10 +5,10 @@ use mathlib.Core.Path.{_≡_, ap, _∙_}
 use mathlib.Core.List.{List, map}
 use lib.Dec.{eqb}
 use Rattle.edition.specs.Audio.{featureLength, featureKept}
-use Rattle.clusters.specs.Breach.{channelsOn}
+use Rattle.keeping.specs.Keeping.{channelsOn}
 use Rattle.sweep.specs.Sweep.{firstBy}
-use Rattle.clusters.proofs.feature_kept.Statement.{statement}
-use Rattle.clusters.proofs.feature_kept.Tie as tie
+use Rattle.keeping.proofs.feature_kept.Statement.{statement}
+use Rattle.keeping.proofs.feature_kept.Tie as tie
 
 by-length : (ids counts : List ℕ) (n l c m : ℕ) → c ≡ firstBy (channelsOn counts) ids .channels
     → m ≡ featureLength c n → eqb l m ≡ featureKept n l (map (channelsOn counts) ids)

@@ -7,8 +7,8 @@ use native.Mathlib.Omega.{arith}
 use mir.Val.{Fits}
 use mir.Syntax.{w64}
 use Rattle.edition.specs.Audio.{mixerLength}
-use Rattle.clusters.proofs.mixer_length.Statement.{statement}
-use Rattle.clusters.proofs.mixer_length.Tie as tie
+use Rattle.keeping.proofs.mixer_length.Statement.{statement}
+use Rattle.keeping.proofs.mixer_length.Tie as tie
 
 module _ (c i : ℕ) (h : c < 256) (few : i ≤ 65025) where
   small : i * c ≤ 65025 * 255

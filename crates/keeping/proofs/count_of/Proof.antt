@@ -4,8 +4,8 @@ use Prim.Native.Nat.{ℕ, _<_}
 use mathlib.Core.Path.{_≡_, ap}
 use mathlib.Core.List.{List}
 use lib.ListN.{getD}
-use Rattle.clusters.proofs.count_of.Statement.{statement}
-use Rattle.clusters.proofs.count_of.Tie as tie
+use Rattle.keeping.proofs.count_of.Statement.{statement}
+use Rattle.keeping.proofs.count_of.Tie as tie
 
 at-id : (counts : List ℕ) (id x : ℕ) → (x ≡ id) × (x < 256) → getD counts x 0 ≡ getD counts id 0
 at-id counts id x e = ap (λ (y : ℕ). getD counts y 0) (e .0)

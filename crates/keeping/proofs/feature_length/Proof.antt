@@ -7,8 +7,8 @@ use native.Mathlib.Omega.{arith}
 use mir.Val.{Fits}
 use mir.Syntax.{w64}
 use Rattle.edition.specs.Audio.{featureLength}
-use Rattle.clusters.proofs.feature_length.Statement.{statement}
-use Rattle.clusters.proofs.feature_length.Tie as tie
+use Rattle.keeping.proofs.feature_length.Statement.{statement}
+use Rattle.keeping.proofs.feature_length.Tie as tie
 
 module _ (c n : ℕ) (h : c < 256) (k : n < 256) where
   small : (c + 1) * n ≤ 256 * 255
