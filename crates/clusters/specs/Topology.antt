@@ -57,7 +57,8 @@ use Rattle.ranks.specs.OrderLaws.{ordered-held, ordered-node}
 use Rattle.ranks.specs.Rule12Laws.{ranking-run, rule12-ranks}
 use Rattle.clusters.specs.Rule13.{entering, GivenOut, Fits, Rule13, Broken, Connected}
 use Rattle.sweep.specs.Sweep.{givesAt, givenIn, clustersOf}
-use Rattle.clusters.specs.Breach.{givenFor, keepsBy, breach13}
+use Rattle.keeping.specs.Keeping.{keepsBy}
+use Rattle.clusters.specs.Breach.{givenFor, breach13}
 
 -- any edition, of the descriptors alone
 module _ {ed : Edition} {ds : List (List ℕ)} where

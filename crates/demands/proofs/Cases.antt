@@ -13,8 +13,9 @@ use Rattle.ground.specs.Lists.{total, any, pad}
 use Rattle.scan.specs.Cutting.{endAt, restFrom, rest, reach, breach3}
 use Rattle.scan.specs.Search.{searched}
 use Rattle.search.specs.Want.{isInterface, isClass, isAudio, isSetting, isMember, wants, foundFrom}
-use Rattle.layout.specs.Layout.{entityOf, kindOf, isUnknown}
-use Rattle.layout.specs.Sources.{pinsOf, sourcesFrom, feedsOf}
+use Rattle.layout.specs.Layout.{entityOf, isUnknown}
+use Rattle.kinds.specs.Shown.{kindOf}
+use Rattle.kinds.specs.Sources.{pinsOf, sourcesFrom, feedsOf}
 use Rattle.entities.specs.Run.{nodeOf, nodesFrom, blankNode, runIn}
 use Rattle.opening.specs.Reading.{breach1, breach2}
 use Rattle.interfaces.specs.Reading.{wrongInterface, breach4, interfacesJudged}
@@ -34,7 +35,8 @@ use Rattle.sources.specs.Breach.{wrongSource, breach11}
 use Rattle.ranks.specs.Order.{ordered}
 use Rattle.ranks.specs.Breach.{breach12}
 use Rattle.sweep.specs.Sweep.{givesBy, givenIn, clustersOf}
-use Rattle.clusters.specs.Breach.{keepsBy, breach13}
+use Rattle.keeping.specs.Keeping.{keepsBy}
+use Rattle.clusters.specs.Breach.{breach13}
 use Rattle.edition.specs.Audio.{firstOf, channelsIn, giveOut, mixerLength, featureLength, alike, alikeIn, mixerKept, featureKept, keeps}
 use Rattle.channels.specs.Declared.{clusterKept, namesKept}
 use Rattle.connections.specs.Judgement.{judged}

@@ -25,8 +25,8 @@ use Rattle.layout.specs.declared.Cluster.{Cluster}
 use Rattle.layout.specs.declared.Entity.{Entity}
 use Rattle.layout.specs.declared.Entity.the-variants.{Unknown, Input, Output, Mixer, Selector, Printed, Feature}
 use Rattle.layout.specs.Layout.{LaidOut, entityOf, noCluster}
-use Rattle.layout.specs.Sources.{sourcesFrom, pinsOf, feedsOf}
-use Rattle.layout.specs.SourcesLaws.{sources-within}
+use Rattle.kinds.specs.Sources.{sourcesFrom, pinsOf, feedsOf}
+use Rattle.kinds.specs.SourcesLaws.{sources-within}
 use Rattle.graph.specs.Members.{_∈_, all, reads-all}
 use Rattle.channels.specs.Declared.{ClusterKept, clusterKept, reads-cluster}
 use Rattle.edition.specs.Edition.{Edition}

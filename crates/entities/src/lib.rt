@@ -83,10 +83,10 @@ fn node_of(d: &[u8], entity: Entity, place: usize) -> Node
 {
     Node {
         place,
-        first: place + layout::sources_from(entity),
-        pins: layout::pins(entity),
+        first: place + kinds::sources_from(entity),
+        pins: kinds::pins(entity),
         id: byte_at(d, 3),
-        feeds: layout::feeds(entity),
+        feeds: kinds::feeds(entity),
     }
 }
 

@@ -8,9 +8,6 @@
 --   entityBy ks d            ==  that of the fields of d by one of the layouts ks, whatever byte 2 is
 --   inputOf d, outputOf d, mixerOf d, selectorOf d, featureOf d ==  the same by the layouts of the kind in the name
 --   entityOf d               ==  what the reader makes of d: by the layouts whose number is byte 2
---   layoutOf e               ==  the layout that the entity e has; none for Unknown
---   printedKind              ==  15 hex, the printed Selector's number on the sheet (document 01, "The sheet")
---   shownAs o, kindOf e      ==  the number of its kind on the sheet: byte 2, but printedKind for the printed Selector; 0 for Unknown
 --   idOf e                   ==  the ID that an entity bears
 --   isUnknown e              ==  the layout was wrong
 --   layoutNumber e           ==  the refusal that it asks for: 9 where the layout was wrong, else 0
@@ -69,30 +66,6 @@ featureOf d = entityBy (kindsOf (numberOf kind.feature)) d
 
 unfoldable pub entityOf : List ℕ → Entity
 entityOf d = entityIn (fieldsOf d)
-
-abbrev pub layoutOf : Entity → Option Kind
-layoutOf Unknown = none
-layoutOf (Input i t c) = some kind.input
-layoutOf (Output i t s) = some kind.output
-layoutOf (Mixer i p c) = some kind.mixer
-layoutOf (Selector i p) = some kind.selector
-layoutOf (Printed i p) = some kind.printed
-layoutOf (Feature i s n) = some kind.feature
-
-abbrev pub printedKind : ℕ
-printedKind = 0x15
-
-abbrev pub shownAs : Option Kind → ℕ
-shownAs none = 0
-shownAs (some kind.input) = numberOf kind.input
-shownAs (some kind.output) = numberOf kind.output
-shownAs (some kind.mixer) = numberOf kind.mixer
-shownAs (some kind.selector) = numberOf kind.selector
-shownAs (some kind.printed) = printedKind
-shownAs (some kind.feature) = numberOf kind.feature
-
-unfoldable pub kindOf : Entity → ℕ
-kindOf e = shownAs (layoutOf e)
 
 unfoldable pub idOf : Entity → ℕ
 idOf Unknown = 0

@@ -9,7 +9,6 @@
 --   kind-input, kind-output, kind-mixer, kind-selector, kind-feature, kind-other ==  byte 2 says which kind's reader it is
 --   entity-input, entity-output, entity-mixer, entity-selector, entity-printed, entity-feature, entity-unknown ==  one equation for each layout,
 --                     and where there is none
---   kind-told     ==  byte 2 is the kind, in every layout but the printed Selector's
 --   id-told       ==  byte 3 is the ID, in every layout
 --   selector-pins ==  a Selector's pins are 1 to 8, in both of its layouts
 use Prim.Native.Nat.{ℕ, _+_, _≤_}
@@ -32,7 +31,7 @@ use Rattle.layout.specs.Layouts.{Kind, numberOf, formatOf, kindsOf, most
 use Rattle.layout.specs.Fields as fields
 use Rattle.layout.specs.Fields.{Fields, LaidOut, fieldsAt, fieldsOf}
 use Rattle.layout.specs.FieldsLaws.{none-some, found-by, laid-fields, laid-only}
-use Rattle.layout.specs.Layout.{clusterAt, entityIn, entityBy, inputOf, outputOf, mixerOf, selectorOf, featureOf, entityOf, kindOf, idOf, isUnknown, layoutNumber}
+use Rattle.layout.specs.Layout.{clusterAt, entityIn, entityBy, inputOf, outputOf, mixerOf, selectorOf, featureOf, entityOf, idOf, isUnknown, layoutNumber}
 
 module _ (d : List ℕ) where
   abbrev p : ℕ
@@ -265,19 +264,6 @@ layout-number d = (of (isUnknown (entityOf d)) refl, λ n. number-unknown (entit
 
 pub layout-right : (d : List ℕ) → LaidOut d → layoutNumber (entityOf d) ≡ 0
 layout-right d l = number-unknown (entityOf d) ∙ no _ _ (refutes (reads-unknown d) (λ n. n l))
-
-pub kind-told : (d : List ℕ) → LaidOut d → (kindOf (entityOf d) ≡ byte d 2) ⊎ (entityOf d ≡ Printed (byte d 3) (byte d 4))
-unfolding kindOf
-kind-told d o = of (told d)
-  where
-    of : {e : Entity} → Told d e → (kindOf e ≡ byte d 2) ⊎ (e ≡ Printed (byte d 3) (byte d 4))
-    of (unknown n) = absurd (n o)
-    of (input k l) = inl (sym k)
-    of (output k l) = inl (sym k)
-    of (mixer k q l) = inl (sym k)
-    of (selector k q l) = inl (sym k)
-    of (printed k q l z) = inr refl
-    of (feature k q l) = inl (sym k)
 
 pub id-told : (d : List ℕ) → LaidOut d → idOf (entityOf d) ≡ byte d 3
 unfolding idOf

@@ -4,7 +4,5 @@ pub mod Layouts
 pub mod Fields
 pub mod FieldsLaws
 pub mod Layout
-pub mod Sources
 pub mod LayoutLaws
-pub mod SourcesLaws
 pub mod Examples

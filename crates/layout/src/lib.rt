@@ -1,12 +1,11 @@
 // The layouts of the five kinds of entities (document 01, "Entities"). To the layer above: a descriptor, any slice, becomes an enum case
-// that carries its kind's own numbers, or Unknown where its layout is wrong; the case tells where the IDs of its sources stand in the
-// descriptor, how many they are, whether it may be a source itself, and its kind on the sheet. The layouts are said in specs/Layouts.
+// that carries its kind's own numbers, or Unknown where its layout is wrong. What else a case says is crate kinds' to tell. The layouts are
+// said in specs/Layouts.
 ghost use mathlib.Core.Path.{_≡_};
 ghost use Prim.Native.Nat.{_≤_, _<_};
 ghost use lib.ListN.{length};
-ghost use Rattle.layout.specs.Layout.{entityOf, inputOf, outputOf, mixerOf, selectorOf, featureOf, kindOf, clusterAt, mostPins};
+ghost use Rattle.layout.specs.Layout.{entityOf, inputOf, outputOf, mixerOf, selectorOf, featureOf, clusterAt, mostPins};
 ghost use Rattle.ground.specs.Pick.{within};
-ghost use Rattle.layout.specs.Sources.{sourcesFrom, pinsOf, feedsOf};
 use scan::byte_at;
 use scan::word_at;
 
@@ -178,65 +177,5 @@ pub fn read(d: &[u8]) -> Entity
         5 => read_selector(d),
         6 => read_feature(d),
         _ => Entity::Unknown,
-    }
-}
-
-// The number of an entity's kind on the sheet: byte 2, but 15 hex for the printed Selector.
-pub fn kind(entity: Entity) -> u8
-    ensures { λ r. ⌜ r ≡ kindOf entity ⌝ }
-{
-    match entity {
-        Entity::Unknown => 0,
-        Entity::Input { .. } => 2,
-        Entity::Output { .. } => 3,
-        Entity::Mixer { .. } => 4,
-        Entity::Selector { .. } => 5,
-        Entity::Printed { .. } => 0x15,
-        Entity::Feature { .. } => 6,
-    }
-}
-
-// The offset of an entity's first source ID in its descriptor; the others follow it, one for each pin.
-pub fn sources_from(entity: Entity) -> usize
-    ensures { λ r. ⌜ r ≡ sourcesFrom entity ⌝ }
-{
-    match entity {
-        Entity::Unknown => 0,
-        Entity::Input { .. } => 0,
-        Entity::Output { .. } => 7,
-        Entity::Mixer { .. } => 5,
-        Entity::Selector { .. } => 5,
-        Entity::Printed { .. } => 6,
-        Entity::Feature { .. } => 4,
-    }
-}
-
-// How many sources an entity has: its pins.
-pub fn pins(entity: Entity) -> u8
-    ensures { λ r. ⌜ r ≡ pinsOf entity ⌝ }
-{
-    match entity {
-        Entity::Unknown => 0,
-        Entity::Input { .. } => 0,
-        Entity::Output { .. } => 1,
-        Entity::Mixer { pins, .. } => pins,
-        Entity::Selector { pins, .. } => pins,
-        Entity::Printed { pins, .. } => pins,
-        Entity::Feature { .. } => 1,
-    }
-}
-
-// Whether an entity may be a source: it has an output, as all have but an Output Terminal and a wrong layout.
-pub fn feeds(entity: Entity) -> bool
-    ensures { λ r. ⌜ r ≡ feedsOf entity ⌝ }
-{
-    match entity {
-        Entity::Unknown => false,
-        Entity::Input { .. } => true,
-        Entity::Output { .. } => false,
-        Entity::Mixer { .. } => true,
-        Entity::Selector { .. } => true,
-        Entity::Printed { .. } => true,
-        Entity::Feature { .. } => true,
     }
 }

@@ -17,8 +17,9 @@ use Rattle.layout.specs.Layouts.{mostPins}
 use Rattle.layout.specs.Fields as fields
 use Rattle.layout.specs.Fields.{Fields, LaidOut, layoutBy, fieldsOf, fedBy}
 use Rattle.layout.specs.FieldsLaws.{laid-only}
-use Rattle.layout.specs.Layout.{entityIn, entityOf, kindOf, shownAs}
-use Rattle.layout.specs.SourcesLaws.{pins-fields, sources-fields, pins-few}
+use Rattle.layout.specs.Layout.{entityIn, entityOf}
+use Rattle.kinds.specs.Shown.{kindOf, shownAs}
+use Rattle.kinds.specs.SourcesLaws.{pins-fields, sources-fields, pins-few}
 use Rattle.edition.specs.Edition.{ownId, sources}
 use Rattle.edition.specs.Audio.{audio}
 use Rattle.records.specs.Records.{headSize, recordSize, frontOf, recordIn}

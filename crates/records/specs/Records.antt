@@ -23,8 +23,9 @@ use lib.Dec.{leb}
 use Rattle.ground.specs.Pick.{pick}
 use Rattle.ground.specs.Lists.{pad, pad-length}
 use Rattle.layout.specs.declared.Cluster.{Cluster}
-use Rattle.layout.specs.Layout.{mostPins, noCluster, entityOf, kindOf}
-use Rattle.layout.specs.SourcesLaws.{sources-within}
+use Rattle.layout.specs.Layout.{mostPins, noCluster, entityOf}
+use Rattle.kinds.specs.Shown.{kindOf}
+use Rattle.kinds.specs.SourcesLaws.{sources-within}
 use Rattle.edition.specs.Edition.{ownId, sources}
 use Rattle.edition.specs.Audio.{audio}
 use Rattle.entities.specs.declared.Node.{Node}

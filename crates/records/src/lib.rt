@@ -7,7 +7,8 @@ ghost use lib.ListN.{length};
 ghost use lib.Seq.{paste};
 ghost use Rattle.ground.specs.Lists.{part, pad};
 ghost use Rattle.scan.specs.Cutting.{endAt};
-ghost use Rattle.layout.specs.Layout.{entityOf, kindOf};
+ghost use Rattle.layout.specs.Layout.{entityOf};
+ghost use Rattle.kinds.specs.Shown.{kindOf};
 ghost use Rattle.records.specs.Records.{headSize, recordSize, frontOf, recordOf, roomFor, shownIn};
 use entities::Node;
 use entities::Run;
@@ -63,7 +64,7 @@ fn put_head(sheet: &mut [u8], at: usize, id: u8, kind: u8, pins: u8, cluster: Cl
 fn kind_at(config: &[u8], at: usize) -> u8
     ensures { λ r. ⌜ r ≡ kindOf (entityOf (part (now (config .entry)) at (endAt (now (config .entry)) at))) ⌝ }
 {
-    layout::kind(layout::read(scan::descriptor_at(config, at)))
+    kinds::kind(layout::read(scan::descriptor_at(config, at)))
 }
 
 // An entity's record put into the sheet at a place.

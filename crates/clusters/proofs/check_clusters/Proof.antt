@@ -13,8 +13,9 @@ use Rattle.entities.specs.declared.Run.{Run}
 use Rattle.entities.specs.Run.{blankNode, held, nodeAt, placeAt}
 use Rattle.sweep.specs.declared.Given.{Given}
 use Rattle.sweep.specs.Sweep.{clusterOn}
-use Rattle.clusters.specs.Breach.{channelsOn, keepsBy, breach13}
-use Rattle.clusters.specs.BreachLaws.{keeps-channels}
+use Rattle.keeping.specs.Keeping.{channelsOn, keepsBy}
+use Rattle.keeping.specs.KeepingLaws.{keeps-channels}
+use Rattle.clusters.specs.Breach.{breach13}
 use Rattle.clusters.proofs.check_clusters.Statement.{statement}
 use Rattle.clusters.proofs.check_clusters.Tie as tie
 

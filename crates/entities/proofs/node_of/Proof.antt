@@ -11,8 +11,8 @@ use mir.Syntax.{w64}
 use Rattle.ground.specs.Numbers.{byte}
 use Rattle.layout.specs.declared.Entity.{Entity}
 use Rattle.layout.specs.Layout.{entityOf}
-use Rattle.layout.specs.Sources.{sourcesFrom, pinsOf, feedsOf}
-use Rattle.layout.specs.SourcesLaws.{sources-within}
+use Rattle.kinds.specs.Sources.{sourcesFrom, pinsOf, feedsOf}
+use Rattle.kinds.specs.SourcesLaws.{sources-within}
 use Rattle.edition.specs.Audio.{audio}
 use Rattle.entities.specs.Run.{nodeOf}
 use Rattle.entities.proofs.node_of.Statement.{statement}

@@ -11,7 +11,8 @@ use mir.Syntax.{w8}
 use Rattle.ground.specs.Lists.{part, pad, pad-length}
 use Rattle.scan.specs.Cutting.{endAt}
 use Rattle.layout.specs.declared.Cluster.{Cluster}
-use Rattle.layout.specs.Layout.{mostPins, entityOf, kindOf}
+use Rattle.layout.specs.Layout.{mostPins, entityOf}
+use Rattle.kinds.specs.Shown.{kindOf}
 use Rattle.entities.specs.declared.Node.{Node}
 use Rattle.entities.specs.Run.{sourcesOf}
 use Rattle.records.specs.Records.{headSize, recordSize, frontOf, headOf, recordOf}

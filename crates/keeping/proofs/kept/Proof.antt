@@ -1,0 +1,157 @@
+-- One law for each kind, from what its own test answers.
+use borrow.Author.Needs.{needs}
+use Prim.Native.Nat.{ℕ, _<_, _≤_}
+use mathlib.Core.Path.{_≡_, sym, ap, _∙_}
+use mathlib.Core.Bool.{Bool, true}
+use mathlib.Core.List.{List, map}
+use native.Mathlib.Omega.{arith}
+use lib.ListN.{length, length-take}
+use Rattle.layout.specs.declared.Cluster.{Cluster}
+use Rattle.layout.specs.declared.Entity.{Entity}
+use Rattle.layout.specs.declared.Entity.the-variants.{Unknown, Input, Output, Mixer, Selector, Printed, Feature}
+use Rattle.layout.specs.Layout.{entityOf}
+use Rattle.channels.specs.Declared.{clusterKept}
+use Rattle.entities.specs.declared.Node.{Node}
+use Rattle.entities.specs.Run.{sourcesOf, descriptorOf}
+use Rattle.edition.specs.Audio.{alikeIn, mixerKept, featureKept, keeps}
+use Rattle.keeping.specs.Keeping.{channelsOn, keepsBy}
+use Rattle.keeping.proofs.kept.Statement.{statement}
+use Rattle.keeping.proofs.kept.Tie as tie
+
+-- a byte says how many pins there are
+few : (s : List ℕ) (n : Node) → n .pins < 256 → (ids : List ℕ) → ids ≡ sourcesOf s n → length ids ≤ 255
+few s n h ids e = rw e (simp length-take (omega arith))
+
+module _ (s : List ℕ) (n : Node) (counts d : List ℕ) (p : d ≡ descriptorOf s n)
+    (ids : List ℕ) (t : ids ≡ sourcesOf s n) (e : Entity) (q : e ≡ entityOf d) where
+  of : {x : Entity} → e ≡ x → keeps x (length d) (map (channelsOn counts) ids) ≡ keepsBy s n (channelsOn counts)
+  unfolding keepsBy
+  of h =
+      ap (λ (y : Entity). keeps y (length d) (map (channelsOn counts) ids)) (sym h ∙ q)
+      ∙ ap (λ (b : List ℕ). keeps (entityOf b) (length b) (map (channelsOn counts) ids)) p
+      ∙ ap (λ (l : List ℕ). keeps (entityOf (descriptorOf s n)) (length (descriptorOf s n)) (map (channelsOn counts) l)) t
+
+  unknown : e ≡ Unknown → true ≡ keepsBy s n (channelsOn counts)
+  unfolding keeps
+  unknown h = of h
+
+  input : {i t : ℕ} {c : Cluster} → e ≡ Input i t c → (b : Bool) → b ≡ clusterKept c → b ≡ keepsBy s n (channelsOn counts)
+  unfolding keeps
+  input h b a = a ∙ of h
+
+  output : {i t s′ : ℕ} → e ≡ Output i t s′ → true ≡ keepsBy s n (channelsOn counts)
+  unfolding keeps
+  output h = of h
+
+  mixer : {i p : ℕ} {c : Cluster} → e ≡ Mixer i p c → (b : Bool)
+      → b ≡ mixerKept p c (length d) (map (channelsOn counts) ids) → b ≡ keepsBy s n (channelsOn counts)
+  unfolding keeps
+  mixer h b a = a ∙ of h
+
+  selector : {i p : ℕ} → e ≡ Selector i p → (b : Bool) → b ≡ alikeIn (map (channelsOn counts) ids) → b ≡ keepsBy s n (channelsOn counts)
+  unfolding keeps
+  selector h b a = a ∙ of h
+
+  printed : {i p : ℕ} → e ≡ Printed i p → (b : Bool) → b ≡ alikeIn (map (channelsOn counts) ids) → b ≡ keepsBy s n (channelsOn counts)
+  unfolding keeps
+  printed h b a = a ∙ of h
+
+  feature : {i s′ k : ℕ} → e ≡ Feature i s′ k → (b : Bool)
+      → b ≡ featureKept k (length d) (map (channelsOn counts) ids) → b ≡ keepsBy s n (channelsOn counts)
+  unfolding keeps
+  feature h b a = a ∙ of h
+
+ruleset laws = (few, unknown, input, output, mixer, selector, printed, feature, needs)
+
+descriptor-at-requires : tie.Need-descriptor-at-requires
+descriptor-at-requires c κs = search laws
+
+sources-requires : tie.Need-sources-requires
+sources-requires c κs = search laws
+
+read-requires : tie.Need-read-requires
+read-requires c κs = search laws
+
+enum-told : tie.Need-enum-told
+enum-told c = search laws
+
+enum-known-entity : tie.Need-enum-known-entity
+enum-known-entity c = search laws
+
+cluster-kept-requires : tie.Need-cluster-kept-requires
+cluster-kept-requires c κs = search laws
+
+enum-told-2 : tie.Need-enum-told-2
+enum-told-2 c = search laws
+
+enum-known-entity-2 : tie.Need-enum-known-entity-2
+enum-known-entity-2 c = search laws
+
+mixer-kept-requires : tie.Need-mixer-kept-requires
+mixer-kept-requires c κs = search laws
+
+enum-told-3 : tie.Need-enum-told-3
+enum-told-3 c = search laws
+
+selector-kept-requires : tie.Need-selector-kept-requires
+selector-kept-requires c κs = search laws
+
+enum-told-4 : tie.Need-enum-told-4
+enum-told-4 c = search laws
+
+selector-kept-requires-2 : tie.Need-selector-kept-requires-2
+selector-kept-requires-2 c κs = search laws
+
+enum-known-entity-3 : tie.Need-enum-known-entity-3
+enum-known-entity-3 c = search laws
+
+feature-kept-requires : tie.Need-feature-kept-requires
+feature-kept-requires c κs = search laws
+
+returns : tie.Need-returns
+returns c = search laws
+
+returns-2 : tie.Need-returns-2
+returns-2 c = search laws
+
+returns-3 : tie.Need-returns-3
+returns-3 c = search laws
+
+returns-4 : tie.Need-returns-4
+returns-4 c = search laws
+
+returns-5 : tie.Need-returns-5
+returns-5 c = search laws
+
+returns-6 : tie.Need-returns-6
+returns-6 c = search laws
+
+returns-7 : tie.Need-returns-7
+returns-7 c = search laws
+
+pub kept-spec : {M : Type 1} → statement M
+kept-spec =
+    tie.close
+    (tie.spec
+    descriptor-at-requires
+    sources-requires
+    read-requires
+    enum-told
+    enum-known-entity
+    cluster-kept-requires
+    enum-told-2
+    enum-known-entity-2
+    mixer-kept-requires
+    enum-told-3
+    selector-kept-requires
+    enum-told-4
+    selector-kept-requires-2
+    enum-known-entity-3
+    feature-kept-requires
+    returns
+    returns-2
+    returns-3
+    returns-4
+    returns-5
+    returns-6
+    returns-7)
