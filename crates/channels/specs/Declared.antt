@@ -40,7 +40,8 @@ reads-names : (c o index : ℕ) → o ≤ c → Reads (namesKept c o index) (Nam
 unfolding namesKept
 reads-names c o index l = go (eqb o c) (reads-eq o c) (eqb index 0) (reads-eq index 0)
   where
-    go : (a : Bool) → Reads a (o ≡ c) → (b : Bool) → Reads b (index ≡ 0) → Reads (pick a b (pick b true (leb (index + c - o - 1) 255))) (Names c o index)
+    go : (a : Bool) → Reads a (o ≡ c) → (b : Bool) → Reads b (index ≡ 0)
+        → Reads (pick a b (pick b true (leb (index + c - o - 1) 255))) (Names c o index)
     go true q b z = record { says = λ e. (λ h. z .says e, λ m. absurd (let h = q .says refl in omega arith)); denies = λ e n. z .denies e (n .0 (q .says refl)) }
     go false q true z = record { says = λ e. (λ h. z .says refl, λ m n. absurd (n (z .says refl))); denies = λ e. absurd (true≠false e) }
     go false q false z = record {
@@ -61,10 +62,12 @@ reads-cluster k = go (leb o c) (reads-le o c)
     o : ℕ
     o = ones (k .locations)
 
-    start : (b : Bool) {P : Type 0} → Reads b P → Reads (within 1 (k .channels) mostChannels && (ltb (k .locations) 4096 && b)) (((1 ≤ k .channels) × (k .channels ≤ mostChannels)) × ((k .locations < 4096) × P))
+    start : (b : Bool) {P : Type 0} → Reads b P
+        → Reads (within 1 (k .channels) mostChannels && (ltb (k .locations) 4096 && b)) (((1 ≤ k .channels) × (k .channels ≤ mostChannels)) × ((k .locations < 4096) × P))
     start b r = reads-and _ _ (reads-within 1 (k .channels) mostChannels) (reads-and _ _ (reads-lt (k .locations) 4096) r)
 
-    go : (b : Bool) → Reads b (o ≤ c) → Reads (within 1 (k .channels) mostChannels && (ltb (k .locations) 4096 && (b && namesKept c o (k .names)))) (ClusterKept k)
+    go : (b : Bool) → Reads b (o ≤ c)
+        → Reads (within 1 (k .channels) mostChannels && (ltb (k .locations) 4096 && (b && namesKept c o (k .names)))) (ClusterKept k)
     go true r =
         let all = start (namesKept c o (k .names)) (reads-names c o (k .names) (r .says refl)) in
         record {

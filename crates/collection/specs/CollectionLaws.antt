@@ -50,7 +50,8 @@ reads-unlisted : (l d : List ℕ) → Reads (unlisted l d) (Unlisted l d)
 unfolding unlisted
 reads-unlisted l d = reads-and _ _ (reads-or _ _ (reads-audio 2 d) (reads-audio 3 d)) (reads-not _ (reads-listed (byte d 2) l))
 
-reads-all-listed : (ds : List (List ℕ)) (l : List ℕ) → Reads (not (any (unlisted l) ds)) ((d : List ℕ) → List·Memᴰ d ds → Audio 2 d ⊎ Audio 3 d → List·Memᴰ (byte d 2) l)
+reads-all-listed : (ds : List (List ℕ)) (l : List ℕ)
+    → Reads (not (any (unlisted l) ds)) ((d : List ℕ) → List·Memᴰ d ds → Audio 2 d ⊎ Audio 3 d → List·Memᴰ (byte d 2) l)
 reads-all-listed ds l =
     reads-same (reads-not _ (reads-any (unlisted l) (Unlisted l) (reads-unlisted l) ds))
     (λ n d m a. stands d (λ u. n (record { one = d; among = m; has = (a, u) })))

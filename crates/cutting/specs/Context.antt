@@ -35,14 +35,16 @@ module _ (s : List ℕ) (o : Opened s) where
   pub cut-told : rest s 0 ≡ o .descriptors
   cut-told = cutting-rest s (o .descriptors) (o .rule3)
 
-  none-before : (before : List (List ℕ)) (control : List ℕ) (tail : List (List ℕ)) → o .descriptors ≡ before ++ control ∷ tail → Audio 1 control → (d : List ℕ) → List·Memᴰ d before → Audio 1 d → ⊥
+  none-before : (before : List (List ℕ)) (control : List ℕ) (tail : List (List ℕ)) → o .descriptors ≡ before ++ control ∷ tail → Audio 1 control
+      → (d : List ℕ) → List·Memᴰ d before → Audio 1 d → ⊥
   unfolding Sound
   none-before before control tail e c d m a = o .rule4 .right before control tail e (second-control c (record { one = d; among = m; has = a }))
 
   pub frame-told : Framed s (o .before) (o .control) (o .tail)
   frame-told = go (framed s (rw cut-told (o .rule4)))
     where
-      go : (before : List (List ℕ)) × (control : List ℕ) × (tail : List (List ℕ)) × Framed s before control tail → Framed s (o .before) (o .control) (o .tail)
+      go : (before : List (List ℕ)) × (control : List ℕ) × (tail : List (List ℕ)) × Framed s before control tail
+          → Framed s (o .before) (o .control) (o .tail)
       go (before, control, tail, f) =
           let e : before ++ control ∷ tail ≡ o .before ++ o .control ∷ o .tail = sym (f .whole) ∙ cut-told ∙ o .split in
           let one = front-one (λ d. Audio 1 d → ⊥) before (control ∷ tail) (o .before) (o .control ∷ o .tail) e

@@ -45,11 +45,13 @@ module _ (s d : List ℕ) where
   answers : ((readingOf s (length d) .number ≡ 0) × Shown s (length d)) ⊎ RefusedReading s d
   answers = go (decided (eqb (readingOf s (length d) .number) 0) (reads-eq (readingOf s (length d) .number) 0))
     where
-      go : (readingOf s (length d) .number ≡ 0) ⊎ (readingOf s (length d) .number ≡ 0 → ⊥) → ((readingOf s (length d) .number ≡ 0) × Shown s (length d)) ⊎ RefusedReading s d
+      go : (readingOf s (length d) .number ≡ 0) ⊎ (readingOf s (length d) .number ≡ 0 → ⊥)
+          → ((readingOf s (length d) .number ≡ 0) × Shown s (length d)) ⊎ RefusedReading s d
       go (inl e) = inl (e, accepted-exactly s (length d) .0 (sym (number-told s (length d)) ∙ e))
       go (inr n) = inr (refuses n)
 
-answer-refuses : (Rows : ℕ → Type 0) (st : State) (o : Outcome) → Rows (numberOf o) → (r : Answer) → r ≡ answerOf st o → (r .number ≡ 0 → ⊥) → RefusedAnswer Rows st r
+answer-refuses : (Rows : ℕ → Type 0) (st : State) (o : Outcome) → Rows (numberOf o) → (r : Answer) → r ≡ answerOf st o → (r .number ≡ 0 → ⊥)
+    → RefusedAnswer Rows st r
 unfolding answerOf
 answer-refuses Rows st (refused n) row r e h = record { row = rw e row; none-written = ap (λ (x : Answer). x .written) e; state = ap (λ (x : Answer). x .state) e }
 answer-refuses Rows st (got bytes) row r e h = absurd (h (ap (λ (x : Answer). x .number) e))

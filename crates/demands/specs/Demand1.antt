@@ -53,7 +53,8 @@ pub record Agree (b a c e : List ℕ) : Type 0 where
 pub record Demand1 : Type 0 where
   pub reader-answers : (s d : List ℕ) → ((readingOf s (length d) .number ≡ 0) × Shown s (length d)) ⊎ RefusedReading s d
   pub reader-refuses : (s d : List ℕ) → (readingOf s (length d) .number ≡ 0 → ⊥) → RefusedReading s d
-  pub load-refuses : (st : State) (k : Key) (range : Range) (w : ℕ) (r : Answer) → r ≡ answerOf st (loadOf st (k .unit) (k .channel) (k .selector) range w)
+  pub load-refuses : (st : State) (k : Key) (range : Range) (w : ℕ) (r : Answer)
+      → r ≡ answerOf st (loadOf st (k .unit) (k .channel) (k .selector) range w)
       → (r .number ≡ 0 → ⊥) → RefusedAnswer (loadRows st k range w) st r
   -- b is the reply at the call, a what it holds afterwards
   pub request-refuses : (st : State) (setup «data» b : List ℕ) (r : Answer) (a : List ℕ) → Answered st (requestOf st setup «data» (length b)) b r a

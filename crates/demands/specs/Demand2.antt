@@ -46,9 +46,11 @@ module _ (st : State) (run : List Step) where
     pub next-set : (setup «data» : List ℕ) (room : ℕ) → Bytes «data» → AsksSet setup → Accepted (request setup «data» room)
         → SetStored (now-is .table) setup «data» (next now-is (request setup «data» room) .table)
     pub set-silent : (setup «data» : List ℕ) (room : ℕ) → AsksSet setup → bytesOf (stepOf now-is (request setup «data» room)) ≡ []
-    pub next-load : (k : Key) (range : Range) (w : ℕ) → Accepted (load k range w) → LoadStored (now-is .table) k range w (next now-is (load k range w) .table)
+    pub next-load : (k : Key) (range : Range) (w : ℕ) → Accepted (load k range w)
+        → LoadStored (now-is .table) k range w (next now-is (load k range w) .table)
     pub alone : (step : Step) → Alone (now-is .table) (stepKey step) (next now-is step .table)
-    pub stored : (k : Key) (i : ℕ) → StandsAt (st .table) k i → Moved (st .table) k i (told (rangesIn k) st run) (told (numbersIn k) st run) (now-is .table)
+    pub stored : (k : Key) (i : ℕ) → StandsAt (st .table) k i
+        → Moved (st .table) k i (told (rangesIn k) st run) (told (numbersIn k) st run) (now-is .table)
     pub gets : (setup «data» : List ℕ) (room : ℕ) → AsksGet setup → Accepted (request setup «data» room)
         → Answers st run setup (bytesOf (stepOf now-is (request setup «data» room)))
 

@@ -63,5 +63,6 @@ module _ (answers : State → List ℕ → List ℕ → List ℕ → Answer) (le
 
   pub record RespondersTurnedAway : Type 0 where
     pub stalls-always : ((st : State) (setup «data» b : List ℕ) → answers st setup «data» b .number ≡ 0 → ⊥) → ⊥
-    pub answers-zero : ((st : State) (setup «data» b : List ℕ) (i : ℕ) → i < answers st setup «data» b .written → byte (leaves st setup «data» b) i ≡ 0) → ⊥
+    pub answers-zero : ((st : State) (setup «data» b : List ℕ) (i : ℕ) → i < answers st setup «data» b .written → byte (leaves st setup «data» b) i ≡ 0)
+        → ⊥
     pub stores-first : muteTold (afterSet (afterSet caseState 1) 0) ≡ muteTold (afterSet caseState 1) → ⊥

@@ -74,13 +74,15 @@ module _ (ed : Edition) where
   nodes-more p [] d = ap (λ (i : ℕ). nodeOf ed i d ∷ []) (sym (add-zero p))
   nodes-more p (x ∷ ds) d = ap (λ (l : List Node). nodeOf ed p x ∷ l) (nodes-more (p + length x) ds d ∙ ap (λ (i : ℕ). nodesFrom ed (p + length x) ds ++ nodeOf ed i d ∷ []) (add-assoc p (length x) (total ds)))
 
-  pub nodes-at : (p : ℕ) (ds : List (List ℕ)) (i : ℕ) → i < length ds → getD (nodesFrom ed p ds) i blankNode ≡ nodeOf ed (p + total (take i ds)) (getD ds i [])
+  pub nodes-at : (p : ℕ) (ds : List (List ℕ)) (i : ℕ) → i < length ds
+      → getD (nodesFrom ed p ds) i blankNode ≡ nodeOf ed (p + total (take i ds)) (getD ds i [])
   unfolding nodesFrom total
   nodes-at p [] i h = absurd (omega arith)
   nodes-at p (d ∷ ds) zero h = ap (λ (i : ℕ). nodeOf ed i d) (sym (add-zero p))
   nodes-at p (d ∷ ds) (suc i) h = nodes-at (p + length d) ds i (le-of-suc-le-suc h) ∙ ap (λ (j : ℕ). nodeOf ed j (getD ds i [])) (add-assoc p (length d) (total (take i ds)))
 
-  pub run-at : (p : ℕ) (ds : List (List ℕ)) (i : ℕ) → i < length ds → i < mostEntities → nodeAt (runIn ed p ds) i ≡ nodeOf ed (p + total (take i ds)) (getD ds i [])
+  pub run-at : (p : ℕ) (ds : List (List ℕ)) (i : ℕ) → i < length ds → i < mostEntities
+      → nodeAt (runIn ed p ds) i ≡ nodeOf ed (p + total (take i ds)) (getD ds i [])
   unfolding runIn
   run-at p ds i h l = pad-at blankNode mostEntities (nodesFrom ed p ds) i l ∙ nodes-at p ds i h
 
@@ -93,7 +95,8 @@ module _ (ed : Edition) where
       ap (take (ed .pins d)) (sym (drop-drop (ed .first d) p s) ∙ ap (drop (ed .first d)) e ∙ drop-append-le (ed .first d) d tail (omega arith)) ∙ take-append-le (ed .pins d) (drop (ed .first d) d) tail (omega arith)
 
 -- descriptors that stand one after another
-pub stands-at : (s : List ℕ) (p : ℕ) (ds : List (List ℕ)) (tail : List ℕ) → drop p s ≡ flatten ds ++ tail → (i : ℕ) → i < length ds → drop (p + total (take i ds)) s ≡ getD ds i [] ++ (flatten (drop (suc i) ds) ++ tail)
+pub stands-at : (s : List ℕ) (p : ℕ) (ds : List (List ℕ)) (tail : List ℕ) → drop p s ≡ flatten ds ++ tail → (i : ℕ) → i < length ds
+    → drop (p + total (take i ds)) s ≡ getD ds i [] ++ (flatten (drop (suc i) ds) ++ tail)
 unfolding flatten
 stands-at s p ds tail e i h =
     let d = getD ds i [] in
@@ -102,7 +105,9 @@ stands-at s p ds tail e i h =
     let bytes : flatten ds ++ tail ≡ flatten (take i ds) ++ (d ++ (flatten later ++ tail)) = rw (whole, append-assoc, append-assoc) refl in
     sym (drop-drop (total (take i ds)) p s) ∙ ap (drop (total (take i ds))) (e ∙ bytes) ∙ drop-at (flatten (take i ds)) (d ++ (flatten later ++ tail)) (total (take i ds)) (length-flatten (take i ds))
 
-pub run-represents : (ed : Edition) (s : List ℕ) (p : ℕ) (ds : List (List ℕ)) (tail : List ℕ) → drop p s ≡ flatten ds ++ tail → ((d : List ℕ) → d ∈ ds → Descriptor d) → ((d : List ℕ) → d ∈ ds → ed .LaidOut d) → length ds ≤ mostEntities → Represents ed s p ds (runIn ed p ds)
+pub run-represents : (ed : Edition) (s : List ℕ) (p : ℕ) (ds : List (List ℕ)) (tail : List ℕ) → drop p s ≡ flatten ds ++ tail
+    → ((d : List ℕ) → d ∈ ds → Descriptor d) → ((d : List ℕ) → d ∈ ds → ed .LaidOut d) → length ds ≤ mostEntities
+    → Represents ed s p ds (runIn ed p ds)
 unfolding runIn nodeOf
 run-represents ed s p ds tail e cut laid few = record {
   counted = omega arith;

@@ -43,7 +43,8 @@ module _ (d : List ℕ) where
       bounds h (discrete a b) = absurd (omega arith)
       bounds h (continuous a b c) = (b, c)
 
-      go : (t : Bool) → ltb 0 (byte d 7) ≡ t → Reads (pick t (eqb (length d) (8 + 3 * byte d 7)) (eqb (length d) 14 && leb (triple d 8) (triple d 11))) (Rates d)
+      go : (t : Bool) → ltb 0 (byte d 7) ≡ t
+          → Reads (pick t (eqb (length d) (8 + 3 * byte d 7)) (eqb (length d) 14 && leb (triple d 8) (triple d 11))) (Rates d)
       go true e = reads-same (reads-eq (length d) (8 + 3 * byte d 7)) (discrete (ltb-true 0 (byte d 7) e)) (listed (ltb-true 0 (byte d 7) e))
       go false e =
           let z : byte d 7 ≤ 0 = ltb-false 0 (byte d 7) e in

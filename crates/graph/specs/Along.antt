@@ -109,7 +109,8 @@ module _ {C : Type 0} (ids : ℕ → ℕ) (sources : ℕ → List ℕ) (rule : �
       ∙ ap (put (given c o) (ids j) (gives sources rule (given c o) j)) (sym e))
       (borne-cases ids o j m))
 
-  pub enters-one : {n : ℕ} (c d : ℕ → C) {o : List ℕ} → Grown ids sources n o → Made o d → (i : ℕ) → i ∈ o → enters sources d i ≡ enters sources (given c o) i
+  pub enters-one : {n : ℕ} (c d : ℕ → C) {o : List ℕ} → Grown ids sources n o → Made o d → (i : ℕ) → i ∈ o
+      → enters sources d i ≡ enters sources (given c o) i
   enters-one c d {o} g made i m = map-same d (given c o) (sources i) (λ x s. grown-one c d g made x (grown-source g m s))
 
   module _ {n : ℕ} (c : ℕ → C) {o : List ℕ} (g : Grown ids sources n o) (k : ℕ) where

@@ -55,7 +55,8 @@ module _ {A : Type 0} where
       let b = one-kept (p x) (q x) (h x (List·Memᴰ·head refl)) in
       omega arith
 
-  pub tally-more : (p q : A → Bool) {l : List A} {x : A} → ((y : A) → y ∈ l → p y ≡ true → q y ≡ true) → x ∈ l → p x ≡ false → q x ≡ true → suc (tally p l) ≤ tally q l
+  pub tally-more : (p q : A → Bool) {l : List A} {x : A} → ((y : A) → y ∈ l → p y ≡ true → q y ≡ true) → x ∈ l → p x ≡ false → q x ≡ true
+      → suc (tally p l) ≤ tally q l
   unfolding tally
   tally-more p q {l = y ∷ l} h (List·Memᴰ·head e) a b =
       let u : one (p y) ≡ 0 = ap one (ap p (sym e) ∙ a) in
@@ -102,7 +103,8 @@ module _ {A : Type 0} where
       more : (q y ≡ true → p y ≡ true) → ((x : A) → x ∈ l → q x ≡ true → p x ≡ true) → (x : A) → x ∈ (y ∷ l) → q x ≡ true → p x ≡ true
       more here later x m e = ⊎-elim (λ z. ap p z ∙ here (ap q (sym z) ∙ e)) (λ i. later x i e) (List·Memᴰ·cases-cons m)
 
-      go : ((x : A) → x ∈ l → q x ≡ true → p x ≡ true) ⊎ ((x : A) × x ∈ l × (p x ≡ false) × (q x ≡ true)) → (a : Bool) → p y ≡ a → (b : Bool) → q y ≡ b → ((x : A) → x ∈ (y ∷ l) → q x ≡ true → p x ≡ true) ⊎ ((x : A) × x ∈ (y ∷ l) × (p x ≡ false) × (q x ≡ true))
+      go : ((x : A) → x ∈ l → q x ≡ true → p x ≡ true) ⊎ ((x : A) × x ∈ l × (p x ≡ false) × (q x ≡ true)) → (a : Bool) → p y ≡ a → (b : Bool)
+          → q y ≡ b → ((x : A) → x ∈ (y ∷ l) → q x ≡ true → p x ≡ true) ⊎ ((x : A) × x ∈ (y ∷ l) × (p x ≡ false) × (q x ≡ true))
       go (inr (x, m, a, b)) u e v f = inr (x, List·Memᴰ·tail m, a, b)
       go (inl h) true e v f = inl (more (λ z. e) h)
       go (inl h) false e true f = inr (y, List·Memᴰ·head refl, e, f)

@@ -30,11 +30,13 @@ unfoldable pub firstFrom : (List (List ℕ) → List ℕ → Bool) → ℕ → L
 firstFrom t p b [] = Nowhere
 firstFrom t p b (d ∷ ds) = pick (t b d) (At p) (firstFrom t (p + length d) (b ++ d ∷ []) ds)
 
-pub first-here : (t : List (List ℕ) → List ℕ → Bool) (p : ℕ) (b : List (List ℕ)) (d : List ℕ) (ds : List (List ℕ)) → t b d ≡ true → firstFrom t p b (d ∷ ds) ≡ At p
+pub first-here : (t : List (List ℕ) → List ℕ → Bool) (p : ℕ) (b : List (List ℕ)) (d : List ℕ) (ds : List (List ℕ)) → t b d ≡ true
+    → firstFrom t p b (d ∷ ds) ≡ At p
 unfolding firstFrom
 first-here t p b d ds e = yes _ _ e
 
-pub first-on : (t : List (List ℕ) → List ℕ → Bool) (p : ℕ) (b : List (List ℕ)) (d : List ℕ) (ds : List (List ℕ)) → t b d ≡ false → firstFrom t p b (d ∷ ds) ≡ firstFrom t (p + length d) (b ++ d ∷ []) ds
+pub first-on : (t : List (List ℕ) → List ℕ → Bool) (p : ℕ) (b : List (List ℕ)) (d : List ℕ) (ds : List (List ℕ)) → t b d ≡ false
+    → firstFrom t p b (d ∷ ds) ≡ firstFrom t (p + length d) (b ++ d ∷ []) ds
 unfolding firstFrom
 first-on t p b d ds e = no _ _ e
 
@@ -71,7 +73,8 @@ module _ (t : List (List ℕ) → List ℕ → Bool) (Wrong : List (List ℕ) �
       first-on t p b d ds (refutes (reads b d) (λ v. h [] d ds refl (rw append-nil v)))
       ∙ at-nowhere (p + length d) (b ++ d ∷ []) ds (λ x e y q v. h (d ∷ x) e y (ap (λ (l : List (List ℕ)). d ∷ l) q) (rw append-snoc at v))
 
-  at-place : (p : ℕ) (b : List (List ℕ)) (x : List (List ℕ)) (d : List ℕ) (y : List (List ℕ)) → Behind b x d → Sound (Behind b) x → firstFrom t p b (x ++ d ∷ y) ≡ At (p + total x)
+  at-place : (p : ℕ) (b : List (List ℕ)) (x : List (List ℕ)) (d : List ℕ) (y : List (List ℕ)) → Behind b x d → Sound (Behind b) x
+      → firstFrom t p b (x ++ d ∷ y) ≡ At (p + total x)
   unfolding Sound total
   at-place p b [] d y w h = first-here t p b d y (shows (reads b d) (rw append-nil at w)) ∙ ap At (sym (add-zero p))
   at-place p b (e ∷ x) d y w h =
@@ -107,7 +110,8 @@ module _ (t : List (List ℕ) → List ℕ → Bool) (Wrong : List (List ℕ) �
             none-before = sound-more n (k .none-before);
           })
 
-      go : (c : Bool) → Reads c (Wrong b d) → Told (p + length d) (b ++ d ∷ []) ds (firstFrom t (p + length d) (b ++ d ∷ []) ds) → Told p b (d ∷ ds) (pick c (At p) (firstFrom t (p + length d) (b ++ d ∷ []) ds))
+      go : (c : Bool) → Reads c (Wrong b d) → Told (p + length d) (b ++ d ∷ []) ds (firstFrom t (p + length d) (b ++ d ∷ []) ds)
+          → Told p b (d ∷ ds) (pick c (At p) (firstFrom t (p + length d) (b ++ d ∷ []) ds))
       go true r k =
           found (record {
             before = [];
@@ -151,7 +155,8 @@ unfoldable pub isBefore : Place → ℕ → Bool
 isBefore Nowhere at = false
 isBefore (At q) at = ltb q at
 
-pub first-before : (t : List ℕ → Bool) (p : ℕ) (b x y : List (List ℕ)) → ((d : List ℕ) → List·Memᴰ d x → 0 < length d) → isBefore (firstFrom (λ b d. t d) p b (x ++ y)) (p + total x) ≡ any t x
+pub first-before : (t : List ℕ → Bool) (p : ℕ) (b x y : List (List ℕ)) → ((d : List ℕ) → List·Memᴰ d x → 0 < length d)
+    → isBefore (firstFrom (λ b d. t d) p b (x ++ y)) (p + total x) ≡ any t x
 unfolding isBefore any total
 first-before t p b [] y h = go (firstFrom (λ b d. t d) p b y) refl
   where
@@ -160,7 +165,8 @@ first-before t p b [] y h = go (firstFrom (λ b d. t d) p b y) refl
     go (At q) e = let l = first-not-before (λ b d. t d) p b y q e in le-ltb q (p + 0) (omega arith)
 first-before t p b (d ∷ x) y h = go (t d) refl (first-before t (p + length d) (b ++ d ∷ []) x y (λ e m. h e (List·Memᴰ·tail m)))
   where
-    go : (c : Bool) → t d ≡ c → isBefore (firstFrom (λ b d. t d) (p + length d) (b ++ d ∷ []) (x ++ y)) (p + length d + total x) ≡ any t x → isBefore (firstFrom (λ b d. t d) p b (d ∷ (x ++ y))) (p + (length d + total x)) ≡ t d || any t x
+    go : (c : Bool) → t d ≡ c → isBefore (firstFrom (λ b d. t d) (p + length d) (b ++ d ∷ []) (x ++ y)) (p + length d + total x) ≡ any t x
+        → isBefore (firstFrom (λ b d. t d) p b (d ∷ (x ++ y))) (p + (length d + total x)) ≡ t d || any t x
     go true q ih = rw (first-here (λ b d. t d) p b d (x ++ y) q, q) (let l = h d (List·Memᴰ·head refl) in lt-ltb p (p + (length d + total x)) (omega arith))
     go false q ih = rw (first-on (λ b d. t d) p b d (x ++ y) q, q, ← (add-assoc p (length d) (total x))) ih
 

@@ -156,7 +156,8 @@ total-one ds i h =
     let n : total (take (suc i) ds) ≡ total (take i ds ++ getD ds i [] ∷ []) = ap total (take-suc ds i [] h) in
     omega arith
 
-pub total-rises : (ds : List (List ℕ)) → ((d : List ℕ) → List·Memᴰ d ds → 0 < length d) → (i j : ℕ) → i < j → j ≤ length ds → total (take i ds) < total (take j ds)
+pub total-rises : (ds : List (List ℕ)) → ((d : List ℕ) → List·Memᴰ d ds → 0 < length d) → (i j : ℕ) → i < j → j ≤ length ds
+    → total (take i ds) < total (take j ds)
 total-rises ds some i zero h k = absurd (omega arith)
 total-rises ds some i (suc j) h k = go (ltb i j) refl (λ l. total-rises ds some i j l (omega arith))
   where
@@ -214,7 +215,8 @@ pub data Stops {A : Type 0} (P : A → Type 0) : List A → Type 0 where
   stop-end : Stops P []
   stop-at : {a : A} {l : List A} → (P a → ⊥) → Stops P (a ∷ l)
 
-pub front-one : {A : Type 0} (P : A → Type 0) (x y x′ y′ : List A) → x ++ y ≡ x′ ++ y′ → ((a : A) → List·Memᴰ a x → P a) → ((a : A) → List·Memᴰ a x′ → P a) → Stops P y → Stops P y′ → (x ≡ x′) × (y ≡ y′)
+pub front-one : {A : Type 0} (P : A → Type 0) (x y x′ y′ : List A) → x ++ y ≡ x′ ++ y′ → ((a : A) → List·Memᴰ a x → P a)
+    → ((a : A) → List·Memᴰ a x′ → P a) → Stops P y → Stops P y′ → (x ≡ x′) × (y ≡ y′)
 front-one P [] y [] y′ e h h′ k k′ = (refl, e)
 front-one P [] y (a ∷ x′) y′ e h h′ k k′ = absurd (go k e)
   where

@@ -80,7 +80,8 @@ module _ {R : Type 0} (t : ℕ → Bool) (found : ℕ → R) (none : R) where
   finding-from zero n h = nothing (λ j l. h j (omega arith))
   finding-from (suc k) n h = go (t n) refl (λ m. let q : suc n + k ≡ n + suc k = omega arith in rw q at (finding-from k (suc n) m))
     where
-      go : (b : Bool) → t n ≡ b → (((j : ℕ) → j < suc n → t j ≡ false) → Finding (n + suc k) (firstIn t found none (suc n) k)) → Finding (n + suc k) (pick b (found n) (firstIn t found none (suc n) k))
+      go : (b : Bool) → t n ≡ b → (((j : ℕ) → j < suc n → t j ≡ false) → Finding (n + suc k) (firstIn t found none (suc n) k))
+          → Finding (n + suc k) (pick b (found n) (firstIn t found none (suc n) k))
       go true e later = first {i = n} (record { inside = omega arith; passes = e; none-before = h })
       go false e later = later (λ j l. ⊎-elim (λ q. ap t q ∙ e) (λ m. h j m) (below j l))
         where
@@ -112,7 +113,8 @@ module _ {R : Type 0} (t : ℕ → Bool) (found : ℕ → R) (none : R) where
       go (nothing k) = absurd (true≠false (sym (f .passes) ∙ k i (f .inside)))
       go (first g) = ap found (one g)
 
-pub first-same : {R : Type 0} (t u : ℕ → Bool) (found : ℕ → R) (none : R) (n : ℕ) → ((i : ℕ) → i < n → t i ≡ u i) → firstIn t found none 0 n ≡ firstIn u found none 0 n
+pub first-same : {R : Type 0} (t u : ℕ → Bool) (found : ℕ → R) (none : R) (n : ℕ) → ((i : ℕ) → i < n → t i ≡ u i)
+    → firstIn t found none 0 n ≡ firstIn u found none 0 n
 first-same {R} t u found none n h = go (finding u found none n)
   where
     go : {r : R} → Finding u found none n r → firstIn t found none 0 n ≡ r

@@ -69,11 +69,13 @@ outcome : (t : Rows) (r : Refusal) → Answers t r → AllKept t ⊎ ((m : ℕ) 
 outcome end r a = inl tt
 outcome (row n K B behind) r (b, rest, e, d, a) = go b d (λ k. outcome (behind k) rest (a k))
   where
-    later : (k : K) → AllKept (behind k) ⊎ ((m : ℕ) × (p : ℕ) × FirstBroken (behind k) m p) → AllKept (row n K B behind) ⊎ ((m : ℕ) × (p : ℕ) × FirstBroken (row n K B behind) m p)
+    later : (k : K) → AllKept (behind k) ⊎ ((m : ℕ) × (p : ℕ) × FirstBroken (behind k) m p)
+        → AllKept (row n K B behind) ⊎ ((m : ℕ) × (p : ℕ) × FirstBroken (row n K B behind) m p)
     later k (inl ks) = inl (k, ks)
     later k (inr (m, p, f)) = inr (m, p, inr (k, f))
 
-    go : (c : Place) → Decides c K B → ((k : K) → AllKept (behind k) ⊎ ((m : ℕ) × (p : ℕ) × FirstBroken (behind k) m p)) → AllKept (row n K B behind) ⊎ ((m : ℕ) × (p : ℕ) × FirstBroken (row n K B behind) m p)
+    go : (c : Place) → Decides c K B → ((k : K) → AllKept (behind k) ⊎ ((m : ℕ) × (p : ℕ) × FirstBroken (behind k) m p))
+        → AllKept (row n K B behind) ⊎ ((m : ℕ) × (p : ℕ) × FirstBroken (row n K B behind) m p)
     go Nowhere c f = let k = c .kept .0 refl in later k (f k)
     go (At p) c f = inr (n, p, inl (refl, c .broken p .0 refl))
 

@@ -64,7 +64,8 @@ module _ (s : List ℕ) (k : Rule4 (rest s 0)) where
   unfolding wants placeOr
   framed = go (control-found .0) (control-found .1)
     where
-      go : (q : ℕ) → foundFrom s 0 (want.Audio 1) ≡ At q → (before : List (List ℕ)) × (control : List ℕ) × (tail : List (List ℕ)) × Framed s before control tail
+      go : (q : ℕ) → foundFrom s 0 (want.Audio 1) ≡ At q
+          → (before : List (List ℕ)) × (control : List ℕ) × (tail : List (List ℕ)) × Framed s before control tail
       go q e =
           let f = found (want.Audio 1) s 0 q (omega arith) e in
           let c = reads-audio 1 (f .wanted) .says (f .meets) in
@@ -103,7 +104,8 @@ module _ (s : List ℕ) (tail : List (List ℕ)) (e : rest s (frameOf s .header)
   pub header-told : (h : List ℕ) (others : List (List ℕ)) → tail ≡ h ∷ others → (h ≡ headerOf s (frameOf s)) × (others ≡ rest s (frameOf s .run))
   header-told h others q = let g = sym q ∙ header-first (none-empty h others q) in (head-eq-of-cons-eq g, tail-eq-of-cons-eq g)
 
-  pub header-room : (h : List ℕ) (others : List (List ℕ)) → tail ≡ h ∷ others → (frameOf s .run ≡ frameOf s .header + length h) × (frameOf s .run ≤ length s)
+  pub header-room : (h : List ℕ) (others : List (List ℕ)) → tail ≡ h ∷ others
+      → (frameOf s .run ≡ frameOf s .header + length h) × (frameOf s .run ≤ length s)
   unfolding frameOf frameFrom
   header-room h others q =
       let o = end-off s (frameOf s .header) (none-empty h others q) in

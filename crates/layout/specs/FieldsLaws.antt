@@ -134,7 +134,8 @@ opened-body (x ∷ y ∷ []) h = absurd (omega arith)
 opened-body (x ∷ y ∷ z ∷ d) h = refl
 
 module _ (d : List ℕ) where
-  by-kind : (k : Kind) → byte d 2 ≡ numberOf k → fits (formatOf k) d 3 ≡ true → let f = fieldsAt k (valueAt (formatOf k) d 3) in Kept f × (drop 2 d ≡ bodyOf f)
+  by-kind : (k : Kind) → byte d 2 ≡ numberOf k → fits (formatOf k) d 3 ≡ true
+      → let f = fieldsAt k (valueAt (formatOf k) d 3) in Kept f × (drop 2 d ≡ bodyOf f)
   by-kind k q e =
       let v = valueAt (formatOf k) d 3 in
       let r = again (formatOf k) d 3 e in

@@ -223,7 +223,8 @@ one-at d k h = sym (ap (λ (l : List ℕ). take 1 l) (drop-cons d k 0 h))
 own-length : (d : List ℕ) (k p : ℕ) → k + p ≤ length d → take p (drop k d) ≡ take (length (take p (drop k d))) (drop k d)
 own-length d k p h = ap (λ (n : ℕ). take n (drop k d)) (sym (stretch-length d k p h))
 
-pub fed-part : (F : Format) (d : List ℕ) (k : ℕ) → fits F d k ≡ true → fed F (valueAt F d k) ≡ take (length (fed F (valueAt F d k))) (drop (firstSource F k) d)
+pub fed-part : (F : Format) (d : List ℕ) (k : ℕ) → fits F d k ≡ true
+    → fed F (valueAt F d k) ≡ take (length (fed F (valueAt F d k))) (drop (firstSource F k) d)
 fed-part last d k e = refl
 fed-part rest d k e = refl
 fed-part (byte F) d k e = fed-part F d (k + 1) e

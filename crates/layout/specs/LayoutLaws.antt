@@ -68,7 +68,8 @@ module _ (d : List ℕ) where
 
   -- ---- a kind's own reader
 
-  right : {P : Type 0} (k : Kind) (ks : List Kind) → Reads (fits (formatOf k) d 3) P → P → entityBy (k ∷ ks) d ≡ entityIn (some (fieldsAt k (valueAt (formatOf k) d 3)))
+  right : {P : Type 0} (k : Kind) (ks : List Kind) → Reads (fits (formatOf k) d 3) P → P
+      → entityBy (k ∷ ks) d ≡ entityIn (some (fieldsAt k (valueAt (formatOf k) d 3)))
   right k ks r h = ap (entityIn) (yes _ _ (shows r h))
 
   wrong : {P : Type 0} (k : Kind) (ks : List Kind) → Reads (fits (formatOf k) d 3) P → (P → ⊥) → entityBy (k ∷ ks) d ≡ entityBy ks d

@@ -52,7 +52,8 @@ use Rattle.reader.specs.Configuration.{runOf, placeOfRun, Streams, FewCo
 use Rattle.reader.specs.Refusals.{runRows, keptRows, tableOfRows, Refused, Shown}
 
 module _ (s : List ℕ) (k : Kept s) where
-  pub clusters-on : (c : Connected audio (runOf k)) (i : ℕ) → i < length (runOf k) → getD (clustersAt s (keptSurvey k)) i noCluster ≡ c .cluster (ownId (getD (runOf k) i []))
+  pub clusters-on : (c : Connected audio (runOf k)) (i : ℕ) → i < length (runOf k)
+      → getD (clustersAt s (keptSurvey k)) i noCluster ≡ c .cluster (ownId (getD (runOf k) i []))
   clusters-on c = clusters-shown (represented s k) c
 
   pub reads-room : (room : ℕ) → Reads (roomFor (entitiesOf k) room) (Rule16 (runOf k) room)

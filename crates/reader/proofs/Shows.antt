@@ -62,7 +62,8 @@ pub controls-counted : (s : List ℕ) (room : ℕ) → readingOf s room .control
 unfolding readingOf takenReading refusedReading
 controls-counted s room = go (eqb (verdictOf s room .number) 0)
   where
-    go : (b : Bool) → pick b (takenReading s (surveyOf s)) (refusedReading (verdictOf s room)) .controls ≡ pick b (takenReading s (surveyOf s)) (refusedReading (verdictOf s room)) .table .count
+    go : (b : Bool)
+        → pick b (takenReading s (surveyOf s)) (refusedReading (verdictOf s room)) .controls ≡ pick b (takenReading s (surveyOf s)) (refusedReading (verdictOf s room)) .table .count
     go true = refl
     go false = refl
 
@@ -104,7 +105,8 @@ module _ (s : List ℕ) (t : Configuration s) where
   unfolding readingOf
   answer-shows room h = yes _ _ (eq-eqb _ _ (accepted-for room h)) ∙ ap (takenReading s) (survey-kept s (t .kept)) ∙ taken-shows
 
-  shown-is : (d : List ℕ) → Rule16 run (length d) → shownIn s (entitiesOf (t .kept)) (clustersAt s (keptSurvey (t .kept))) d ≡ recordsOf run cluster ++ drop (length run * recordSize) d
+  shown-is : (d : List ℕ) → Rule16 run (length d)
+      → shownIn s (entitiesOf (t .kept)) (clustersAt s (keptSurvey (t .kept))) d ≡ recordsOf run cluster ++ drop (length run * recordSize) d
   unfolding shownIn
   shown-is d h =
       let r = represented s (t .kept) in
@@ -136,7 +138,8 @@ module _ (s : List ℕ) (t : Configuration s) where
       subst (λ (r : Reading). InTable (r .table) x ↔ Stands run cluster x) (sym (answer-shows room h))
       (table-stands run cluster (t .kept .rule9) (distinct-ids run (t .connected .rule10)) (t .rule15) x)
 
-  pub controls-order : (room : ℕ) → Rule16 run room → (p q : ℕ) → p < q → q < readingOf s room .table .count → Before run (at (readingOf s room .table) p) (at (readingOf s room .table) q)
+  pub controls-order : (room : ℕ) → Rule16 run room → (p q : ℕ) → p < q → q < readingOf s room .table .count
+      → Before run (at (readingOf s room .table) p) (at (readingOf s room .table) q)
   controls-order room h p q l =
       subst (λ (r : Reading). q < r .table .count → Before run (at (r .table) p) (at (r .table) q)) (sym (answer-shows room h))
       (table-ordered run cluster (t .kept .rule9) (distinct-ids run (t .connected .rule10)) (t .rule15) p q l)

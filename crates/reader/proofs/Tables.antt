@@ -41,7 +41,8 @@ few-out (Selector i p) l cs k h = h
 few-out (Printed i p) l cs k h = h
 few-out (Feature i s n) l cs k h = h
 
-few-first : (l : List ℕ) (cluster : ℕ → Cluster) → ((b : ℕ) → b ∈ l → cluster b .channels ≤ mostChannels) → firstOf (map cluster l) .channels ≤ mostChannels
+few-first : (l : List ℕ) (cluster : ℕ → Cluster) → ((b : ℕ) → b ∈ l → cluster b .channels ≤ mostChannels)
+    → firstOf (map cluster l) .channels ≤ mostChannels
 unfolding firstOf
 few-first [] cluster h = zero-le
 few-first (b ∷ l) cluster h = h b (List·Memᴰ·head refl)

@@ -28,7 +28,8 @@ pub record-long : (d : List ℕ) (c : Cluster) → length (recordIn d c) ≡ rec
 unfolding recordIn
 record-long d c = let e = pad-length 0 mostPins (sources audio d) in omega arith
 
-records-more : (x : List (List ℕ)) (d : List ℕ) (cluster : ℕ → Cluster) → recordsOf (x ++ d ∷ []) cluster ≡ recordsOf x cluster ++ recordIn d (cluster (ownId d))
+records-more : (x : List (List ℕ)) (d : List ℕ) (cluster : ℕ → Cluster)
+    → recordsOf (x ++ d ∷ []) cluster ≡ recordsOf x cluster ++ recordIn d (cluster (ownId d))
 unfolding recordsOf
 records-more [] d cluster = append-nil (recordIn d (cluster (ownId d)))
 records-more (e ∷ x) d cluster = ap (λ (l : List ℕ). recordIn e (cluster (ownId e)) ++ l) (records-more x d cluster) ∙ sym (append-assoc (recordIn e (cluster (ownId e))) (recordsOf x cluster) (recordIn d (cluster (ownId d))))

@@ -18,7 +18,8 @@ use Rattle.request.specs.Stored.{storedAt, outcomeAt}
 placed-self : (t : Table) (p : ℕ) → placed t p (at t p) ≡ t
 placed-self t p = ap (λ (l : List Control). record { count = t .count; controls = l }) (set-getD (t .controls) p blankControl)
 
-pub done-answer : (st : State) (p : ℕ) (o : Doing) → OfOne o → deedAnswer st p (deedOf (at (st .table) p) o) ≡ answerOf st (outcomeAt (st .table) (p ∷ []) o)
+pub done-answer : (st : State) (p : ℕ) (o : Doing) → OfOne o
+    → deedAnswer st p (deedOf (at (st .table) p) o) ≡ answerOf st (outcomeAt (st .table) (p ∷ []) o)
 unfolding answerOf storedAt
 done-answer st p _ denies = ap (λ (t : Table). record { number = _; written = 0; state = record { control = st .control; table = t } }) (placed-self (st .table) p)
 done-answer st p _ gives = ap (λ (t : Table). record { number = 0; written = _; state = record { control = st .control; table = t } }) (placed-self (st .table) p)

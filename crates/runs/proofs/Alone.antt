@@ -62,7 +62,8 @@ module _ (st : State) where
   abbrev t : Table
   t = st .table
 
-  load-alone : (k : Key) (range : Range) (w : ℕ) (o : Outcome) → loadOf st (k .unit) (k .channel) (k .selector) range w ≡ o → Alone t k (tableAfter t o)
+  load-alone : (k : Key) (range : Range) (w : ℕ) (o : Outcome) → loadOf st (k .unit) (k .channel) (k .selector) range w ≡ o
+      → Alone t k (tableAfter t o)
   load-alone k range w (refused n) e = untouched t k
   load-alone k range w (got bytes) e = untouched t k
   load-alone k range w (done v) e =

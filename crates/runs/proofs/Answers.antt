@@ -58,7 +58,8 @@ settles-one s range x v w a b =
     closest-only s range l x f v (a .fits) (a .means) ∙ sym (closest-only s range l x f w (b .fits) (b .means))
 
 -- what is stored for a number means that number
-stored-means : (k : Sense) (c : Control) (d : List ℕ) → SoundAs k c → unready k c ≡ false → Bytes d → length d ≡ sizeOf k → CurMeans k (rangeOf c) (valueIn d) (storedFor k c (valueIn d))
+stored-means : (k : Sense) (c : Control) (d : List ℕ) → SoundAs k c → unready k c ≡ false → Bytes d → length d ≡ sizeOf k
+    → CurMeans k (rangeOf c) (valueIn d) (storedFor k c (valueIn d))
 unfolding unready
 stored-means Unknown c d h r b l = refl
 stored-means YesNo c d h r b l = refl
@@ -100,7 +101,8 @@ module _ (st : State) where
       no-number m load-20 i = omega arith
       no-number m load-21 i = omega arith
 
-      go : (o : Outcome) → loadOf st (k .unit) (k .channel) (k .selector) range w ≡ o → numberOf o ≡ 0 → (v : Table) × (loadOf st (k .unit) (k .channel) (k .selector) range w ≡ done v)
+      go : (o : Outcome) → loadOf st (k .unit) (k .channel) (k .selector) range w ≡ o → numberOf o ≡ 0
+          → (v : Table) × (loadOf st (k .unit) (k .channel) (k .selector) range w ≡ done v)
       go (refused m) e i = absurd (no-number m (rw e at (load-numbers st k range w)) i)
       go (got bytes) e i = absurd (load-not-got st k range w bytes e)
       go (done v) e i = (v, e)
@@ -161,7 +163,8 @@ module _ (st : State) where
         held : senseOf (c .selector) ≡ senseOf (byte s 3)
         held = sense-at t (namedBy s) p (a .there)
 
-    pub next-set : (s d : List ℕ) (room : ℕ) → Bytes d → AsksSet s → numberOf (requestOf st s d room) ≡ 0 → SetStored t s d (tableAfter t (requestOf st s d room))
+    pub next-set : (s d : List ℕ) (room : ℕ) → Bytes d → AsksSet s → numberOf (requestOf st s d room) ≡ 0
+        → SetStored t s d (tableAfter t (requestOf st s d room))
     next-set s d room b a z =
         let g = set-done s d room a z in
         subst (SetStored t s d) (sym (ap (tableAfter t) (g .1))) (set-stored s d b (g .0) (set-taken st s d room (g .0) (g .1)))

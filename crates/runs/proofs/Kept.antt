@@ -62,7 +62,8 @@ apart : (q p : ℕ) → (q ≡ p → ⊥) → (p < q → ⊥) → (q < p → ⊥
 apart q p i m n = ⊎-elim (λ (l : p < q). m l) (λ (l : p < q → ⊥). n (omega arith)) (decided (ltb p q) (reads-lt p q))
 
 -- the search, in statements
-answers-reads : (k : Key) (c : Control) → Reads (answersTo (k .unit) (k .channel) (k .selector) c) ((c .unit ≡ k .unit) × ((c .channel ≡ k .channel) × (c .selector ≡ k .selector)))
+answers-reads : (k : Key) (c : Control)
+    → Reads (answersTo (k .unit) (k .channel) (k .selector) c) ((c .unit ≡ k .unit) × ((c .channel ≡ k .channel) × (c .selector ≡ k .selector)))
 unfolding answersTo
 answers-reads k c = reads-and _ _ (reads-eq (c .unit) (k .unit)) (reads-and _ _ (reads-eq (c .channel) (k .channel)) (reads-eq (c .selector) (k .selector)))
 
@@ -117,7 +118,8 @@ sent-fits Tone d h l = shows (fits-reads Tone (valueIn d)) (one-byte d h l)
 sent-fits Delay d h l = shows (fits-reads Delay (valueIn d)) (two-bytes d h l)
 
 -- what is computed is what is to be stored
-pub settles-closest : (s : Sort) (range : Range) (x v : ℕ) → legalOf s range ≡ true → fitsOf s x ≡ true → v ≡ closestTo s range x → Settles s range x v
+pub settles-closest : (s : Sort) (range : Range) (x v : ℕ) → legalOf s range ≡ true → fitsOf s x ≡ true → v ≡ closestTo s range x
+    → Settles s range x v
 settles-closest s range x v l f e = record {
   legal = legal-means s range .says l;
   asked = fits-reads s x .says f;
@@ -162,5 +164,6 @@ set-by-sound Pin c d h b l e =
     }
 
 pub set-sound : (c : Control) (d : List ℕ) → SoundAs (senseOf (c .selector)) c → Bytes d → length d ≡ sizeOf (senseOf (c .selector))
-    → takes (senseOf (c .selector)) c (valueIn d) ≡ true → SoundAs (senseOf (c .selector)) (withCur (storedFor (senseOf (c .selector)) c (valueIn d)) c)
+    → takes (senseOf (c .selector)) c (valueIn d) ≡ true
+    → SoundAs (senseOf (c .selector)) (withCur (storedFor (senseOf (c .selector)) c (valueIn d)) c)
 set-sound c d h b l e = set-by-sound (senseOf (c .selector)) c d h b l e

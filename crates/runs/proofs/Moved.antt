@@ -147,7 +147,8 @@ module _ (t : Table) (k : Key) (p : ℕ) (s : Sound t) (f : whereIs t k ≡ seat
   -- or at this one
   here : sameKey k l ≡ true → (rs : List Range) (ns : List ℕ) → c .pins ≡ at t q .pins → c .loaded ≡ (at t q .loaded || some rs)
       → rangeOf c ≡ lastOf (rangeOf (at t q)) rs → (ns ≡ [] → ⊥)
-      → ((x : ℕ) → StandsFor (senseOf (k .selector)) (at t q) x → StandsFor (senseOf (k .selector)) c (lastOf x ns)) → Moved t k p rs ns (placed t q c)
+      → ((x : ℕ) → StandsFor (senseOf (k .selector)) (at t q) x → StandsFor (senseOf (k .selector)) c (lastOf x ns))
+      → Moved t k p rs ns (placed t q c)
   here e rs ns m n a o b =
       let j : q ≡ p = one-index t k l p q f g e in
       let i : at (placed t q c) p ≡ c = ap (at (placed t q c)) (sym j) ∙ placed-here t q (index-inside t l q g s) c in
@@ -175,7 +176,8 @@ load-stands : (k : Sense) (s : Sort) → k ≡ sense.Ranged s → (range : Range
 load-stands k s e range w c l f = rw e (λ z. settles-closest s range w (closestTo s range w) l f refl)
 
 -- a Set tells it a number
-set-stands : (k : Sense) (c : Control) (d : List ℕ) → SoundAs k c → Bytes d → length d ≡ sizeOf k → StandsFor k (withCur (storedFor k c (valueIn d)) c) (valueIn d)
+set-stands : (k : Sense) (c : Control) (d : List ℕ) → SoundAs k c → Bytes d → length d ≡ sizeOf k
+    → StandsFor k (withCur (storedFor k c (valueIn d)) c) (valueIn d)
 set-stands sense.Unknown c d h b l = refl
 set-stands sense.YesNo c d h b l = refl
 set-stands (sense.Ranged s) c d h b l =

@@ -196,5 +196,6 @@ accepted-is-0 st (load k range w) = accepted-by LoadNumber (no-load-0 0 refl) (s
 accepted-is-0 st (request s d room) = accepted-by RequestNumber (λ h. let f = h .from in omega arith) (requestOf st s d room) (request-numbers st s d room)
 
 -- the contract of a request settles its result and its reply
-pub answered-one : (st : State) (o : Outcome) (b : List ℕ) (r q : Answer) (a e : List ℕ) → Answered st o b r a → Answered st o b q e → (r ≡ q) × (a ≡ e)
+pub answered-one : (st : State) (o : Outcome) (b : List ℕ) (r q : Answer) (a e : List ℕ) → Answered st o b r a → Answered st o b q e
+    → (r ≡ q) × (a ≡ e)
 answered-one st o b r q a e x y = (x .result ∙ sym (y .result), x .lent ∙ sym (y .lent))

@@ -68,11 +68,13 @@ same-number t ps (changed cs) = refl
 
 -- a row that is given where a test holds, and one that is given where it does not
 module _ {rest : ℕ → Type 0} where
-  by-test : {When : Type 0} (k : ℕ) (b : Bool) (o : Doing) → Reads b When → (b ≡ false → rest (numberIn o)) → Row k When rest (numberIn (pick b (denied k) o))
+  by-test : {When : Type 0} (k : ℕ) (b : Bool) (o : Doing) → Reads b When → (b ≡ false → rest (numberIn o))
+      → Row k When rest (numberIn (pick b (denied k) o))
   by-test k true o r h = is-given (r .says refl) refl
   by-test k false o r h = passed (r .denies refl) (h refl)
 
-  by-kept : {P : Type 0} (k : ℕ) (b : Bool) (o : Outcome) → Reads b P → (b ≡ true → rest (numberOf o)) → Row k (P → ⊥) rest (numberOf (pick b o (refused k)))
+  by-kept : {P : Type 0} (k : ℕ) (b : Bool) (o : Outcome) → Reads b P → (b ≡ true → rest (numberOf o))
+      → Row k (P → ⊥) rest (numberOf (pick b o (refused k)))
   by-kept k true o r h = passed (λ n. n (r .says refl)) (h refl)
   by-kept k false o r h = is-given (r .denies refl) refl
 
@@ -199,7 +201,8 @@ module _ where
       go (inr x) (inl j) = sym j
       go (inr x) (inr y) = let a = rising-head q c x in let b = rising-head r e y in absurd (omega arith)
 
-  rest-of : (c e : Control) (cs es : List Control) → c ≡ e → ByChannel (c ∷ cs) → ((x : Control) → x ∈ (c ∷ cs) → x ∈ (e ∷ es)) → (x : Control) → x ∈ cs → x ∈ es
+  rest-of : (c e : Control) (cs es : List Control) → c ≡ e → ByChannel (c ∷ cs) → ((x : Control) → x ∈ (c ∷ cs) → x ∈ (e ∷ es)) → (x : Control)
+      → x ∈ cs → x ∈ es
   rest-of c e cs es i r h x m = go (List·Memᴰ·cases-cons (h x (List·Memᴰ·tail m)))
     where
       go : (x ≡ e) ⊎ (x ∈ es) → x ∈ es
@@ -276,11 +279,13 @@ module _ (st : State) (sound : Sound (st .table)) (s d : List ℕ) (room : ℕ) 
 
 module _ (st : State) (sound : Sound (st .table)) (s d : List ℕ) (room : ℕ) where
   -- 32 where the interface is another
-  on-interface : (k : Asked) → barredBy k (st .control) ≡ pick (eqb (byte s 4) (st .control)) 0 32 → (o : Outcome) (rest : ℕ → Type 0) → rest (numberOf o)
+  on-interface : (k : Asked) → barredBy k (st .control) ≡ pick (eqb (byte s 4) (st .control)) 0 32 → (o : Outcome) (rest : ℕ → Type 0)
+      → rest (numberOf o)
       → Row 32 (byte s 4 ≡ st .control → ⊥) rest (numberOf (pick (eqb (barredBy k (st .control)) 0) o (refused (barredBy k (st .control)))))
   on-interface k e o rest h = rw e (go (eqb (byte s 4) (st .control)) (reads-eq (byte s 4) (st .control)))
     where
-      go : (b : Bool) → Reads b (byte s 4 ≡ st .control) → Row 32 (byte s 4 ≡ st .control → ⊥) rest (numberOf (pick (eqb (pick b 0 32) 0) o (refused (pick b 0 32))))
+      go : (b : Bool) → Reads b (byte s 4 ≡ st .control)
+          → Row 32 (byte s 4 ≡ st .control → ⊥) rest (numberOf (pick (eqb (pick b 0 32) 0) o (refused (pick b 0 32))))
       go true r = passed (λ n. n (r .says refl)) h
       go false r = is-given (r .denies refl) refl
 
@@ -343,7 +348,8 @@ module _ (t : Table) (sound : Sound t) (k : Key) (range : Range) (w : ℕ) where
       rw (same-number t (p ∷ []) (loadOn (at t p) range w))
       (by-sense (at t p) (record { index = p; inside = a .inside; is = refl }) (a .bears) (senseOf (at t p .selector)) (ap senseOf (sym (a .bears .selector))))
 
-pub load-rows : (st : State) (k : Key) (range : Range) (w : ℕ) → loadRows st k range w (numberOf (loadOf st (k .unit) (k .channel) (k .selector) range w))
+pub load-rows : (st : State) (k : Key) (range : Range) (w : ℕ)
+    → loadRows st k range w (numberOf (loadOf st (k .unit) (k .channel) (k .selector) range w))
 unfolding loadOf loadRows
 load-rows st k range w = by-kept 30 (soundOf (st .table)) _ (sound-reads (st .table)) (λ e. by-place (st .table) (sound-reads (st .table) .says e) k range w (whereIs (st .table) k) refl)
 

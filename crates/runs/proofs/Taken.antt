@@ -73,7 +73,8 @@ done-one : {t u : Table} → done t ≡ done u → t ≡ u
 done-one e = cc
 
 -- what was done, from what it came to
-done-changed : (t : Table) (ps : List ℕ) (o : Doing) (v : Table) → outcomeAt t ps o ≡ done v → (cs : List Control) × ((o ≡ changed cs) × (v ≡ storedAt t ps cs))
+done-changed : (t : Table) (ps : List ℕ) (o : Doing) (v : Table) → outcomeAt t ps o ≡ done v
+    → (cs : List Control) × ((o ≡ changed cs) × (v ≡ storedAt t ps cs))
 done-changed t ps (denied n) v e = no-done e
 done-changed t ps (given bytes) v e = absurd (let z : _≡_ {A = ℕ} 0 1 = cc in omega arith)
 done-changed t ps (changed cs) v e = (cs, (refl, sym (done-one e)))
@@ -107,7 +108,8 @@ pub record LoadTaken (t : Table) (k : Key) (range : Range) (w : ℕ) (v : Table)
   pub table : v ≡ placed t index (loadedWith sort range w (at t index))
 
 module _ (t : Table) (k : Key) (range : Range) (w : ℕ) (v : Table) (q : soundOf t ≡ true) (p : ℕ) (f : whereIs t k ≡ seat p) where
-  sense-taken : (h : Sense) → senseOf (at t p .selector) ≡ h → (cs : List Control) → loadBy h (at t p) range w ≡ changed cs → v ≡ storedAt t (p ∷ []) cs → LoadTaken t k range w v
+  sense-taken : (h : Sense) → senseOf (at t p .selector) ≡ h → (cs : List Control) → loadBy h (at t p) range w ≡ changed cs
+      → v ≡ storedAt t (p ∷ []) cs → LoadTaken t k range w v
   unfolding loadBy loadRange storedAt
   sense-taken Unknown h cs e i = no-change e
   sense-taken YesNo h cs e i = no-change e
@@ -125,7 +127,8 @@ found-taken t k range w v q (seat p) f e =
     let a = done-changed t (p ∷ []) (loadOn (at t p) range w) v e in
     sense-taken t k range w v q p f (senseOf (at t p .selector)) refl (a .0) (a .1 .0) (a .1 .1)
 
-pub load-taken : (st : State) (k : Key) (range : Range) (w : ℕ) (v : Table) → loadOf st (k .unit) (k .channel) (k .selector) range w ≡ done v → LoadTaken (st .table) k range w v
+pub load-taken : (st : State) (k : Key) (range : Range) (w : ℕ) (v : Table) → loadOf st (k .unit) (k .channel) (k .selector) range w ≡ done v
+    → LoadTaken (st .table) k range w v
 unfolding loadOf
 load-taken st k range w v e =
     ⊎-elim
@@ -187,7 +190,8 @@ module _ (t : Table) (s d : List ℕ) (q : soundOf t ≡ true) (p : ℕ) (f : wh
         table = i ∙ ap (storedAt t (p ∷ [])) (z .1) ∙ ap (λ (y : ℕ). placed t p (withCur (storedFor (heldBy here) here y) here)) w;
       }
 
-  get-gave : AsksGet s → (part : Part) → byte s 1 ≡ codeOf part → (room : ℕ) (bytes : List ℕ) → getOne here part (word s 6) room ≡ given bytes → GetTaken t s room bytes
+  get-gave : AsksGet s → (part : Part) → byte s 1 ≡ codeOf part → (room : ℕ) (bytes : List ℕ) → getOne here part (word s 6) room ≡ given bytes
+      → GetTaken t s room bytes
   get-gave a part c room bytes e =
       let x = passed-gift (lacking (heldBy here) part) 35 _ bytes e in
       let y = passed-gift (unready (heldBy here) here) 36 _ bytes (x .1) in
@@ -230,7 +234,8 @@ module _ (st : State) (s d : List ℕ) (room : ℕ) (q : soundOf (st .table) ≡
   t = st .table
 
   -- what is done where the named control was found
-  set-found : AsksSet s → (f : Seat) → whereIs t (namedBy s) ≡ f → (v : Table) → doneAt t (byte s 5) (indicesOf f) (λ cs. setOf cs (word s 6) d) ≡ done v → SetTaken t s d v
+  set-found : AsksSet s → (f : Seat) → whereIs t (namedBy s) ≡ f → (v : Table)
+      → doneAt t (byte s 5) (indicesOf f) (λ cs. setOf cs (word s 6) d) ≡ done v → SetTaken t s d v
   unfolding doneAt
   set-found a absent i v e = no-done e
   set-found a (seat p) i v e =
@@ -302,7 +307,8 @@ unfolding loadAt
 load-at-not-got t absent range w bytes e = no-got e
 load-at-not-got t (seat p) range w bytes e = load-by-no-gift (senseOf (at t p .selector)) (at t p) range w bytes (got-given t (p ∷ []) (loadOn (at t p) range w) bytes e)
 
-pub load-not-got : (st : State) (k : Key) (range : Range) (w : ℕ) (bytes : List ℕ) → loadOf st (k .unit) (k .channel) (k .selector) range w ≡ got bytes → ⊥
+pub load-not-got : (st : State) (k : Key) (range : Range) (w : ℕ) (bytes : List ℕ)
+    → loadOf st (k .unit) (k .channel) (k .selector) range w ≡ got bytes → ⊥
 unfolding loadOf
 load-not-got st k range w bytes e =
     ⊎-elim (λ h. load-at-not-got (st .table) (whereIs (st .table) k) range w bytes (h .1)) (λ h. no-got (h .1)) (picked (soundOf (st .table)) _ _ (got bytes) e)

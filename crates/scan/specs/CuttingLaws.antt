@@ -73,7 +73,8 @@ enough zero (suc l) s at h g = sym (yes _ _ (eq-eqb _ _ (end-none s at (λ a b. 
 enough (suc k) zero s at h g = yes _ _ (eq-eqb _ _ (end-none s at (λ a b. omega arith)))
 enough (suc k) (suc l) s at h g = go (ends s at) (λ e x y. enough k l s e x y)
   where
-    go : {e : ℕ} → Ends s at e → ((e : ℕ) → length s - e ≤ k → length s - e ≤ l → restFrom k s e ≡ restFrom l s e) → pick (eqb e at) [] (part s at e ∷ restFrom k s e) ≡ pick (eqb e at) [] (part s at e ∷ restFrom l s e)
+    go : {e : ℕ} → Ends s at e → ((e : ℕ) → length s - e ≤ k → length s - e ≤ l → restFrom k s e ≡ restFrom l s e)
+        → pick (eqb e at) [] (part s at e ∷ restFrom k s e) ≡ pick (eqb e at) [] (part s at e ∷ restFrom l s e)
     go (none n) ih = yes _ _ (eq-eqb at at refl) ∙ sym (yes _ _ (eq-eqb at at refl))
     go {e} (stands a b c) ih = ap (λ (r : List (List ℕ)). pick (eqb e at) [] (part s at e ∷ r)) (ih e (omega arith) (omega arith))
 
@@ -111,7 +112,8 @@ module _ (s : List ℕ) (at : ℕ) (d tail : List ℕ) (e : drop at s ≡ d ++ t
   pub starts-next : drop (at + length d) s ≡ tail
   starts-next = sym (drop-drop (length d) at s) ∙ ap (drop (length d)) e ∙ drop-append-seam d tail
 
-pub rest-of : (s : List ℕ) (at : ℕ) (b : List (List ℕ)) (tail : List ℕ) → drop at s ≡ flatten b ++ tail → ((d : List ℕ) → List·Memᴰ d b → Descriptor d) → rest s at ≡ b ++ rest s (at + total b)
+pub rest-of : (s : List ℕ) (at : ℕ) (b : List (List ℕ)) (tail : List ℕ) → drop at s ≡ flatten b ++ tail
+    → ((d : List ℕ) → List·Memᴰ d b → Descriptor d) → rest s at ≡ b ++ rest s (at + total b)
 unfolding total flatten
 rest-of s at [] tail e h = ap (rest s) (sym (add-zero at))
 rest-of s at (d ∷ b) tail e h =
@@ -138,7 +140,8 @@ part-descriptor s at e two end room =
     let b : byte (part s at e) 0 ≡ byte s at = getD-take (e - at) (drop at s) 0 0 (omega arith) ∙ getD-drop at s 0 0 ∙ ap (byte s) (add-zero at) in
     record { two = omega arith; own = omega arith }
 
-standing-more : (s : List ℕ) (at e : ℕ) (ds : List (List ℕ)) → 2 ≤ byte s at → e ≡ at + byte s at → e ≤ length s → Standing s e ds → Standing s at (part s at e ∷ ds)
+standing-more : (s : List ℕ) (at e : ℕ) (ds : List (List ℕ)) → 2 ≤ byte s at → e ≡ at + byte s at → e ≤ length s → Standing s e ds
+    → Standing s at (part s at e ∷ ds)
 unfolding total flatten
 standing-more s at e ds two end room k =
     let l : length (part s at e) ≡ e - at = part-length s at e room in
@@ -155,7 +158,8 @@ unfolding restFrom
 rest-standing zero s at h = standing-none s at h
 rest-standing (suc k) s at h = go (ends s at) (λ e r. rest-standing k s e r)
   where
-    go : {e : ℕ} → Ends s at e → ((e : ℕ) → e ≤ length s → Standing s e (restFrom k s e)) → Standing s at (pick (eqb e at) [] (part s at e ∷ restFrom k s e))
+    go : {e : ℕ} → Ends s at e → ((e : ℕ) → e ≤ length s → Standing s e (restFrom k s e))
+        → Standing s at (pick (eqb e at) [] (part s at e ∷ restFrom k s e))
     go (none n) ih = rw (eq-eqb at at refl) (standing-none s at h)
     go {e} (stands two end room) ih = rw (ne-eqb e at (λ q. omega arith)) (standing-more s at e (restFrom k s e) two end room (ih e room))
 

@@ -96,7 +96,8 @@ found w s from q h e = of (first-at (λ b d. wants w d) (λ b d. wants w d ≡ t
           none-passed = sound-none (wants w) (b .before) (b .none-before);
         }
 
-pub found-before : (w : Want) (s : List ℕ) (t : List (List ℕ) → List ℕ → Bool) (at : ℕ) (g : Passed t s 0 at) → isBefore (foundFrom s 0 w) at ≡ any (wants w) (g .behind)
+pub found-before : (w : Want) (s : List ℕ) (t : List (List ℕ) → List ℕ → Bool) (at : ℕ) (g : Passed t s 0 at)
+    → isBefore (foundFrom s 0 w) at ≡ any (wants w) (g .behind)
 unfolding foundFrom searched
 found-before w s t at g =
     let k = standing s 0 (omega arith) in

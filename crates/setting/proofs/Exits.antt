@@ -68,7 +68,8 @@ module _ (s : Sort) (range : Range) where
       res-large g a m k b =
           sym (before _ ∙ and-first _ (right-way g) ∙ and-first _ (le-leb 1 (range .res) a) ∙ and-fails _ (ap (leb (range .res)) (sym k) ∙ lt-leb (range .res) m b))
 
-      pub legal-end : low ≤ high → 1 ≤ range .res → (m : ℕ) → m ≡ mostRes s → range .res ≤ m → (q : Bool) → q ≡ silenceOf s (range .min) → not q ≡ legalOf s range
+      pub legal-end : low ≤ high → 1 ≤ range .res → (m : ℕ) → m ≡ mostRes s → range .res ≤ m → (q : Bool) → q ≡ silenceOf s (range .min)
+          → not q ≡ legalOf s range
       unfolding legalOf
       legal-end g a m k b q j =
           ap not j ∙ sym (before _ ∙ and-first _ (right-way g) ∙ and-first _ (le-leb 1 (range .res) a) ∙ and-first _ (ap (leb (range .res)) (sym k) ∙ le-leb (range .res) m b))
@@ -146,7 +147,8 @@ module _ (s : Sort) (range : Range) (n : ℕ) (q : Bool) (j : q ≡ silenceOf s 
   unfolding availableOf
   available-wide e r f g = rw (← j, e) (sym (and-fails _ (sym f ∙ not-true r g)))
 
-  pub available-end : q ≡ false → (r : Bool) → r ≡ fitsOf s n → not r ≡ false → (a b x : ℕ) → a ≡ heightOf s (range .min) → b ≡ heightOf s (range .max) → x ≡ heightOf s n → (o : Bool) → o ≡ onGrid a b (range .res) x → o ≡ availableOf s range n
+  pub available-end : q ≡ false → (r : Bool) → r ≡ fitsOf s n → not r ≡ false → (a b x : ℕ) → a ≡ heightOf s (range .min)
+      → b ≡ heightOf s (range .max) → x ≡ heightOf s n → (o : Bool) → o ≡ onGrid a b (range .res) x → o ≡ availableOf s range n
   unfolding availableOf
   available-end e r f g a b x p u v o k =
       k ∙ rw (← j, e, p, u, v) (sym (and-first _ (sym f ∙ not-false r g)))

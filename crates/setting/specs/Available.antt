@@ -25,7 +25,8 @@ use Rattle.setting.specs.Legal.{LegalHeights, fits-reads, legal-reads}
 abbrev pub PointOf : Sort → Range → ℕ → Type 0
 PointOf s range h = Point (heightOf s (range .min)) (heightOf s (range .max)) (range .res) h
 
-pub available-reads : (s : Sort) (range : Range) (n : ℕ) → Reads (availableOf s range n) ((silenceOf s n ≡ true) ⊎ ((n < spanOf s) × PointOf s range (heightOf s n)))
+pub available-reads : (s : Sort) (range : Range) (n : ℕ)
+    → Reads (availableOf s range n) ((silenceOf s n ≡ true) ⊎ ((n < spanOf s) × PointOf s range (heightOf s n)))
 unfolding availableOf
 available-reads s range n =
     reads-or _ _ (reads-true (silenceOf s n)) (reads-and _ _ (fits-reads s n) (point-reads _ _ (range .res) (heightOf s n)))

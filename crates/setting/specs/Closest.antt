@@ -83,7 +83,8 @@ setting-under : (s : Sort) (range : Range) (n : ℕ) → closestSetting s range 
 unfolding closestSetting
 setting-under s range n = height-below s _
 
-setting-self : (s : Sort) (range : Range) → legalOf s range ≡ true → (n : ℕ) → n < spanOf s → PointOf s range (heightOf s n) → closestSetting s range n ≡ n
+setting-self : (s : Sort) (range : Range) → legalOf s range ≡ true → (n : ℕ) → n < spanOf s → PointOf s range (heightOf s n)
+    → closestSetting s range n ≡ n
 unfolding closestSetting
 setting-self s range l n f p =
     ap (atHeight s) (nearest-one _ _ (range .res) (heightOf s n) _ _ (nearest s range l n f) (nearest-self _ _ (range .res) (heightOf s n) p)) ∙ height-back s n f
@@ -170,7 +171,8 @@ module _ (s : Sort) (range : Range) (l : legalOf s range ≡ true) (n : ℕ) (f 
   closest-available =
       shows (available-means s range l (closestTo s range n)) (fits-reads s (closestTo s range n) .says (closest-fits s range n f), go closest-means)
     where
-      go : Stored s range (value s n) (value s (closestTo s range n)) → Silence s (value s (closestTo s range n)) ⊎ Available s range (value s (closestTo s range n))
+      go : Stored s range (value s n) (value s (closestTo s range n))
+          → Silence s (value s (closestTo s range n)) ⊎ Available s range (value s (closestTo s range n))
       go (as-it-is q e) = inl (rw e q)
       go (closest q c) = inr (c .available)
 

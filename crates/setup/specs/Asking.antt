@@ -30,7 +30,8 @@ pub set-no-get : (s : List ℕ) → AsksSet s → AsksGet s → ⊥
 set-no-get s a b = let e = a .0 in let f = b .0 in omega arith
 
 module _ (s : List ℕ) (long : length s ≡ 8) where
-  asked-get : byte s 0 ≡ 0xA1 → (part : Part) → byte s 1 ≡ codeOf part → leb 129 (codeOf part) ≡ true → leb (codeOf part) 132 ≡ true → Asking s (asks.Get part (targetOf s))
+  asked-get : byte s 0 ≡ 0xA1 → (part : Part) → byte s 1 ≡ codeOf part → leb 129 (codeOf part) ≡ true → leb (codeOf part) 132 ≡ true
+      → Asking s (asks.Get part (targetOf s))
   asked-get a part e l m =
       gets part long (a, (rw e (reads-le 129 (codeOf part) .says l), rw e (reads-le (codeOf part) 132 .says m))) e
 
@@ -41,19 +42,23 @@ module _ (s : List ℕ) (long : length s ≡ 8) where
       other : (byte s 1 ≡ 129 → ⊥) → (byte s 1 ≡ 130 → ⊥) → (byte s 1 ≡ 131 → ⊥) → (byte s 1 ≡ 132 → ⊥) → Asking s asks.Unknown
       other i j k m = none (λ w. ⊎-elim (λ (x : AsksSet s). let e = x .0 in omega arith) (λ (x : AsksGet s). let l = x .1 .0 in let u = x .1 .1 in omega arith) (w .1))
 
-      res : (x : Bool) → Reads x (byte s 1 ≡ 132) → (byte s 1 ≡ 129 → ⊥) → (byte s 1 ≡ 130 → ⊥) → (byte s 1 ≡ 131 → ⊥) → Asking s (pick x (asks.Get Res (targetOf s)) asks.Unknown)
+      res : (x : Bool) → Reads x (byte s 1 ≡ 132) → (byte s 1 ≡ 129 → ⊥) → (byte s 1 ≡ 130 → ⊥) → (byte s 1 ≡ 131 → ⊥)
+          → Asking s (pick x (asks.Get Res (targetOf s)) asks.Unknown)
       res true r i j k = asked-get a Res (r .says refl) refl refl
       res false r i j k = other i j k (r .denies refl)
 
-      max : (x : Bool) → Reads x (byte s 1 ≡ 131) → (byte s 1 ≡ 129 → ⊥) → (byte s 1 ≡ 130 → ⊥) → Asking s (pick x (asks.Get Max (targetOf s)) (pick (eqb (byte s 1) 132) (asks.Get Res (targetOf s)) asks.Unknown))
+      max : (x : Bool) → Reads x (byte s 1 ≡ 131) → (byte s 1 ≡ 129 → ⊥) → (byte s 1 ≡ 130 → ⊥)
+          → Asking s (pick x (asks.Get Max (targetOf s)) (pick (eqb (byte s 1) 132) (asks.Get Res (targetOf s)) asks.Unknown))
       max true r i j = asked-get a Max (r .says refl) refl refl
       max false r i j = res (eqb (byte s 1) 132) (reads-eq (byte s 1) 132) i j (r .denies refl)
 
-      min : (x : Bool) → Reads x (byte s 1 ≡ 130) → (byte s 1 ≡ 129 → ⊥) → Asking s (pick x (asks.Get Min (targetOf s)) (pick (eqb (byte s 1) 131) (asks.Get Max (targetOf s)) (pick (eqb (byte s 1) 132) (asks.Get Res (targetOf s)) asks.Unknown)))
+      min : (x : Bool) → Reads x (byte s 1 ≡ 130) → (byte s 1 ≡ 129 → ⊥)
+          → Asking s (pick x (asks.Get Min (targetOf s)) (pick (eqb (byte s 1) 131) (asks.Get Max (targetOf s)) (pick (eqb (byte s 1) 132) (asks.Get Res (targetOf s)) asks.Unknown)))
       min true r i = asked-get a Min (r .says refl) refl refl
       min false r i = max (eqb (byte s 1) 131) (reads-eq (byte s 1) 131) i (r .denies refl)
 
-      cur : (x : Bool) → Reads x (byte s 1 ≡ 129) → Asking s (pick x (asks.Get Cur (targetOf s)) (pick (eqb (byte s 1) 130) (asks.Get Min (targetOf s)) (pick (eqb (byte s 1) 131) (asks.Get Max (targetOf s)) (pick (eqb (byte s 1) 132) (asks.Get Res (targetOf s)) asks.Unknown))))
+      cur : (x : Bool) → Reads x (byte s 1 ≡ 129)
+          → Asking s (pick x (asks.Get Cur (targetOf s)) (pick (eqb (byte s 1) 130) (asks.Get Min (targetOf s)) (pick (eqb (byte s 1) 131) (asks.Get Max (targetOf s)) (pick (eqb (byte s 1) 132) (asks.Get Res (targetOf s)) asks.Unknown))))
       cur true r = asked-get a Cur (r .says refl) refl refl
       cur false r = min (eqb (byte s 1) 130) (reads-eq (byte s 1) 130) (r .denies refl)
 
@@ -69,7 +74,8 @@ module _ (s : List ℕ) (long : length s ≡ 8) where
       get n true r = asking-get (r .says refl)
       get n false r = none (λ w. ⊎-elim (λ (x : AsksSet s). n (x .0)) (λ (x : AsksGet s). r .denies refl (x .0)) (w .1))
 
-      go : (x : Bool) → Reads x (byte s 0 ≡ 33) → Asking s (pick x (pick (eqb (byte s 1) 1) (asks.Set (targetOf s)) asks.Unknown) (pick (eqb (byte s 0) 161) (getAsked (byte s 1) (targetOf s)) asks.Unknown))
+      go : (x : Bool) → Reads x (byte s 0 ≡ 33)
+          → Asking s (pick x (pick (eqb (byte s 1) 1) (asks.Set (targetOf s)) asks.Unknown) (pick (eqb (byte s 0) 161) (getAsked (byte s 1) (targetOf s)) asks.Unknown))
       go true r = set (r .says refl) (eqb (byte s 1) 1) (reads-eq (byte s 1) 1)
       go false r = get (r .denies refl) (eqb (byte s 0) 161) (reads-eq (byte s 0) 161)
 

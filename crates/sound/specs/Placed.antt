@@ -14,7 +14,8 @@ use Rattle.table.specs.Placed.{placed-here, placed-elsewhere, placed-keeps}
 use Rattle.single.specs.Meaning.{SoundAs}
 use Rattle.sound.specs.Meaning.{Sound}
 
-pub placed-sound : (t : Table) (p : ℕ) → p < length (t .controls) → (c : Control) → Same c (at t p) → Sound t → SoundAs (senseOf (c .selector)) c → Sound (placed t p c)
+pub placed-sound : (t : Table) (p : ℕ) → p < length (t .controls) → (c : Control) → Same c (at t p) → Sound t → SoundAs (senseOf (c .selector)) c
+    → Sound (placed t p c)
 placed-sound t p inside c h s k = record {
   few = s .few;
   once = λ i j l m n.

@@ -30,13 +30,15 @@ use Rattle.streaming.specs.Members.{membersOf, afterOf, members-split, m
 
 module _ (run : List (List ℕ)) (cluster : ℕ → Cluster) (i : List ℕ) where
   -- "directly after the interface": the two descriptors are the group's own, since neither opens the next
-  described-kept : (tail : List (List ℕ)) → (byte i 4 ≡ 0 → ⊥) → Described run cluster (getD tail 0 []) (getD tail 1 []) → StreamKept run cluster i (membersOf tail)
+  described-kept : (tail : List (List ℕ)) → (byte i 4 ≡ 0 → ⊥) → Described run cluster (getD tail 0 []) (getD tail 1 [])
+      → StreamKept run cluster i (membersOf tail)
   unfolding membersOf
   described-kept [] n k = let l = k .general .0 in absurd (omega arith)
   described-kept (g ∷ []) n k = let l = k .format .0 in absurd (omega arith)
   described-kept (g ∷ f ∷ ds) n k = rw (class-inside g (k .general .1 .0), class-inside f (k .format .1 .0)) (endpoints n k)
 
-  kept-described : {ms : List (List ℕ)} → (after : List (List ℕ)) → (byte i 4 ≡ 0 → ⊥) → StreamKept run cluster i ms → Described run cluster (getD (ms ++ after) 0 []) (getD (ms ++ after) 1 [])
+  kept-described : {ms : List (List ℕ)} → (after : List (List ℕ)) → (byte i 4 ≡ 0 → ⊥) → StreamKept run cluster i ms
+      → Described run cluster (getD (ms ++ after) 0 []) (getD (ms ++ after) 1 [])
   kept-described after n (no-endpoints e h) = absurd (n e)
   kept-described after n (endpoints m k) = k
 
@@ -44,14 +46,16 @@ module _ (run : List (List ℕ)) (cluster : ℕ → Cluster) (i : List ℕ) wher
   kept-silent e (no-endpoints z h) s = h (s .one) (s .among) (s .has)
   kept-silent e (endpoints n k) s = n e
 
-  reads-kept : (ts : List Terminal) → AreAll run cluster ts → OneEach ts → (tail : List (List ℕ)) → Reads (not (pick (eqb (byte i 4) 0) (holdsClass tail) (not (describedBy (bearerIn ts) (getD tail 0 []) (getD tail 1 []))))) (StreamKept run cluster i (membersOf tail))
+  reads-kept : (ts : List Terminal) → AreAll run cluster ts → OneEach ts → (tail : List (List ℕ))
+      → Reads (not (pick (eqb (byte i 4) 0) (holdsClass tail) (not (describedBy (bearerIn ts) (getD tail 0 []) (getD tail 1 []))))) (StreamKept run cluster i (membersOf tail))
   reads-kept ts all one tail = go (eqb (byte i 4) 0) (reads-eq (byte i 4) 0)
     where
       twice : (b : Bool) → {P : Type 0} → Reads b P → Reads (not (not b)) P
       twice true r = r
       twice false r = r
 
-      go : (b : Bool) → Reads b (byte i 4 ≡ 0) → Reads (not (pick b (holdsClass tail) (not (describedBy (bearerIn ts) (getD tail 0 []) (getD tail 1 []))))) (StreamKept run cluster i (membersOf tail))
+      go : (b : Bool) → Reads b (byte i 4 ≡ 0)
+          → Reads (not (pick b (holdsClass tail) (not (describedBy (bearerIn ts) (getD tail 0 []) (getD tail 1 []))))) (StreamKept run cluster i (membersOf tail))
       go true r =
           reads-same (reads-not _ (reads-held tail))
           (λ h. no-endpoints (r .says refl) (λ d m k. h (record { one = d; among = m; has = k })))
@@ -62,7 +66,8 @@ module _ (run : List (List ℕ)) (cluster : ℕ → Cluster) (i : List ℕ) wher
           (λ k. rw (members-split tail) (kept-described (afterOf tail) (r .denies refl) k))
 
 -- a group that opens before another stands whole among what is before it, but for its others
-cut-earlier : (x before : List (List ℕ)) (j i : List ℕ) (r t : List (List ℕ)) → x ++ j ∷ r ≡ before ++ i ∷ t → length x < length before → (y : List (List ℕ)) × (before ≡ x ++ j ∷ y)
+cut-earlier : (x before : List (List ℕ)) (j i : List ℕ) (r t : List (List ℕ)) → x ++ j ∷ r ≡ before ++ i ∷ t → length x < length before
+    → (y : List (List ℕ)) × (before ≡ x ++ j ∷ y)
 cut-earlier [] [] j i r t e l = absurd (omega arith)
 cut-earlier [] (d ∷ b) j i r t e l = (b, ap (λ (h : List ℕ). h ∷ b) (sym (head-eq-of-cons-eq e)))
 cut-earlier (a ∷ x) [] j i r t e l = absurd (omega arith)

@@ -53,12 +53,14 @@ unfolding any wants holdsClass
 nothing-held [] e = refl
 nothing-held (d ∷ ds) e = go (isClass d) (isInterface d) (nothing-held ds) e
   where
-    go : (a b : Bool) → (any (wants want.ClassOrInterface) ds ≡ false → holdsClass ds ≡ false) → (a || b) || any (wants want.ClassOrInterface) ds ≡ false → a || (not b && holdsClass ds) ≡ false
+    go : (a b : Bool) → (any (wants want.ClassOrInterface) ds ≡ false → holdsClass ds ≡ false)
+        → (a || b) || any (wants want.ClassOrInterface) ds ≡ false → a || (not b && holdsClass ds) ≡ false
     go true b ih h = h
     go false true ih h = refl
     go false false ih h = ih h
 
-held-at : (x : List (List ℕ)) (w : List ℕ) (y : List (List ℕ)) → any (wants want.ClassOrInterface) x ≡ false → wants want.ClassOrInterface w ≡ true → holdsClass (x ++ w ∷ y) ≡ isClass w
+held-at : (x : List (List ℕ)) (w : List ℕ) (y : List (List ℕ)) → any (wants want.ClassOrInterface) x ≡ false → wants want.ClassOrInterface w ≡ true
+    → holdsClass (x ++ w ∷ y) ≡ isClass w
 unfolding any wants holdsClass
 held-at [] w y e m = go (isClass w) (isInterface w) m
   where
@@ -68,7 +70,8 @@ held-at [] w y e m = go (isClass w) (isInterface w) m
     go false false h = absurd (true≠false (sym h))
 held-at (d ∷ x) w y e m = go (isClass d) (isInterface d) (λ h. held-at x w y h m) e
   where
-    go : (a b : Bool) → (any (wants want.ClassOrInterface) x ≡ false → holdsClass (x ++ w ∷ y) ≡ isClass w) → (a || b) || any (wants want.ClassOrInterface) x ≡ false → a || (not b && holdsClass (x ++ w ∷ y)) ≡ isClass w
+    go : (a b : Bool) → (any (wants want.ClassOrInterface) x ≡ false → holdsClass (x ++ w ∷ y) ≡ isClass w)
+        → (a || b) || any (wants want.ClassOrInterface) x ≡ false → a || (not b && holdsClass (x ++ w ∷ y)) ≡ isClass w
     go true b ih h = absurd (true≠false h)
     go false true ih h = absurd (true≠false h)
     go false false ih h = ih h

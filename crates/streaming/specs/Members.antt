@@ -38,7 +38,8 @@ unfolding membersOf
 members-inside [] d m = absurd (List·Memᴰ·not-nil m)
 members-inside (e ∷ ds) d m = go (isInterface e) (reads-interface e) (members-inside ds d) m
   where
-    go : (b : Bool) → Reads b (Interface e) → (List·Memᴰ d (membersOf ds) → Interface d → ⊥) → List·Memᴰ d (pick b [] (e ∷ membersOf ds)) → Interface d → ⊥
+    go : (b : Bool) → Reads b (Interface e) → (List·Memᴰ d (membersOf ds) → Interface d → ⊥) → List·Memᴰ d (pick b [] (e ∷ membersOf ds))
+        → Interface d → ⊥
     go true r ih m i = List·Memᴰ·not-nil m
     go false r ih m i = ⊎-elim (λ (q : d ≡ e). r .denies refl (rw q at i)) (λ k. ih k i) (List·Memᴰ·cases-cons m)
 
@@ -51,7 +52,8 @@ after-ends (d ∷ ds) = go (isInterface d) (reads-interface d) (after-ends ds)
     go true r ih = next (r .says refl)
     go false r ih = ih
 
-pub members-one : (ms : List (List ℕ)) {after : List (List ℕ)} → ((d : List ℕ) → List·Memᴰ d ms → Interface d → ⊥) → GroupEnds after → membersOf (ms ++ after) ≡ ms
+pub members-one : (ms : List (List ℕ)) {after : List (List ℕ)} → ((d : List ℕ) → List·Memᴰ d ms → Interface d → ⊥) → GroupEnds after
+    → membersOf (ms ++ after) ≡ ms
 unfolding membersOf
 members-one [] h last = refl
 members-one [] h (next {i} i-opens) = yes _ _ (shows (reads-interface i) i-opens)
@@ -67,7 +69,8 @@ unfolding holdsClass membersOf
 reads-held [] = record { says = λ e. absurd (true≠false (sym e)); denies = λ e h. List·Memᴰ·not-nil (h .among) }
 reads-held (d ∷ ds) = go (isClass d) (isInterface d) (reads-class d) (reads-interface d) (reads-held ds)
   where
-    go : (a b : Bool) → Reads a (Class d) → Reads b (Interface d) → Reads (holdsClass ds) (Some Class (membersOf ds)) → Reads (a || (not b && holdsClass ds)) (Some Class (pick b [] (d ∷ membersOf ds)))
+    go : (a b : Bool) → Reads a (Class d) → Reads b (Interface d) → Reads (holdsClass ds) (Some Class (membersOf ds))
+        → Reads (a || (not b && holdsClass ds)) (Some Class (pick b [] (d ∷ membersOf ds)))
     go true true r s ih = let k = r .says refl in let i = s .says refl in absurd (omega arith)
     go true false r s ih = record { says = λ e. record { one = d; among = List·Memᴰ·head refl; has = r .says refl }; denies = λ e. absurd (true≠false e) }
     go false true r s ih = record { says = λ e. absurd (true≠false (sym e)); denies = λ e h. List·Memᴰ·not-nil (h .among) }

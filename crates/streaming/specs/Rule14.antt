@@ -51,4 +51,5 @@ pub record Breaks14 (run : List (List ℕ)) (cluster : ℕ → Cluster) (ds : Li
   pub streaming : Audio 2 interface
   pub broken : StreamKept run cluster interface members → ⊥
   pub place : p ≡ total before
-  pub kept-before : (x : List (List ℕ)) (j : List ℕ) (ms : List (List ℕ)) → Group ds x j ms → length x < length before → Audio 2 j → StreamKept run cluster j ms
+  pub kept-before : (x : List (List ℕ)) (j : List ℕ) (ms : List (List ℕ)) → Group ds x j ms → length x < length before → Audio 2 j
+      → StreamKept run cluster j ms

@@ -18,11 +18,13 @@ use Rattle.terminals.specs.Bearers.{Bears, nothing, to, bears, bearer-one, read
 use Rattle.streaming.specs.Rule14.{Described}
 use Rattle.streaming.specs.Tests.{bearerRight, describedBy}
 
-pub reads-described : (ts : List Terminal) {run : List (List ℕ)} {cluster : ℕ → Cluster} → AreAll run cluster ts → OneEach ts → (g f : List ℕ) → Reads (describedBy (bearerIn ts) g f) (Described run cluster g f)
+pub reads-described : (ts : List Terminal) {run : List (List ℕ)} {cluster : ℕ → Cluster} → AreAll run cluster ts → OneEach ts → (g f : List ℕ)
+    → Reads (describedBy (bearerIn ts) g f) (Described run cluster g f)
 unfolding describedBy bearerRight terminalNumber channelsOf
 reads-described ts {run} {cluster} all one g f = go (bearerIn ts (byte g 3)) refl (bears (byte g 3) ts)
   where
-    found : (t : Terminal) → Described run cluster g f → bearerIn ts (byte g 3) ≡ bearer.Terminal (t .kind) (t .channels) → General g × ((t .kind ≡ 0x0101) × (Format f × (word g 5 ≡ 1 → TypeOne (t .channels) f)))
+    found : (t : Terminal) → Described run cluster g f → bearerIn ts (byte g 3) ≡ bearer.Terminal (t .kind) (t .channels)
+        → General g × ((t .kind ≡ 0x0101) × (Format f × (word g 5 ≡ 1 → TypeOne (t .channels) f)))
     found t h e =
         let u = h .terminal in
         let q : bearer.Terminal (u .kind) (u .channels) ≡ bearer.Terminal (t .kind) (t .channels) = sym (bearer-one ts one u (all u .1 (h .among))) ∙ ap (bearerIn ts) (h .borne) ∙ e in

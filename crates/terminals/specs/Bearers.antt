@@ -27,7 +27,8 @@ bears id (t ∷ ts) = go (eqb (t .id) id) (reads-eq (t .id) id) (bears id ts)
     later n (nothing h) = nothing (λ u m e. ⊎-elim (λ (q : u ≡ t). n (rw q at e)) (λ k. h u k e) (List·Memᴰ·cases-cons m))
     later n (to u m e) = to u (List·Memᴰ·tail m) e
 
-    go : (b : Bool) → Reads b (t .id ≡ id) → Bears id ts (bearerIn ts id) → Bears id (t ∷ ts) (pick b (bearer.Terminal (t .kind) (t .channels)) (bearerIn ts id))
+    go : (b : Bool) → Reads b (t .id ≡ id) → Bears id ts (bearerIn ts id)
+        → Bears id (t ∷ ts) (pick b (bearer.Terminal (t .kind) (t .channels)) (bearerIn ts id))
     go true r ih = to t (List·Memᴰ·head refl) (r .says refl)
     go false r ih = later (r .denies refl) ih
 

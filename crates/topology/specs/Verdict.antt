@@ -62,7 +62,8 @@ module _ (s : List ℕ) (run : Run) (k : Connected) (e : k ≡ connectedIn s run
   unfolding connectedIn refusedBy
   connected-refusal = ap (λ (x : Connected). x .refusal) e ∙ go (eqb (judged s run none .number) 0) refl
     where
-      go : (b : Bool) → eqb (judged s run none .number) 0 ≡ b → pick b (record { refusal = none; clusters = clustersFor s run }) (refusedBy (judged s run none)) .refusal ≡ judged s run none
+      go : (b : Bool) → eqb (judged s run none .number) 0 ≡ b
+          → pick b (record { refusal = none; clusters = clustersFor s run }) (refusedBy (judged s run none)) .refusal ≡ judged s run none
       go true q = nothing-refused (judged s run) (connected-chain s run) (eqb-true _ _ q)
       go false q = refl
 
@@ -83,7 +84,8 @@ module _ (s : List ℕ) (f : Finding) (e : f ≡ findingOf s) where
   unfolding findingOf foundBy findingWith refusedFinding
   finding-refusal = ap (λ (x : Finding). x .refusal) e ∙ go (eqb (judgedThen s none .number) 0) refl
     where
-      go : (b : Bool) → eqb (judgedThen s none .number) 0 ≡ b → pick b (findingWith s (surveyOf s) (clustersAt s (surveyOf s))) (refusedFinding (judgedThen s none)) .refusal ≡ judgedThen s none
+      go : (b : Bool) → eqb (judgedThen s none .number) 0 ≡ b
+          → pick b (findingWith s (surveyOf s) (clustersAt s (surveyOf s))) (refusedFinding (judgedThen s none)) .refusal ≡ judgedThen s none
       go true q = nothing-refused (judgedThen s) (judged-chain s) (eqb-true _ _ q)
       go false q = refl
 
