@@ -44,10 +44,10 @@ use Rattle.request.specs.Outcome.Outcome.{refused, got, done}
 use Rattle.request.specs.Load.{loadOf}
 use Rattle.request.specs.Request.{requestOf}
 use Rattle.runs.specs.Runs.{namedBy, Step, next, after, rangesIn, numbersIn, told, lastOf, Bytes, Wired}
-use Rattle.runs.specs.Promises.{Settles, CurMeans, StandsFor, GetGiven, SetStored, LoadStored, Moved, Means, Answers}
+use Rattle.runs.specs.Promises.{Settles, CurMeans, GetGiven, SetStored, LoadStored, Moved, Means, Answers}
 use Rattle.runs.proofs.Taken.{GetTaken, SetTaken, LoadTaken, get-taken, set-taken, load-taken, load-not-got}
 use Rattle.runs.proofs.Kept.{load-same, index-below, index-inside, found-stands, settles-closest, sent-fits}
-use Rattle.runs.proofs.Moved.{whole-run, sense-at}
+use Rattle.runs.proofs.Moved.{stored-means, whole-run, sense-at}
 use Rattle.runs.proofs.Alone.{alone}
 use Rattle.runs.proofs.Refusals.{Numbered, LoadNumber, load-30, load-20, load-21, RequestNumber, load-numbers, request-numbers}
 
@@ -56,16 +56,6 @@ settles-one s range x v w a b =
     let l = shows (legal-means s range) (a .legal) in
     let f = shows (fits-reads s x) (a .asked) in
     closest-only s range l x f v (a .fits) (a .means) ∙ sym (closest-only s range l x f w (b .fits) (b .means))
-
--- what is stored for a number means that number
-stored-means : (k : Sense) (c : Control) (d : List ℕ) → SoundAs k c → unready k c ≡ false → Bytes d → length d ≡ sizeOf k
-    → CurMeans k (rangeOf c) (valueIn d) (storedFor k c (valueIn d))
-unfolding unready
-stored-means Unknown c d h r b l = refl
-stored-means YesNo c d h r b l = refl
-stored-means (Ranged s) c d h r b l =
-    settles-closest s (rangeOf c) (valueIn d) (closestTo s (rangeOf c) (valueIn d)) (loaded-legal s c (h .loaded (not-false (c .loaded) r))) (sent-fits s d b l) refl
-stored-means Pin c d h r b l = refl
 
 module _ (st : State) where
   abbrev t : Table
@@ -205,20 +195,22 @@ run-found st (step ∷ run) k =
     let a = alone st step in
     run-found (next st step) run k ∙ kept-found (st .table) (next st step .table) (a .count) (a .same) (k .unit) (k .channel) (k .selector)
 
--- the CUR of a table that 30 does not turn away is what is stored where it is wanted
-stands-first : (k : Sense) (c : Control) → SoundAs k c → StandsFor k c (c .cur)
-stands-first Unknown c h = refl
-stands-first YesNo c h = refl
-stands-first (Ranged s) c h = λ l. let a = h .loaded l in settles-closest s (rangeOf c) (c .cur) (c .cur) (loaded-legal s c a) (loaded-fits s c a) (sym (closest-self s (rangeOf c) (c .cur) (loaded-setting s c a)))
-stands-first Pin c h = refl
-
--- what stands for a number means that number
-stands-means : (k : Sense) (c : Control) (x : ℕ) → unready k c ≡ false → StandsFor k c x → CurMeans k (rangeOf c) x (c .cur)
+-- the CUR of a table that 30 does not turn away means itself
+first-means : (k : Sense) (c : Control) → SoundAs k c → unready k c ≡ false → CurMeans k (rangeOf c) (c .cur) (c .cur)
 unfolding unready
-stands-means Unknown c x r e = e
-stands-means YesNo c x r e = e
-stands-means (Ranged s) c x r e = e (not-false (c .loaded) r)
-stands-means Pin c x r e = e
+first-means Unknown c h r = refl
+first-means YesNo c h r = refl
+first-means (Ranged s) c h r =
+    let a = h .loaded (not-false (c .loaded) r) in
+    settles-closest s (rangeOf c) (c .cur) (c .cur) (loaded-legal s c a) (loaded-fits s c a) (sym (closest-self s (rangeOf c) (c .cur) (loaded-setting s c a)))
+first-means Pin c h r = refl
+
+-- what CUR is after a run: what the last number told makes it, or its first value
+cur-means : (t : Table) (k : Key) (p : ℕ) (rs : List Range) (ns : List ℕ) (v : Table) → Moved t k p rs ns v → SoundAs (senseOf (k .selector)) (at t p)
+    → unready (senseOf (k .selector)) (at v p) ≡ false → CurMeans (senseOf (k .selector)) (rangeOf (at v p)) (lastOf (at t p .cur) ns) (at v p .cur)
+unfolding lastOf
+cur-means t k p rs [] v m h r = rw (m .unmoved refl) (first-means (senseOf (k .selector)) (at t p) h (rw (m .unmoved refl) at r))
+cur-means t k p rs (n ∷ ns) v m h r = m .cur (λ e. let z : _≡_ {A = ℕ} 0 1 = cc in omega arith)
 
 part-means : (part : Part) (k : Sense) (c : Control) (range : Range) (x : ℕ) → rangeOf c ≡ range → CurMeans k (rangeOf c) x (c .cur)
     → (rs : List Range) (ns : List ℕ) (b : Control) → lastOf (rangeOf b) rs ≡ range → lastOf (b .cur) ns ≡ x → Means k part b rs ns (partOf part c)
@@ -238,7 +230,7 @@ got-answers st run h w s room bytes a = record {
   given = a .given ∙ ap (λ (k : Sense). lowFirst (sizeOf k) (partOf (a .part) now)) held;
   means =
       part-means (a .part) (senseOf (byte s 3)) now (rangeOf now) _ refl
-      (stands-means (senseOf (byte s 3)) now _ (rw (← held) (a .ready)) (m .stands (at t0 (a .index) .cur) (stands-first (senseOf (byte s 3)) (at t0 (a .index)) was)))
+      (cur-means t0 (namedBy s) (a .index) _ _ v m was (rw (← held) (a .ready)))
       _ _ (at t0 (a .index)) (sym (m .ranges)) refl;
   first = λ z. ap (partOf (a .part)) (m .unmoved z);
 }

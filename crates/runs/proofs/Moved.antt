@@ -1,13 +1,15 @@
 -- What a step, and then a run, does to one control, the one of the key k at index p.
 --   still, moved-then    ==  nothing told moves nothing; one such move and then another
+--   stored-means         ==  what is stored for a number means that number
 --   sense-at             ==  the control that is found holds what its key's selector says
 --   one-step             ==  so does every step, with what it tells k if it is accepted
 --   whole-run            ==  and every run
 use Prim.Native.Nat.{ℕ}
 use mathlib.Core.Path.{_≡_, refl, sym, ap, _∙_}
-use mathlib.Core.List.{List, [], _∷_, _++_, List·Memᴰ·head, List·Memᴰ·tail}
+use mathlib.Core.List.{List, [], _∷_, _++_, append-nil, List·Memᴰ·head, List·Memᴰ·tail}
 use mathlib.Core.Bool.{Bool, true, false, _||_, or-true, or-false, or-assoc}
 use native.Mathlib.Omega.{arith}
+use borrow.Author.Tests.{not-false}
 use lib.ListN.{length}
 use Rattle.ground.specs.Pick.{pick, Reads, shows, refutes, reads-and, reads-eq}
 use Rattle.setting.specs.Setting.{fitsOf, legalOf, closestTo}
@@ -27,7 +29,7 @@ use Rattle.sound.specs.Placed.{placed-sound}
 use Rattle.table.specs.Keys.{Key, whereIs, StandsAt}
 use Rattle.setup.specs.Setup.{AsksSet, asksSet}
 use Rattle.setup.specs.Asking.{set-no-get, reads-set}
-use Rattle.answers.specs.Held.{valueIn, takes, storedFor, withCur}
+use Rattle.answers.specs.Held.{unready, valueIn, storedFor, withCur}
 use Rattle.loads.specs.Load.{loadedWith}
 use Rattle.request.specs.declared.State.{State}
 use Rattle.request.specs.Outcome.{Outcome, tableAfter}
@@ -36,7 +38,7 @@ use Rattle.request.specs.Load.{loadOf}
 use Rattle.request.specs.Request.{requestOf}
 use Rattle.runs.specs.Runs.{namedBy, Step, accepted, next, after, sameKey, rangesIn, numbersIn, heard, told, lastOf, some, Bytes, sent, Wired}
 use Rattle.runs.specs.Runs.Step.{load, request}
-use Rattle.runs.specs.Promises.{StandsFor, Moved}
+use Rattle.runs.specs.Promises.{CurMeans, Moved}
 use Rattle.runs.proofs.Taken.{LoadTaken, SetTaken, load-taken, set-taken, get-taken, load-not-got}
 use Rattle.runs.proofs.Kept.{load-same, set-same, load-sound, set-sound, index-below, index-inside, found-stands, stands-found, settles-closest, sent-fits}
 
@@ -71,8 +73,16 @@ still t k p s f = record {
   loaded = sym (or-false (at t p .loaded));
   ranges = refl;
   unmoved = λ e. refl;
-  stands = λ x h. h;
+  cur = λ n. absurd (n refl);
 }
+
+-- the last of two lists is the last of the second, or of the first where the second is empty
+moved-cur : (t v w : Table) (k : Key) (p : ℕ) (rs qs : List Range) (ns ms : List ℕ) → Moved t k p rs ns v → Moved v k p qs ms w
+    → (ns ++ ms ≡ [] → ⊥) → CurMeans (senseOf (k .selector)) (rangeOf (at w p)) (lastOf 0 (ns ++ ms)) (at w p .cur)
+unfolding lastOf
+moved-cur t v w k p rs qs ns [] a b n =
+    rw (append-nil ns, b .unmoved refl) (a .cur (λ e. n (append-nil ns ∙ e)))
+moved-cur t v w k p rs qs ns (m ∷ ms) a b n = rw (last-append 0 ns (m ∷ ms)) (b .cur (some-not-none m ms))
 
 pub moved-then : (t v w : Table) (k : Key) (p : ℕ) (rs qs : List Range) (ns ms : List ℕ) → Moved t k p rs ns v → Moved v k p qs ms w
     → Moved t k p (rs ++ qs) (ns ++ ms) w
@@ -85,7 +95,7 @@ moved-then t v w k p rs qs ns ms a b = record {
       b .loaded ∙ ap (λ (x : Bool). x || some qs) (a .loaded) ∙ or-assoc (at t p .loaded) (some rs) (some qs) ∙ ap (λ (x : Bool). at t p .loaded || x) (sym (some-append rs qs));
   unmoved = λ e. b .unmoved (none-right ns ms e) ∙ a .unmoved (none-left ns ms e);
   ranges = b .ranges ∙ ap (λ (r : Range). lastOf r qs) (a .ranges) ∙ sym (last-append (rangeOf (at t p)) rs qs);
-  stands = λ x h. rw (last-append x ns ms) (b .stands (lastOf x ns) (a .stands x h));
+  cur = λ n. moved-cur t v w k p rs qs ns ms a b n;
 }
 
 -- a key is another exactly where their three numbers are
@@ -141,14 +151,13 @@ module _ (t : Table) (k : Key) (p : ℕ) (s : Sound t) (f : whereIs t k ≡ seat
         loaded = rw i (sym (or-false (at t p .loaded)));
         ranges = rw i;
         unmoved = λ z. i;
-        stands = λ x y. rw i y;
+        cur = λ z. absurd (z refl);
       }
 
   -- or at this one
   here : sameKey k l ≡ true → (rs : List Range) (ns : List ℕ) → c .pins ≡ at t q .pins → c .loaded ≡ (at t q .loaded || some rs)
       → rangeOf c ≡ lastOf (rangeOf (at t q)) rs → (ns ≡ [] → ⊥)
-      → ((x : ℕ) → StandsFor (senseOf (k .selector)) (at t q) x → StandsFor (senseOf (k .selector)) c (lastOf x ns))
-      → Moved t k p rs ns (placed t q c)
+      → CurMeans (senseOf (k .selector)) (rangeOf c) (lastOf 0 ns) (c .cur) → Moved t k p rs ns (placed t q c)
   here e rs ns m n a o b =
       let j : q ≡ p = one-index t k l p q f g e in
       let i : at (placed t q c) p ≡ c = ap (at (placed t q c)) (sym j) ∙ placed-here t q (index-inside t l q g s) c in
@@ -160,7 +169,7 @@ module _ (t : Table) (k : Key) (p : ℕ) (s : Sound t) (f : whereIs t k ≡ seat
         loaded = rw (i, ← j) n;
         ranges = rw (i, ← j) a;
         unmoved = λ z. absurd (o z);
-        stands = rw (i, ← j) b;
+        cur = λ z. rw i b;
       }
 
 -- a key's control has the key's selector
@@ -171,18 +180,19 @@ pub sense-at : (t : Table) (k : Key) (p : ℕ) → whereIs t k ≡ seat p → se
 sense-at t k p f = ap senseOf (selector-at t k p f)
 
 -- a load of the control tells it a range and a number
-load-stands : (k : Sense) (s : Sort) → k ≡ sense.Ranged s → (range : Range) (w : ℕ) (c : Control) → legalOf s range ≡ true → fitsOf s w ≡ true
-    → StandsFor k (loadedWith s range w c) w
-load-stands k s e range w c l f = rw e (λ z. settles-closest s range w (closestTo s range w) l f refl)
+load-means : (k : Sense) (s : Sort) → k ≡ sense.Ranged s → (range : Range) (w : ℕ) → legalOf s range ≡ true → fitsOf s w ≡ true
+    → CurMeans k range w (closestTo s range w)
+load-means k s e range w l f = rw e (settles-closest s range w (closestTo s range w) l f refl)
 
 -- a Set tells it a number
-set-stands : (k : Sense) (c : Control) (d : List ℕ) → SoundAs k c → Bytes d → length d ≡ sizeOf k
-    → StandsFor k (withCur (storedFor k c (valueIn d)) c) (valueIn d)
-set-stands sense.Unknown c d h b l = refl
-set-stands sense.YesNo c d h b l = refl
-set-stands (sense.Ranged s) c d h b l =
-    λ z. settles-closest s (rangeOf c) (valueIn d) (closestTo s (rangeOf c) (valueIn d)) (loaded-legal s c (h .loaded z)) (sent-fits s d b l) refl
-set-stands sense.Pin c d h b l = refl
+pub stored-means : (k : Sense) (c : Control) (d : List ℕ) → SoundAs k c → unready k c ≡ false → Bytes d → length d ≡ sizeOf k
+    → CurMeans k (rangeOf c) (valueIn d) (storedFor k c (valueIn d))
+unfolding unready
+stored-means sense.Unknown c d h r b l = refl
+stored-means sense.YesNo c d h r b l = refl
+stored-means (sense.Ranged s) c d h r b l =
+    settles-closest s (rangeOf c) (valueIn d) (closestTo s (rangeOf c) (valueIn d)) (loaded-legal s c (h .loaded (not-false (c .loaded) r))) (sent-fits s d b l) refl
+stored-means sense.Pin c d h r b l = refl
 
 module _ (t : Table) (k : Key) (p : ℕ) (s : Sound t) (f : whereIs t k ≡ seat p) where
   load-moves : (l : Key) (range : Range) (w : ℕ) (v : Table) → LoadTaken t l range w v
@@ -201,7 +211,7 @@ module _ (t : Table) (k : Key) (p : ℕ) (s : Sound t) (f : whereIs t k ≡ seat
           → Moved t k p (pick b (range ∷ []) []) (pick b (w ∷ []) []) (placed t (a .index) (loadedWith (a .sort) range w (at t (a .index))))
       go true e =
           here t k p s f l (a .index) (a .there) _ (load-same (a .sort) range w (at t (a .index))) ok e (range ∷ []) (w ∷ []) refl (sym (or-true (at t (a .index) .loaded))) refl (some-not-none w [])
-          (λ x y. load-stands (senseOf (k .selector)) (a .sort) (held e) range w (at t (a .index)) (a .legal) (a .fits))
+          (load-means (senseOf (k .selector)) (a .sort) (held e) range w (a .legal) (a .fits))
       go false e = elsewhere t k p s f l (a .index) (a .there) _ (load-same (a .sort) range w (at t (a .index))) ok e
 
   set-moves : (su d : List ℕ) (v : Table) → Bytes d → SetTaken t su d v → Moved t k p [] (pick (sameKey k (namedBy su)) (valueIn d ∷ []) []) v
@@ -223,16 +233,16 @@ module _ (t : Table) (k : Key) (p : ℕ) (s : Sound t) (f : whereIs t k ≡ seat
       ok : SoundAs (senseOf (changed .selector)) changed
       ok = set-sound c d whole b (a .sized) (a .taken)
 
-      stands : sameKey k l ≡ true → StandsFor (senseOf (k .selector)) changed (valueIn d)
-      stands e =
+      means : sameKey k l ≡ true → CurMeans (senseOf (k .selector)) (rangeOf c) (valueIn d) (changed .cur)
+      means e =
           let i : senseOf (k .selector) ≡ senseOf (c .selector) =
           ap senseOf (reads-key k l .says e .selector) ∙ sym (sense-at t l (a .index) (a .there))
           in
-          rw i (set-stands (senseOf (c .selector)) c d whole b (a .sized))
+          rw i (stored-means (senseOf (c .selector)) c d whole (a .ready) b (a .sized))
 
       go : (y : Bool) → sameKey k l ≡ y → Moved t k p [] (pick y (valueIn d ∷ []) []) (placed t (a .index) changed)
       go true e =
-          here t k p s f l (a .index) (a .there) changed (set-same (storedFor (senseOf (c .selector)) c (valueIn d)) c) ok e [] (valueIn d ∷ []) refl (sym (or-false (c .loaded))) refl (some-not-none (valueIn d) []) (λ x y. stands e)
+          here t k p s f l (a .index) (a .there) changed (set-same (storedFor (senseOf (c .selector)) c (valueIn d)) c) ok e [] (valueIn d ∷ []) refl (sym (or-false (c .loaded))) refl (some-not-none (valueIn d) []) (means e)
       go false e = elsewhere t k p s f l (a .index) (a .there) changed (set-same (storedFor (senseOf (c .selector)) c (valueIn d)) c) ok e
 
 module _ (st : State) (k : Key) (p : ℕ) (s : Sound (st .table)) (f : whereIs (st .table) k ≡ seat p) where

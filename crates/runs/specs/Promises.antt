@@ -3,14 +3,13 @@
 --                            (Stored, of crate setting, says so over the integers: the closest available setting, silence as itself)
 --   CurMeans k range x v ==  v is what CUR must be where the control holds k, has that range and x was asked: of a ranged control
 --                            the closest setting (Settles), of another x
---   StandsFor k c x      ==  the control's CUR is that for x; of a ranged control, if it is loaded
 --   GetGiven t s bytes   ==  the setup asks a part of the control that it names, which is one of the table's, and the bytes are, low
 --                            first, that number of it
 --   SetStored t s d v    ==  from the table t to v the control that the setup names has for its CUR what is stored where the number
 --                            that the data are is wanted, and is else as it was; so is every other
 --   LoadStored t k range w v  ==  .. the control of the key k is loaded with that range, and its CUR is what is stored where w is wanted
 --   Alone t k v          ==  v differs from t in the numbers of the control k alone: every index at which k does not stand is what it was
---   Moved t k i rs ns v  ==  from t to v the control of the key k, at index i, was given the ranges rs and asked to take the numbers ns,
+--   Moved t k p rs ns v  ==  from t to v the control of the key k, at index p, was given the ranges rs and asked to take the numbers ns,
 --                            in this order: it stands where it stood, with as many pins; it is loaded if it was or was given a
 --                            range; its range is the last of rs; its CUR is what is stored where the last of ns is wanted; it is
 --                            as it was where ns is empty; and 30 has nothing against the table
@@ -55,12 +54,6 @@ CurMeans YesNo range x v = v ≡ x
 CurMeans (Ranged s) range x v = Settles s range x v
 CurMeans Pin range x v = v ≡ x
 
-abbrev pub StandsFor : Sense → Control → ℕ → Type 0
-StandsFor Unknown c x = c .cur ≡ x
-StandsFor YesNo c x = c .cur ≡ x
-StandsFor (Ranged s) c x = c .loaded ≡ true → Settles s (rangeOf c) x (c .cur)
-StandsFor Pin c x = c .cur ≡ x
-
 pub record GetGiven (t : Table) (s bytes : List ℕ) : Type 0 where
   pub part : Part
   pub code : byte s 1 ≡ codeOf part
@@ -102,7 +95,7 @@ pub record Moved (t : Table) (k : Key) (p : ℕ) (rs : List Range) (ns : List �
   pub loaded : at v p .loaded ≡ (at t p .loaded || some rs)
   pub ranges : rangeOf (at v p) ≡ lastOf (rangeOf (at t p)) rs
   pub unmoved : ns ≡ [] → at v p ≡ at t p
-  pub stands : (x : ℕ) → StandsFor (senseOf (k .selector)) (at t p) x → StandsFor (senseOf (k .selector)) (at v p) (lastOf x ns)
+  pub cur : (ns ≡ [] → ⊥) → CurMeans (senseOf (k .selector)) (rangeOf (at v p)) (lastOf 0 ns) (at v p .cur)
 
 abbrev pub Means : Sense → Part → Control → List Range → List ℕ → ℕ → Type 0
 Means k Cur c rs ns v = CurMeans k (lastOf (rangeOf c) rs) (lastOf (c .cur) ns) v
