@@ -1,22 +1,44 @@
 -- A Set and a Get of one control: the rows as the code tries them.
+--   size-most            ==  a control's value has at most two bytes; word-value: and those are the number at the front of the data
 --   setOne, getOne       ==  the same tests, of the one control
 --   set-one, get-one     ==  a list of one is answered so
 --   set-of-one, get-of-one  ==  .. and what is done is what may be done at one control; set-silent: a Set writes nothing
-use Prim.Native.Nat.{ℕ}
+use Prim.Native.Nat.{ℕ, _≤_}
 use mathlib.Core.Path.{_≡_, refl, ap, _∙_}
 use mathlib.Core.List.{List, [], _∷_, append-nil}
 use mathlib.Core.Bool.{Bool, true, false, not, or-false, and-true, _||_}
 use native.Mathlib.Nat.{add-zero}
+use native.Mathlib.Omega.{arith}
 use lib.Dec.{eqb, ltb}
 use lib.ListN.{length, take}
 use Rattle.ground.specs.Pick.{pick}
 use Rattle.ground.specs.Lists.{any}
+use Rattle.ground.specs.Numbers.{word}
+use Rattle.setting.specs.declared.Sort.the-variants.{Volume, Tone, Delay}
 use Rattle.table.specs.declared.Control.{Control}
+use Rattle.table.specs.declared.Sense.{Sense}
+use Rattle.table.specs.declared.Sense.the-variants.{Unknown, YesNo, Ranged, Pin}
+use Rattle.table.specs.Controls.{sizeOf}
 use Rattle.setup.specs.declared.Part.{Part}
 use Rattle.deed.specs.Doing.{Doing, bytesIn, lowFirst, OfOne, denies, gives, changes, of-either}
 use Rattle.deed.specs.Doing.Doing.{denied, given, changed}
-use Rattle.answers.specs.Held.{lacking, partOf, unready, takes, storedFor, withCur}
+use Rattle.answers.specs.Held.{lacking, partOf, unready, valueIn, takes, storedFor, withCur}
 use Rattle.answers.specs.Answers.{heldBy, sizeIn, sizesOf, sentTo, allTake, allSet, blockOf, misfits, setOf, getOf}
+
+pub size-most : (k : Sense) → sizeOf k ≤ 2
+size-most Unknown = omega arith
+size-most YesNo = omega arith
+size-most Pin = omega arith
+size-most (Ranged Volume) = omega arith
+size-most (Ranged Tone) = omega arith
+size-most (Ranged Delay) = omega arith
+
+pub word-value : (d : List ℕ) → length d ≤ 2 → word d 0 ≡ valueIn d
+unfolding valueIn
+word-value [] h = refl
+word-value (a ∷ []) h = refl
+word-value (a ∷ b ∷ []) h = omega arith
+word-value (a ∷ b ∷ c ∷ d) h = absurd (omega arith)
 
 module _ (c : Control) where
   abbrev pub setOne : ℕ → List ℕ → Doing

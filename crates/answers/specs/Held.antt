@@ -2,17 +2,14 @@
 --   isRanged k, ofRange part, partOf part c  ==  k is ranged; the part is MIN, MAX or RES; the number that the part of c is
 --   lacking k part   ==  35: "MIN, MAX, RES of an unranged control"
 --   unready k c      ==  36: "ranged control not loaded"
---   valueIn d        ==  the number that the data of a Set is: one byte, or two with the low one first; 0 for another length, which 37 refuses
+--   valueIn d        ==  the number that the bytes d are, the low one first
 --   takes k c x      ==  not 38: "Set of a yes/no to other than 0, 1, or of a Selector outside its pins"
 --   storedFor k c x  ==  what is stored where x is taken: "The closest one is stored"
 --   withCur x c      ==  the control c with x for its CUR
-use Prim.Native.Nat.{ℕ}
-use mathlib.Core.List.{List}
+use Prim.Native.Nat.{ℕ, _+_, _*_}
+use mathlib.Core.List.{List, [], _∷_}
 use mathlib.Core.Bool.{Bool, true, false, not, _&&_}
-use lib.Dec.{eqb, leb}
-use lib.ListN.{length}
-use Rattle.ground.specs.Pick.{pick}
-use Rattle.ground.specs.Numbers.{byte, word}
+use lib.Dec.{leb}
 use Rattle.setting.specs.Setting.{closestTo}
 use Rattle.table.specs.declared.Control.{Control}
 use Rattle.table.specs.declared.Sense.{Sense}
@@ -46,7 +43,8 @@ unfoldable pub unready : Sense → Control → Bool
 unready k c = isRanged k && not (c .loaded)
 
 unfoldable pub valueIn : List ℕ → ℕ
-valueIn d = pick (eqb (length d) 1) (byte d 0) (pick (eqb (length d) 2) (word d 0) 0)
+valueIn [] = 0
+valueIn (b ∷ d) = b + valueIn d * 256
 
 abbrev pub takes : Sense → Control → ℕ → Bool
 takes Unknown c x = false

@@ -5,11 +5,10 @@ ghost use mathlib.Core.List.{[], _∷_};
 ghost use Prim.Native.Nat.{_≤_};
 ghost use lib.ListN.{length};
 ghost use Rattle.deed.specs.Doing.{laid, lowFirst, deedOf, Done};
-ghost use Rattle.answers.specs.Held.{isRanged, ofRange, lacking, partOf, unready, valueIn, takes, storedFor};
+ghost use Rattle.answers.specs.Held.{isRanged, ofRange, lacking, partOf, unready, takes, storedFor};
 ghost use Rattle.answers.specs.Answers.{setOf, getOf};
 use deed::Deed;
 use deed::idle;
-use scan::byte_at;
 use scan::word_at;
 use setting::Range;
 use setup::Part;
@@ -70,19 +69,6 @@ fn is_unready(held: Sense, control: Control) -> bool
     !control.loaded
 }
 
-// The number that the data of a Set is, low byte first.
-fn value_in(data: &[u8]) -> u16
-    ensures { λ r. ⌜ r ≡ valueIn (now («data» .entry)) ⌝ }
-{
-    if data.len() == 1 {
-        return byte_at(data, 0) as u16;
-    }
-    if data.len() == 2 {
-        return word_at(data, 0);
-    }
-    0
-}
-
 // Whether a Set to this number is taken: a yes/no takes 0 and 1, a Selector its pins, a ranged control each number.
 fn takes_number(held: Sense, control: Control, wanted: u16) -> bool
     ensures { λ r. ⌜ r ≡ takes held control wanted ⌝ }
@@ -134,7 +120,7 @@ pub fn set_on(control: Control, bytes: u16, data: &[u8]) -> Deed
     if data.len() != size {
         return idle(37, control);
     }
-    let wanted = value_in(data);
+    let wanted = word_at(data, 0);
     if !takes_number(held, control, wanted) {
         return idle(38, control);
     }

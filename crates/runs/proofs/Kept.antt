@@ -8,7 +8,7 @@
 --   sent-fits              ==  the data of a Set are not too wide for the control
 use Prim.Native.Nat.{ℕ, _+_, _*_, _≤_, _<_, min}
 use mathlib.Core.Path.{_≡_, refl, sym, ap, _∙_}
-use mathlib.Core.List.{List}
+use mathlib.Core.List.{List, [], _∷_}
 use mathlib.Core.Bool.{Bool, true, false, _&&_}
 use mathlib.Core.Logic.{⊎-elim}
 use native.Mathlib.Omega.{arith}
@@ -100,16 +100,16 @@ module _ (t : Table) (sound : Sound t) (k : Key) where
 -- the number of one byte, and of two
 one-byte : (d : List ℕ) → Bytes d → length d ≡ 1 → valueIn d < 256
 unfolding valueIn
-one-byte d h l = let b = h 0 in rw (yes (getD d 0 0) (pick (eqb (length d) 2) (getD d 0 0 + getD d 1 0 * 256) 0) (eq-eqb _ _ l)) b
+one-byte [] h l = absurd (omega arith)
+one-byte (a ∷ []) h l = let b = h 0 in omega arith
+one-byte (a ∷ b ∷ d) h l = absurd (omega arith)
 
 two-bytes : (d : List ℕ) → Bytes d → length d ≡ 2 → valueIn d < 65536
 unfolding valueIn
-two-bytes d h l =
-    let n : length d ≡ 1 → ⊥ = λ e. omega arith in
-    let a = h 0 in
-    let b = h 1 in
-    let q : getD d 0 0 + getD d 1 0 * 256 < 65536 = omega arith in
-    rw (no (getD d 0 0) (pick (eqb (length d) 2) (getD d 0 0 + getD d 1 0 * 256) 0) (ne-eqb _ _ n), yes (getD d 0 0 + getD d 1 0 * 256) 0 (eq-eqb _ _ l)) q
+two-bytes [] h l = absurd (omega arith)
+two-bytes (a ∷ []) h l = absurd (omega arith)
+two-bytes (a ∷ b ∷ []) h l = let x = h 0 in let y = h 1 in omega arith
+two-bytes (a ∷ b ∷ c ∷ d) h l = absurd (omega arith)
 
 -- "a number too wide for the control" is none that its bytes can hold
 pub sent-fits : (s : Sort) (d : List ℕ) → Bytes d → length d ≡ sizeOf (Ranged s) → fitsOf s (valueIn d) ≡ true

@@ -20,24 +20,24 @@ use Rattle.deed.specs.Doing.{Doing, bytesIn, laid, lowFirst, low-first-long, id
 use Rattle.deed.specs.Doing.Doing.{denied, given}
 use Rattle.answers.specs.Held.{lacking, partOf, unready}
 use Rattle.answers.specs.Answers.{heldBy, sizeIn, getOf}
-use Rattle.answers.specs.AnswersLaws.{getOne, get-one}
+use Rattle.answers.specs.AnswersLaws.{size-most, getOne, get-one}
 use Rattle.answers.proofs.get_on.Statement.{statement}
 use Rattle.answers.proofs.get_on.Tie as tie
 
 -- a value has one byte or two
-sized : (k : Sense) → (1 ≤ sizeOf k) × (sizeOf k ≤ 2)
-sized Unknown = (omega arith, omega arith)
-sized YesNo = (omega arith, omega arith)
-sized Pin = (omega arith, omega arith)
-sized (Ranged Volume) = (omega arith, omega arith)
-sized (Ranged Tone) = (omega arith, omega arith)
-sized (Ranged Delay) = (omega arith, omega arith)
+least-one : (k : Sense) → 1 ≤ sizeOf k
+least-one Unknown = omega arith
+least-one YesNo = omega arith
+least-one Pin = omega arith
+least-one (Ranged Volume) = omega arith
+least-one (Ranged Tone) = omega arith
+least-one (Ranged Delay) = omega arith
 
 at-least-one : (k : Sense) (n : ℕ) → n ≡ sizeOf k → 1 ≤ n
-at-least-one k n e = let s = sized k in omega arith
+at-least-one k n e = let s = least-one k in omega arith
 
 at-most-two : (k : Sense) (n : ℕ) → n ≡ sizeOf k → n ≤ 2
-at-most-two k n e = let s = sized k in omega arith
+at-most-two k n e = let s = size-most k in omega arith
 
 -- one law for each way out
 module _ (c : Control) (part : Part) (n : ℕ) (b : List ℕ) (r : Deed) where

@@ -10,6 +10,7 @@ use lib.ListN.{length, take}
 use lib.Seq.{take-all}
 use borrow.Author.Tests.{eq-eqb, ne-eqb, not-true, not-false}
 use Rattle.ground.specs.Pick.{yes, no}
+use Rattle.ground.specs.Numbers.{word}
 use Rattle.table.specs.declared.Control.{Control}
 use Rattle.table.specs.declared.Sense.{Sense}
 use Rattle.table.specs.Controls.{senseOf, sizeOf}
@@ -18,7 +19,7 @@ use Rattle.deed.specs.Doing.{Doing, idleDeed, deedOf}
 use Rattle.deed.specs.Doing.Doing.{denied, changed}
 use Rattle.answers.specs.Held.{unready, valueIn, takes, storedFor, withCur}
 use Rattle.answers.specs.Answers.{heldBy, sizeIn, sentTo, setOf}
-use Rattle.answers.specs.AnswersLaws.{setOne, set-one}
+use Rattle.answers.specs.AnswersLaws.{size-most, word-value, setOne, set-one}
 use Rattle.answers.proofs.set_on.Statement.{statement}
 use Rattle.answers.proofs.set_on.Tie as tie
 
@@ -54,12 +55,13 @@ module _ (c : Control) (n : ℕ) (d : List ℕ) (r : Deed) where
             in
             tells (denied 37) (no _ _ ready ∙ yes _ _ m)
 
-        module _ (o : length d ≡ size) (x : ℕ) (w : x ≡ valueIn d) (b : Bool) (f : b ≡ takes k c x) where
+        module _ (o : length d ≡ size) (x : ℕ) (w : x ≡ word d 0) (b : Bool) (f : b ≡ takes k c x) where
           fitting : (not (eqb n (sizeIn c)) || not (eqb (length d) (sizeIn c))) ≡ false
           fitting = simp (eq-eqb n (sizeIn c) (l ∙ sized), eq-eqb (length d) (sizeIn c) (o ∙ sized))
 
           sent : sentTo c d ≡ x
-          sent = ap valueIn (take-all (sizeIn c) d (let s = sized in omega arith)) ∙ sym w
+          sent =
+              ap valueIn (take-all (sizeIn c) d (let s = sized in omega arith)) ∙ sym (w ∙ word-value d (let s = sized in let m = size-most (heldBy c) in omega arith))
 
           not-taken : not b ≡ true → r ≡ idleDeed 38 c → Told
           not-taken q =
@@ -101,8 +103,8 @@ idle-requires-3 c κs = search laws
 returns-3 : tie.Need-returns-3
 returns-3 c = search laws
 
-value-in-requires : tie.Need-value-in-requires
-value-in-requires c κs = search laws
+word-at-requires : tie.Need-word-at-requires
+word-at-requires c κs = search laws
 
 takes-number-requires : tie.Need-takes-number-requires
 takes-number-requires c κs = search laws
@@ -135,7 +137,7 @@ set-on-spec =
     returns-2
     idle-requires-3
     returns-3
-    value-in-requires
+    word-at-requires
     takes-number-requires
     idle-requires-4
     returns-4
