@@ -8,7 +8,7 @@ use Rattle.table.specs.declared.Table.{Table}
 use Rattle.address.specs.declared.Lookup.{Lookup}
 use Rattle.table.specs.Controls.{mostControls}
 use Rattle.address.specs.LookedUp.{missingBy, lookedUp}
-use Rattle.address.specs.Sought.{Looking, looking-start, looking-over, looking-here, looking-on}
+use Rattle.address.proofs.Looking.{Looking, looking-start, looking-over, looking-here, looking-on}
 use Rattle.address.proofs.look_up.Statement.{statement}
 use Rattle.address.proofs.look_up.Tie as tie
 

@@ -2,7 +2,7 @@
 use borrow.Author.Needs.{needs}
 use Prim.Native.Nat.{_-_}
 use Rattle.sound.specs.Rising.{passed-many, Rising, rising-start, rising-few, rising-inside, rising-unsound, rising-on, rising-over}
-use Rattle.address.specs.Sought.{sought-unsound, Seeking, seeking-start, seeking-inside, seeking-no-control, seeking-no-unit, seeking-here, seeking-on}
+use Rattle.address.proofs.Looking.{sought-unsound, Seeking, seeking-start, seeking-inside, seeking-no-control, seeking-no-unit, seeking-here, seeking-on}
 use Rattle.address.proofs.seek.Statement.{statement}
 use Rattle.address.proofs.seek.Tie as tie
 

@@ -12,7 +12,8 @@ use Rattle.address.specs.declared.Sought.the-variants as sought
 use Rattle.table.specs.Controls.{at}
 use Rattle.address.specs.LookedUp.{lookedUp}
 use Rattle.sound.specs.Sound.{soundOf}
-use Rattle.address.specs.Sought.{soughtIn, sought-unsound, sought-no-unit, sought-no-control, sought-at}
+use Rattle.address.specs.Sought.{soughtIn}
+use Rattle.address.proofs.Looking.{sought-unsound, sought-no-unit, sought-no-control, sought-at}
 use Rattle.address.proofs.seek_slowly.Statement.{statement}
 use Rattle.address.proofs.seek_slowly.Tie as tie
 
