@@ -133,7 +133,11 @@ pub fn set_on(control: Control, bytes: u16, data: &[u8]) -> Deed
 fn sent_of(bytes: u16, size: usize) -> usize
     ensures { λ r. ⌜ r ≡ min bytes size ⌝ }
 {
-    if (bytes as usize) < size { bytes as usize } else { size }
+    if (bytes as usize) < size {
+        bytes as usize
+    } else {
+        size
+    }
 }
 
 // Writes the first bytes of a value, the low one first, to the front of the reply, and answers how many.
@@ -163,7 +167,8 @@ pub fn get_on(control: Control, part: Part, bytes: u16, reply: &mut [u8]) -> Dee
     if is_unready(held, control) {
         return idle(36, control);
     }
-    let count = sent_of(bytes, table::size(held));
+    let size = table::size(held);
+    let count = sent_of(bytes, size);
     if reply.len() < count {
         return idle(39, control);
     }
