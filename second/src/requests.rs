@@ -42,7 +42,8 @@ pub struct Load {
 pub enum Reply {
     /// "an accepted Set leaves the reply too".
     Set,
-    /// How many bytes an accepted Get wrote "to the front of the reply".
+    /// How many bytes an accepted Get wrote "to the front of the reply": "the first wLength bytes
+    /// of the value, or all of it if wLength is larger".
     Got(usize),
 }
 
@@ -203,15 +204,10 @@ pub fn request(
         control.cur = value_to_store(control, holds, data)?;
         return Ok(Reply::Set);
     }
-    if length != size {
-        return Err(Way::GetLength);
-    }
-    if reply.len() < size {
-        return Err(Way::ReplyShort);
-    }
-    let bytes = asks.number(control).to_le_bytes();
-    reply[..size].copy_from_slice(&bytes[..size]);
-    Ok(Reply::Got(size))
+    let value = asks.number(control).to_le_bytes();
+    let sent = &value[..size.min(length)];
+    reply.get_mut(..sent.len()).ok_or(Way::ReplyShort)?.copy_from_slice(sent);
+    Ok(Reply::Got(sent.len()))
 }
 
 /// Refusals 32, 33 and 34: the place of the addressed control.
@@ -297,8 +293,22 @@ mod tests {
         assert_eq!(ask(&[0xA1, 0x84, 9, 9, 4, 3, 9, 9]), Err(Way::SelectorValue));
         assert_eq!(ask(&[0xA1, 0x84, 0, 0, 4, 3, 9, 9]), Err(Way::UnrangedPin));
         assert_eq!(ask(&[0xA1, 0x84, 0, 2, 4, 2, 9, 9]), Err(Way::NotLoaded));
-        assert_eq!(ask(&[0xA1, 0x81, 0, 0, 4, 3, 9, 9]), Err(Way::GetLength));
+        assert_eq!(ask(&[0x21, 0x01, 0, 0, 4, 3, 9, 9]), Err(Way::SetLength));
+        assert_eq!(ask(&[0xA1, 0x81, 0, 0, 4, 3, 9, 9]), Err(Way::ReplyShort));
         assert_eq!(ask(&[0xA1, 0x81, 0, 0, 4, 3, 1, 0]), Err(Way::ReplyShort));
+        assert_eq!(ask(&[0xA1, 0x81, 0, 0, 4, 3, 0, 0]), Ok(Reply::Got(0)));
+    }
+
+    #[test]
+    fn a_get_sends_no_more_than_is_asked_for() {
+        let mut state = loaded_box();
+        for (length, sent) in [(0, 0), (1, 1), (2, 2), (64, 2)] {
+            let mut reply = [7; 3];
+            let get = [0xA1, 0x84, 0, 2, 4, 2, length, 0];
+            assert_eq!(request(&mut state, &get, &[], &mut reply), Ok(Reply::Got(sent)));
+            assert_eq!(reply[..sent], [0, 1][..sent]);
+            assert!(reply[sent..].iter().all(|&byte| byte == 7));
+        }
     }
 
     #[test]

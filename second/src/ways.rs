@@ -135,13 +135,12 @@ ways! {
     UnrangedYesNo = 35, "MIN, MAX, RES of a yes/no";
     UnrangedPin = 35, "MIN, MAX, RES of a Selector";
     NotLoaded = 36, "ranged control not loaded";
-    GetLength = 37, "Get: wLength is not the control's size";
     SetLength = 37, "Set: wLength is not the control's size";
     SetData = 37, "Set data is not that long";
     SetYesNo = 38, "Set of a yes/no to other than 0, 1";
     SetPinZero = 38, "Set of a Selector below its pins";
     SetPinHigh = 38, "Set of a Selector above its pins";
-    ReplyShort = 39, "Get: reply buffer too short";
+    ReplyShort = 39, "Get: the reply buffer is shorter than the bytes to be sent";
 }
 
 /// A refusal of a configuration: its clause and its place.

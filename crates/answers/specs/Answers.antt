@@ -6,7 +6,8 @@
 --   blockOf part cs        ==  the bytes of that part of each control, one after another, each at its size
 --   misfits cs n d         ==  37, of a Set: "wLength is not the control's size, or Set data is not that long"
 --   setOf cs n d           ==  36, 37, 38, or the controls as the Set leaves them; n is wLength
---   getOf part cs n room   ==  35, 36, 37, 39: "reply buffer too short", or the bytes; room is the reply's length
+--   cutTo n part cs        ==  the bytes to be sent: "the first wLength bytes of the value, or all of it if wLength is larger"
+--   getOf part cs n room   ==  35, 36, 39: "the reply buffer is shorter than the bytes to be sent", or those bytes; room is the reply's length
 use Prim.Native.Nat.{ℕ, _+_}
 use mathlib.Core.List.{List, [], _∷_, _++_}
 use mathlib.Core.Bool.{Bool, true, not, _&&_, _||_}
@@ -59,10 +60,12 @@ setOf cs n d =
     (pick (misfits cs n d) (denied 37)
     (pick (allTake cs d) (changed (allSet cs d)) (denied 38)))
 
+abbrev pub cutTo : ℕ → Part → List Control → List ℕ
+cutTo n part cs = take n (blockOf part cs)
+
 unfoldable pub getOf : Part → List Control → ℕ → ℕ → Doing
 getOf part cs n room =
     pick (any (λ c. lacking (heldBy c) part) cs) (denied 35)
     (pick (any (λ c. unready (heldBy c) c) cs) (denied 36)
-    (pick (not (eqb n (sizesOf cs))) (denied 37)
-    (pick (ltb room (sizesOf cs)) (denied 39)
-    (given (blockOf part cs)))))
+    (pick (ltb room (length (cutTo n part cs))) (denied 39)
+    (given (cutTo n part cs))))

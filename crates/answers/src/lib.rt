@@ -2,9 +2,9 @@
 // above: for every control, wLength, data and reply whatever, what specs/Answers.antt says of a list of that one control.
 ghost use mathlib.Core.Path.{_≡_};
 ghost use mathlib.Core.List.{[], _∷_};
-ghost use Prim.Native.Nat.{_≤_};
+ghost use Prim.Native.Nat.{_≤_, min};
 ghost use lib.ListN.{length};
-ghost use Rattle.deed.specs.Doing.{laid, lowFirst, deedOf, Done};
+ghost use Rattle.deed.specs.Doing.{lowFirst, deedOf, Written, Done};
 ghost use Rattle.answers.specs.Held.{isRanged, ofRange, lacking, partOf, unready, takes, storedFor};
 ghost use Rattle.answers.specs.Answers.{setOf, getOf};
 use deed::Deed;
@@ -129,18 +129,34 @@ pub fn set_on(control: Control, bytes: u16, data: &[u8]) -> Deed
     idle(0, changed)
 }
 
-// Writes a value's bytes, low first, to the front of the reply.
-fn write(value: u16, size: usize, reply: &mut [u8])
-    requires { ⌜ (size ≤ length (now reply)) × ((1 ≤ size) × (size ≤ 2)) ⌝ }
-    ensures { λ r. ⌜ now (reply .exit) ≡ laid (lowFirst size value) (now (reply .entry)) ⌝ }
+// How many bytes a Get sends: wLength, or all where that is more.
+fn sent_of(bytes: u16, size: usize) -> usize
+    ensures { λ r. ⌜ r ≡ min bytes size ⌝ }
 {
-    reply[0] = (value % 256) as u8;
-    if size == 2 {
-        reply[1] = (value / 256) as u8;
+    if (bytes as usize) < size {
+        bytes as usize
+    } else {
+        size
     }
 }
 
-// A Get of the control: 35, 36, 37, 39, or its bytes are written.
+// Writes the first bytes of a value, the low one first, to the front of the reply, and answers how many.
+fn write(value: u16, count: usize, reply: &mut [u8]) -> usize
+    requires { ⌜ (count ≤ length (now reply)) × (count ≤ 2) ⌝ }
+    ensures { λ r. ⌜ Written (lowFirst count value) (now (reply .entry)) r (now (reply .exit)) ⌝ }
+{
+    if count == 0 {
+        return 0;
+    }
+    reply[0] = (value % 256) as u8;
+    if count == 1 {
+        return 1;
+    }
+    reply[1] = (value / 256) as u8;
+    2
+}
+
+// A Get of the control: 35, 36, 39, or its bytes are written.
 pub fn get_on(control: Control, part: Part, bytes: u16, reply: &mut [u8]) -> Deed
     ensures { λ r. ⌜ Done control (getOf part (control ∷ []) bytes (length (now (reply .entry)))) (now (reply .entry)) r (now (reply .exit)) ⌝ }
 {
@@ -152,16 +168,14 @@ pub fn get_on(control: Control, part: Part, bytes: u16, reply: &mut [u8]) -> Dee
         return idle(36, control);
     }
     let size = table::size(held);
-    if bytes as usize != size {
-        return idle(37, control);
-    }
-    if reply.len() < size {
+    let count = sent_of(bytes, size);
+    if reply.len() < count {
         return idle(39, control);
     }
-    write(part_of(part, control), size, reply);
+    let written = write(part_of(part, control), count, reply);
     Deed {
         number: 0,
-        written: size,
+        written,
         control,
     }
 }

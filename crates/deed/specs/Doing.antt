@@ -3,16 +3,18 @@
 --                        as a load or a Set leaves them
 --   bytesIn o        ==  the bytes written: "An accepted Get writes its bytes", and nothing else writes any
 --   laid bytes b     ==  the buffer b with the bytes at its front
---   lowFirst n x     ==  the n bytes of the number x, "low first"; low-first-long: so many they are
+--   lowFirst n x     ==  the n bytes of the number x, "low first"; low-first-long: so many they are; low-first-cut: the first of them
+--   Written w b n a  ==  the bytes w were written to the front of the buffer b, which is a then, and n is how many they are
 --   idleDeed n c     ==  number n, no byte written, and the control c
 --   deedOf c o       ==  what is told of the one control c where o is done
 --   OfOne o          ==  o is what may be done at one control; of-either: so is a choice between two such
 --   Done c o b r a   ==  r tells it, and b, the reply at entry, is a at exit
-use Prim.Native.Nat.{ℕ, zero, suc, _%_, _/_}
+use Prim.Native.Nat.{ℕ, zero, suc, min, _%_, _/_}
 use mathlib.Core.Path.{_≡_, refl, ap}
 use mathlib.Core.List.{List, [], _∷_, _++_}
 use mathlib.Core.Bool.{Bool, true, false}
-use lib.ListN.{length, drop}
+use native.Mathlib.Nat.{zero-min, min-zero, suc-min-suc}
+use lib.ListN.{length, take, drop}
 use Rattle.ground.specs.Pick.{pick}
 use Rattle.table.specs.declared.Control.{Control}
 use Rattle.deed.specs.declared.Deed.{Deed}
@@ -38,6 +40,17 @@ pub low-first-long : (n x : ℕ) → length (lowFirst n x) ≡ n
 unfolding lowFirst
 low-first-long zero x = refl
 low-first-long (suc n) x = ap suc (low-first-long n _)
+
+-- the first of a number's bytes are as many bytes of it
+pub low-first-cut : (k n x : ℕ) → take k (lowFirst n x) ≡ lowFirst (min k n) x
+unfolding lowFirst
+low-first-cut zero n x = rw (zero-min n)
+low-first-cut (suc k) zero x = rw (min-zero (suc k))
+low-first-cut (suc k) (suc n) x = rw (suc-min-suc k n, low-first-cut k n (x / 256))
+
+pub record Written (w b : List ℕ) (n : ℕ) (a : List ℕ) : Type 0 where
+  pub number : n ≡ length w
+  pub lent : a ≡ laid w b
 
 abbrev pub idleDeed : ℕ → Control → Deed
 idleDeed n c = record { number = n; written = 0; control = c }

@@ -4,10 +4,11 @@
 --   now-is st run   ==  the state that the run leaves; Accepted st run step: the next step is accepted in it
 --   EveryRun st run ==  what is true of every run of loads and requests from the state st. Refusal 30 has nothing against the table it
 --                       leaves, and the AudioControl number is what it was. Of the next step: it has the number of the first row of
---                       the papers' table that applies, 0 where none does; an accepted Get returns the addressed control, and no Get
---                       changes the table; an accepted Set stores the closest available setting of it, and no Set writes to the
---                       reply; an accepted load stores the range and that; and every other control is as it was. Over the whole run:
---                       each control is what its last accepted load and Set made it, and so each accepted Get is answered
+--                       the papers' table that applies, 0 where none does; an accepted Get returns the first wLength bytes of the
+--                       addressed control's, and no Get changes the table; an accepted Set stores the closest available setting of
+--                       it, and no Set writes to the reply; an accepted load stores the range and that; and every other control is
+--                       as it was. Over the whole run: each control is what its last accepted load and Set made it, and so each
+--                       accepted Get is answered
 --   Demand2         ==  whatever is plugged in, the table is as document 01 has it before any load: first values, nothing loaded, spare
 --                       places zero; and all that is true of every run from that state whose data are bytes (Wired), as every lent
 --                       slice's are

@@ -12,10 +12,10 @@ use mathlib.Core.Path.{_≡_, refl, sym, ap, _∙_, subst}
 use mathlib.Core.List.{List, [], _∷_}
 use mathlib.Core.Bool.{true, false}
 use native.Mathlib.Omega.{arith}
-use lib.ListN.{length}
+use lib.ListN.{length, take}
 use borrow.Author.Tests.{not-false}
 use Rattle.ground.specs.Pick.{shows}
-use Rattle.ground.specs.Numbers.{byte}
+use Rattle.ground.specs.Numbers.{byte, word}
 use Rattle.setting.specs.Setting.{closestTo}
 use Rattle.setting.specs.Legal.{fits-reads, legal-means}
 use Rattle.setting.specs.Closest.{closest-self, closest-only}
@@ -103,7 +103,7 @@ module _ (st : State) where
     code = a .code;
     index = a .index;
     stands = found-stands t (namedBy s) (a .index) (a .there);
-    given = a .given ∙ ap (λ (k : Sense). lowFirst (sizeOf k) (partOf (a .part) (at t (a .index)))) (sense-at t (namedBy s) (a .index) (a .there));
+    given = a .given ∙ ap (λ (k : Sense). take (word s 6) (lowFirst (sizeOf k) (partOf (a .part) (at t (a .index))))) (sense-at t (namedBy s) (a .index) (a .there));
   }
 
   pub next-get : (s d : List ℕ) (room : ℕ) → AsksGet s → numberOf (requestOf st s d room) ≡ 0 → GetGiven t s (bytesOf (requestOf st s d room))
@@ -227,7 +227,7 @@ got-answers st run h w s room bytes a = record {
   index = a .index;
   stands = found-stands t0 (namedBy s) (a .index) there;
   value = partOf (a .part) now;
-  given = a .given ∙ ap (λ (k : Sense). lowFirst (sizeOf k) (partOf (a .part) now)) held;
+  given = a .given ∙ ap (λ (k : Sense). take (word s 6) (lowFirst (sizeOf k) (partOf (a .part) now))) held;
   means =
       part-means (a .part) (senseOf (byte s 3)) now (rangeOf now) _ refl
       (cur-means t0 (namedBy s) (a .index) _ _ v m was (rw (← held) (a .ready)))

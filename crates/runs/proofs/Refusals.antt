@@ -38,7 +38,7 @@ use Rattle.setup.specs.Setup.{askedOf, targetIn}
 use Rattle.deed.specs.Doing.{Doing, laid}
 use Rattle.deed.specs.Doing.Doing.{denied, given, changed}
 use Rattle.answers.specs.Held.{lacking, unready}
-use Rattle.answers.specs.Answers.{heldBy, sizesOf, allTake, misfits, setOf, getOf}
+use Rattle.answers.specs.Answers.{heldBy, allTake, misfits, cutTo, setOf, getOf}
 use Rattle.loads.specs.Load.{loadRange, loadBy, loadOn}
 use Rattle.request.specs.declared.State.{State}
 use Rattle.request.specs.declared.Answer.{Answer}
@@ -125,8 +125,7 @@ unfolding getOf
 get-numbers part cs n room =
     either-denied RequestNumber (any (λ c. lacking (heldBy c) part) cs) _ _ (number 35 (omega arith) (omega arith))
     (either-denied RequestNumber (any (λ c. unready (heldBy c) c) cs) _ _ (number 36 (omega arith) (omega arith))
-    (either-denied RequestNumber (not (eqb n (sizesOf cs))) _ _ (number 37 (omega arith) (omega arith))
-    (either-denied RequestNumber (ltb room (sizesOf cs)) _ _ (number 39 (omega arith) (omega arith)) tt)))
+    (either-denied RequestNumber (ltb room (length (cutTo n part cs))) _ _ (number 39 (omega arith) (omega arith)) tt))
 
 doing-numbers : (k : Asked) (d : List ℕ) (room : ℕ) (cs : List Control) → Denied RequestNumber (doingOf k d room cs)
 doing-numbers asks.Unknown d room cs = number 31 (omega arith) (omega arith)

@@ -41,7 +41,8 @@ use Rattle.setup.specs.Asking.{Asking, none, sets, gets, asking, set-no-get}
 use Rattle.deed.specs.Doing.{Doing}
 use Rattle.deed.specs.Doing.Doing.{denied, given, changed}
 use Rattle.answers.specs.Held.{isRanged, ofRange, lacking, unready, takes}
-use Rattle.answers.specs.Answers.{heldBy, sizesOf, sentTo, restOf, allTake, misfits, setOf, getOf}
+use Rattle.answers.specs.Answers.{heldBy, sizesOf, sentTo, restOf, allTake, misfits, cutTo, setOf, getOf}
+use Rattle.answers.specs.AnswersLaws.{cut-long}
 use Rattle.loads.specs.Load.{loadRange, loadBy, loadOn}
 use Rattle.request.specs.declared.State.{State}
 use Rattle.request.specs.Outcome.{Outcome, numberOf}
@@ -50,7 +51,7 @@ use Rattle.address.specs.Addressed.{indicesOf, addressedIn}
 use Rattle.request.specs.Stored.{outcomeAt}
 use Rattle.request.specs.Load.{loadAt, loadOf}
 use Rattle.request.specs.Request.{elsewhereBy, barredBy, doingOf, doneAt, answerAsked, requestOf}
-use Rattle.runs.specs.RequestRows.{Row, given as is-given, passed, NoRow, Owned, ByChannel, none as no-more, more, Addressed, Along, HasRange, Unloaded, Outside, Beyond, first, later, RangedThere, InRange, lastRows, controlRows, addressedRows, askedRows, requestRows, loadRows, stepRows}
+use Rattle.runs.specs.RequestRows.{Row, given as is-given, passed, NoRow, Owned, ByChannel, none as no-more, more, Addressed, Along, HasRange, Unloaded, Outside, Beyond, first, later, RangedThere, InRange, bytesSent, lastRows, controlRows, addressedRows, askedRows, requestRows, loadRows, stepRows}
 use Rattle.runs.specs.Runs.{namedBy, Step, stepOf}
 use Rattle.runs.specs.Runs.Step.{load, request}
 use Rattle.runs.proofs.Kept.{found-stands, none-stands, stands-one}
@@ -157,9 +158,7 @@ module _ (s d : List ℕ) (room : ℕ) where
         passed no-get
         (by-test 36 _ _ (unready-reads cs) (λ _.
         by-test 37 _ _
-        (reads-same (reads-or _ _ (reads-not _ (reads-eq (word s 6) (sizesOf cs))) (reads-not _ (reads-eq (length d) (sizesOf cs))))
-        (⊎-elim inl (λ n. inr (a, n)))
-        (⊎-elim inl (λ n. inr (n .1))))
+        (reads-same (reads-or _ _ (reads-not _ (reads-eq (word s 6) (sizesOf cs))) (reads-not _ (reads-eq (length d) (sizesOf cs)))) (λ n. (a, n)) (λ n. n .1))
         (λ _. settled-rows (allTake cs d) (beyond-reads cs d h) _)))
 
   module _ (cs : List Control) (a : AsksGet s) (part : Part) (code : byte s 1 ≡ codeOf part) where
@@ -176,14 +175,15 @@ module _ (s d : List ℕ) (room : ℕ) where
         (λ h. (a, (h .has .0, record { one = h .one; among = h .among; has = h .has .1 })))
         (λ h. let k = h .1 .1 in record { one = k .one; among = k .among; has = (h .1 .0, k .has) })
 
+    no-room : Reads (ltb room (length (cutTo (word s 6) part cs))) (AsksGet s × (room < bytesSent s cs))
+    no-room = rw (cut-long (word s 6) part cs) (reads-same (reads-lt room (bytesSent s cs)) (λ l. (a, l)) (λ h. h .1))
+
     get-rows : controlRows s d room cs (numberIn (getOf part cs (word s 6) room))
     unfolding getOf
     get-rows =
         by-test 35 _ _ some-lacking (λ _.
         by-test 36 _ _ (unready-reads cs) (λ _.
-        by-test 37 _ _
-        (reads-same (reads-not _ (reads-eq (word s 6) (sizesOf cs))) inl (⊎-elim (λ n. n) (λ n. absurd (no-set n))))
-        (λ _. passed no-set (by-test 39 _ _ (reads-same (reads-lt room (sizesOf cs)) (λ l. (a, l)) (λ h. h .1)) (λ _. refl)))))
+        passed no-set (passed no-set (by-test 39 _ _ no-room (λ _. refl)))))
 
 -- lists whose channels rise and that have the same members are one
 module _ where

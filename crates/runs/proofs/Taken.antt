@@ -4,16 +4,16 @@
 --   GetTaken   ==  a Get that was answered
 --   load-taken, set-taken, get-taken  ==  every acceptance is one of these
 --   load-not-got  ==  no load is answered with bytes
-use Prim.Native.Nat.{ℕ, _≤_}
+use Prim.Native.Nat.{ℕ, min}
 use mathlib.Core.Path.{_≡_, refl, sym, ap, _∙_}
-use mathlib.Core.List.{List, [], _∷_, head-eq-of-cons-eq}
+use mathlib.Core.List.{List, [], _∷_}
 use mathlib.Core.Bool.{Bool, true, false, not, _&&_, _||_}
 use mathlib.Core.Logic.{_⊎_, inl, inr, ⊎-elim}
 use native.Mathlib.Omega.{arith}
 use lib.Dec.{eqb, ltb}
-use lib.ListN.{length}
+use lib.ListN.{length, take}
 use lib.Seq.{take-all}
-use borrow.Author.Tests.{eqb-true, ltb-false, not-false}
+use borrow.Author.Tests.{eqb-true, not-false}
 use Rattle.ground.specs.Pick.{pick, true≠false, reads-true, reads-and}
 use Rattle.ground.specs.Numbers.{byte, word}
 use Rattle.setting.specs.Setting.{fitsOf, legalOf}
@@ -23,7 +23,7 @@ use Rattle.table.specs.declared.Control.{Control}
 use Rattle.table.specs.declared.Table.{Table}
 use Rattle.table.specs.declared.Sense.{Sense}
 use Rattle.table.specs.declared.Sense.the-variants.{Unknown, YesNo, Ranged, Pin}
-use Rattle.table.specs.First.{Seat, foundIn, entryAt}
+use Rattle.table.specs.First.{Seat, entryAt}
 use Rattle.table.specs.First.Seat.{absent, seat}
 use Rattle.table.specs.Controls.{at, placed, senseOf}
 use Rattle.table.specs.Keys.{Key, whereIs}
@@ -33,7 +33,7 @@ use Rattle.setup.specs.declared.Asked.{Asked}
 use Rattle.setup.specs.declared.Asked.the-variants as asks
 use Rattle.setup.specs.Setup.{AsksSet, AsksGet, codeOf, askedOf, targetIn}
 use Rattle.setup.specs.Asking.{Asking, none, sets, gets, asking}
-use Rattle.deed.specs.Doing.{Doing, lowFirst}
+use Rattle.deed.specs.Doing.{Doing, lowFirst, low-first-cut}
 use Rattle.deed.specs.Doing.Doing.{denied, given, changed}
 use Rattle.answers.specs.Held.{lacking, partOf, unready, valueIn, takes, storedFor, withCur}
 use Rattle.answers.specs.Answers.{heldBy, sizeIn, sentTo, setOf, getOf}
@@ -155,9 +155,7 @@ pub record GetTaken (t : Table) (s : List ℕ) (room : ℕ) (bytes : List ℕ) :
   pub there : whereIs t (namedBy s) ≡ seat index
   pub has : lacking (heldBy (at t index)) part ≡ false
   pub ready : unready (heldBy (at t index)) (at t index) ≡ false
-  pub sized : word s 6 ≡ sizeIn (at t index)
-  pub fits : sizeIn (at t index) ≤ room
-  pub given : bytes ≡ lowFirst (sizeIn (at t index)) (partOf part (at t index))
+  pub given : bytes ≡ take (word s 6) (lowFirst (sizeIn (at t index)) (partOf part (at t index)))
 
 missized-not : (size n : ℕ) (d : List ℕ) → (not (eqb n size) || not (eqb (length d) size)) ≡ false → length d ≡ size
 missized-not size n d e = go (eqb n size) e
@@ -195,8 +193,7 @@ module _ (t : Table) (s d : List ℕ) (q : soundOf t ≡ true) (p : ℕ) (f : wh
   get-gave a part c room bytes e =
       let x = passed-gift (lacking (heldBy here) part) 35 _ bytes e in
       let y = passed-gift (unready (heldBy here) here) 36 _ bytes (x .1) in
-      let z = passed-gift (not (eqb (word s 6) (sizeIn here))) 37 _ bytes (y .1) in
-      let w = passed-gift (ltb room (sizeIn here)) 39 _ bytes (z .1) in
+      let z = passed-gift (ltb room (min (word s 6) (sizeIn here))) 39 _ bytes (y .1) in
       record {
         sound = q;
         asked = a;
@@ -206,9 +203,7 @@ module _ (t : Table) (s d : List ℕ) (q : soundOf t ≡ true) (p : ℕ) (f : wh
         there = f;
         has = x .0;
         ready = y .0;
-        sized = eqb-true _ _ (not-false _ (z .0));
-        fits = ltb-false _ _ (w .0);
-        given = given-one (sym (w .1));
+        given = given-one (sym (z .1)) ∙ sym (low-first-cut (word s 6) (sizeIn here) (partOf part here));
       }
     where
       given-one : {x y : List ℕ} → given x ≡ given y → x ≡ y
@@ -225,9 +220,8 @@ get-no-change : (c : Control) (part : Part) (n room : ℕ) (cs : List Control) �
 get-no-change c part n room cs e =
     let x = passed-change (lacking (heldBy c) part) 35 _ cs e in
     let y = passed-change (unready (heldBy c) c) 36 _ cs (x .1) in
-    let z = passed-change (not (eqb n (sizeIn c))) 37 _ cs (y .1) in
-    let w = passed-change (ltb room (sizeIn c)) 39 _ cs (z .1) in
-    change-no-gift (sym (w .1))
+    let z = passed-change (ltb room (min n (sizeIn c))) 39 _ cs (y .1) in
+    change-no-gift (sym (z .1))
 
 module _ (st : State) (s d : List ℕ) (room : ℕ) (q : soundOf (st .table) ≡ true) where
   abbrev t : Table

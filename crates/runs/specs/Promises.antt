@@ -3,8 +3,10 @@
 --                            (Stored, of crate setting, says so over the integers: the closest available setting, silence as itself)
 --   CurMeans k range x v ==  v is what CUR must be where the control holds k, has that range and x was asked: of a ranged control
 --                            the closest setting (Settles), of another x
---   GetGiven t s bytes   ==  the setup asks a part of the control that it names, which is one of the table's, and the bytes are, low
---                            first, that number of it
+--   Sent s x bytes       ==  the bytes are the first wLength of those of the number x, low first, of a control with the setup's selector:
+--                            all of them where wLength is larger
+--   GetGiven t s bytes   ==  the setup asks a part of the control that it names, which is one of the table's, and the bytes are those
+--                            sent of that number of it
 --   SetStored t s d v    ==  from the table t to v the control that the setup names has for its CUR what is stored where the number
 --                            that the data are is wanted, and is else as it was; so is every other
 --   LoadStored t k range w v  ==  .. the control of the key k is loaded with that range, and its CUR is what is stored where w is wanted
@@ -15,13 +17,13 @@
 --                            as it was where ns is empty; and 30 has nothing against the table
 --   Means k part c rs ns v  ==  v is what a Get of that part must give, where c is the control at the start, rs are the ranges of
 --                            its accepted loads since and ns the numbers of its accepted loads and Sets since
---   Answers st run s bytes  ==  .. and the bytes are such a number of the control that the setup names
+--   Answers st run s bytes  ==  .. and the bytes are those sent of such a number of the control that the setup names
 use Prim.Native.Nat.{ℕ, _<_}
 use mathlib.Core.Path.{_≡_}
 use mathlib.Core.List.{List, []}
 use mathlib.Core.Bool.{true, _||_}
-use lib.ListN.{length}
-use Rattle.ground.specs.Numbers.{byte}
+use lib.ListN.{length, take}
+use Rattle.ground.specs.Numbers.{byte, word}
 use Rattle.setting.specs.Setting.{spanOf}
 use Rattle.setting.specs.Meaning.{value, Legal, Stored}
 use Rattle.setting.specs.declared.Range.{Range}
@@ -54,12 +56,15 @@ CurMeans YesNo range x v = v ≡ x
 CurMeans (Ranged s) range x v = Settles s range x v
 CurMeans Pin range x v = v ≡ x
 
+abbrev pub Sent : List ℕ → ℕ → List ℕ → Type 0
+Sent s x bytes = bytes ≡ take (word s 6) (lowFirst (sizeOf (senseOf (byte s 3))) x)
+
 pub record GetGiven (t : Table) (s bytes : List ℕ) : Type 0 where
   pub part : Part
   pub code : byte s 1 ≡ codeOf part
   pub index : ℕ
   pub stands : StandsAt t (namedBy s) index
-  pub given : bytes ≡ lowFirst (sizeOf (senseOf (byte s 3))) (partOf part (at t index))
+  pub given : Sent s (partOf part (at t index)) bytes
 
 pub record SetStored (t : Table) (s d : List ℕ) (v : Table) : Type 0 where
   pub index : ℕ
@@ -109,6 +114,6 @@ pub record Answers (st : State) (run : List Step) (s bytes : List ℕ) : Type 0 
   pub index : ℕ
   pub stands : StandsAt (st .table) (namedBy s) index
   pub value : ℕ
-  pub given : bytes ≡ lowFirst (sizeOf (senseOf (byte s 3))) value
+  pub given : Sent s value bytes
   pub means : Means (senseOf (byte s 3)) part (at (st .table) index) (told (rangesIn (namedBy s)) st run) (told (numbersIn (namedBy s)) st run) value
   pub first : told (numbersIn (namedBy s)) st run ≡ [] → value ≡ partOf part (at (st .table) index)

@@ -13,12 +13,13 @@
 --   Beyond cs d              ==  one of the numbers that the data d send to the controls is outside what its control takes
 --   RangedThere t k          ==  the control of the key k is in the table, and it is ranged
 --   InRange s range w        ==  range is legal for a control with selector s, and no number too wide
---   WrongLength s d cs       ==  wLength is not the size of the controls, or it is a Set whose data d are not that long
+--   WrongLength s d cs       ==  wLength is not the size of the controls, or the data d of a Set are not that long
+--   bytesSent s cs           ==  how many bytes a Get sends: wLength, or all where that is larger
 --   requestRows st s d room  ==  rows 30 to 39, for the setup s, the data d and a reply of room bytes: 30, askedRows (31 to 33), and of the
 --                                addressed controls addressedRows (34), controlRows (35 to 37) and lastRows (38, 39)
 --   loadRows st k range w    ==  rows 30, 20 and 21
 --   stepRows st step         ==  those of the two that the step is tried against
-use Prim.Native.Nat.{ℕ, _≤_, _<_}
+use Prim.Native.Nat.{ℕ, _≤_, _<_, min}
 use mathlib.Core.Path.{_≡_}
 use mathlib.Core.List.{List, [], _∷_}
 use mathlib.Core.Bool.{false}
@@ -96,12 +97,15 @@ pub record InRange (s : ℕ) (range : Range) (w : ℕ) : Type 0 where
   pub fits : w < spanOf sort
 
 abbrev pub WrongLength : List ℕ → List ℕ → List Control → Type 0
-WrongLength s d cs = (word s 6 ≡ sizesOf cs → ⊥) ⊎ (AsksSet s × (length d ≡ sizesOf cs → ⊥))
+WrongLength s d cs = (word s 6 ≡ sizesOf cs → ⊥) ⊎ (length d ≡ sizesOf cs → ⊥)
+
+abbrev pub bytesSent : List ℕ → List Control → ℕ
+bytesSent s cs = min (word s 6) (sizesOf cs)
 
 abbrev pub lastRows : List ℕ → List ℕ → ℕ → List Control → ℕ → Type 0
 lastRows s d room cs =
     Row 38 (AsksSet s × Beyond cs d)
-    (Row 39 (AsksGet s × (room < sizesOf cs))
+    (Row 39 (AsksGet s × (room < bytesSent s cs))
     NoRow)
 
 -- MIN, MAX and RES are the requests from A1/82 on
@@ -109,7 +113,7 @@ abbrev pub controlRows : List ℕ → List ℕ → ℕ → List Control → ℕ 
 controlRows s d room cs =
     Row 35 (AsksGet s × ((0x82 ≤ byte s 1) × Some (λ c. HasRange (c .selector) → ⊥) cs))
     (Row 36 (Some Unloaded cs)
-    (Row 37 (WrongLength s d cs)
+    (Row 37 (AsksSet s × WrongLength s d cs)
     (lastRows s d room cs)))
 
 abbrev pub addressedRows : List ℕ → List ℕ → ℕ → List Control → ℕ → Type 0

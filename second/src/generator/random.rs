@@ -596,7 +596,11 @@ fn request(rng: &mut Rng, state: &State) -> Vec<u8> {
         _ => (0x21, 0x01),
     };
     let size = holds.map_or(1, Holds::size);
-    let length = if rng.one_in(15) { number(rng) } else { size as u16 };
+    let length = match rng.below(15) {
+        0 => number(rng),
+        1..=3 if pair.0 == 0xA1 => *rng.pick(&[0, 1, 2, 3, 64]),
+        _ => size as u16,
+    };
     let interface = if rng.one_in(25) { rng.byte() } else { state.number };
     let mut setup = setup(pair, interface, control.name(), length).to_vec();
     if rng.one_in(40) {

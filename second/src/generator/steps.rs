@@ -30,6 +30,7 @@ pub fn all(script: &mut Script) {
     loads(script);
     sets_and_gets(script);
     request_refusals(script);
+    cut_gets(script);
     selectors(script);
     closest_sweeps(script);
     good_tables(script);
@@ -386,6 +387,38 @@ fn request_refusals(script: &mut Script) {
     lengths(script);
 }
 
+/// "a Get answers the first wLength bytes of the value, or all of it if wLength is larger; wLength
+/// 0 answers nothing and is accepted", and 39 "when the reply buffer is shorter than the bytes to
+/// be sent".
+fn cut_gets(script: &mut Script) {
+    plug_bench(script);
+    let volume = [0xEC03, 0x002B, 0x0102, 0xEF09];
+    let bass = [0x00EC, 0x0014, 0x0004, 0x0008];
+    load(script, (2, 1, 2), volume, "loaded");
+    load(script, (2, 1, 3), bass, "loaded");
+    let ranged = |name: Name, size: usize, [min, max, res, cur]: [u16; 4]| {
+        [(MIN, min), (MAX, max), (RES, res), (CUR, cur)]
+            .map(|(pair, value)| (name, size, pair, value))
+    };
+    let mut asked = ranged((2, 1, 2), 2, volume).to_vec();
+    asked.extend(ranged((2, 1, 3), 1, bass));
+    asked.extend([((2, 1, 1), 1, CUR, 0), ((3, 0, 0), 1, CUR, 1)]);
+    for (name, size, pair, value) in asked {
+        for length in [0, 1, 2, 3, 64, 256, 0xFFFF] {
+            let sent = &value.to_le_bytes()[..size.min(usize::from(length))];
+            let hex: String = sent.iter().map(|byte| format!(" {byte:02X}")).collect();
+            for room in [0, 1, 2, 64] {
+                let body = request_body(room, &setup(pair, 4, name, length), &[]);
+                if usize::from(room) < sent.len() {
+                    script.fails(REQUEST, &body, Way::ReplyShort);
+                } else {
+                    script.says(REQUEST, &body, &format!("got{hex}"));
+                }
+            }
+        }
+    }
+}
+
 /// Refusals 37, 38 and 39.
 fn lengths(script: &mut Script) {
     for (name, size) in [((2, 0, 2), 2u16), ((2, 0, 3), 1), ((2, 0, 1), 1), ((3, 0, 0), 1)] {
@@ -394,10 +427,6 @@ fn lengths(script: &mut Script) {
         for wrong in [0, 1, 2, 3, 64, 256, 257, 258, 0xFFFF] {
             if wrong == size {
                 continue;
-            }
-            for &pair in pairs {
-                let body = request_body(64, &setup(pair, 4, name, wrong), &[]);
-                script.fails(REQUEST, &body, Way::GetLength);
             }
             let data = vec![1; usize::from(wrong.min(4))];
             let body = request_body(64, &setup(SET, 4, name, wrong), &data);
