@@ -1,9 +1,12 @@
 //! Loads and class requests over a table (refusals 20, 21 and 30 to 39).
 
-use crate::controls::{Control, Holds, Table};
+use crate::controls::{Control, Holds, Table, PIN_SELECTOR};
 use crate::numbers::{CHANNELS, PINS};
 use crate::settings::Fault;
 use crate::ways::Way;
+
+/// "channel number 255 of a Feature Unit addresses that selector on all channels that have it".
+pub const ALL_CHANNELS: u8 = 255;
 
 /// What the box holds between steps.
 #[derive(Clone, Debug, PartialEq, Eq)]
@@ -43,7 +46,8 @@ pub enum Reply {
     /// "an accepted Set leaves the reply too".
     Set,
     /// How many bytes an accepted Get wrote "to the front of the reply": "the first wLength bytes
-    /// of the value, or all of it if wLength is larger".
+    /// of the value, or all of it if wLength is larger", and for several values "a Get's whole
+    /// block is what wLength cuts".
     Got(usize),
 }
 
@@ -188,56 +192,91 @@ pub fn request(
         return Err(Way::SetupLength);
     }
     let asks = Asks::of(setup[0], setup[1]).ok_or(Way::SetupRequest)?;
-    let index = address(state, setup)?;
-    let control = &mut state.table.places[index];
-    let holds = Holds::of(control.selector).expect("refusal 30 comes first");
-    check_control(control, holds, asks)?;
-    let size = holds.size();
+    let places = address(state, setup)?;
+    let addressed: Vec<Control> = places.iter().map(|&place| state.table.places[place]).collect();
+    let holds = Holds::of(setup[3]).expect("refusal 30 comes first");
+    check_controls(&addressed, holds, asks)?;
     let length = usize::from(setup[6]) + 256 * usize::from(setup[7]);
     if asks == Asks::Set {
-        if length != size {
-            return Err(Way::SetLength);
+        let values = values_to_store(&addressed, holds, length, data)?;
+        for (place, value) in places.into_iter().zip(values) {
+            state.table.places[place].cur = value;
         }
-        if data.len() != size {
-            return Err(Way::SetData);
-        }
-        control.cur = value_to_store(control, holds, data)?;
         return Ok(Reply::Set);
     }
-    let value = asks.number(control).to_le_bytes();
-    let sent = &value[..size.min(length)];
+    let block = block(&addressed, holds, asks);
+    let sent = &block[..block.len().min(length)];
     reply.get_mut(..sent.len()).ok_or(Way::ReplyShort)?.copy_from_slice(sent);
     Ok(Reply::Got(sent.len()))
 }
 
-/// Refusals 32, 33 and 34: the place of the addressed control.
-fn address(state: &State, setup: &[u8]) -> Result<usize, Way> {
+/// Refusals 32, 33 and 34: the places of the addressed controls, "from the lowest such channel
+/// up". They are of one selector; a request for one channel has one of them.
+fn address(state: &State, setup: &[u8]) -> Result<Vec<usize>, Way> {
     if setup[4] != state.number {
         return Err(Way::InterfaceNumber);
     }
+    let (channel, selector, unit) = (setup[2], setup[3], setup[5]);
     let controls = state.table.controls().expect("refusal 30 comes first");
-    let of_unit = || controls.iter().filter(|control| control.unit == setup[5]);
+    let of_unit = || controls.iter().filter(|control| control.unit == unit);
     if of_unit().next().is_none() {
         return Err(Way::UnitUnknown);
     }
-    let name = (setup[5], setup[2], setup[3]);
+    let all = channel == ALL_CHANNELS && selector != PIN_SELECTOR;
+    let asked = |control: &Control| {
+        (control.unit, control.selector) == (unit, selector) && (all || control.channel == channel)
+    };
+    let mut places: Vec<usize> =
+        (0..controls.len()).filter(|&place| asked(&controls[place])).collect();
+    places.sort_by_key(|&place| controls[place].channel);
     let all_pins = of_unit().all(|control| Holds::of(control.selector) == Some(Holds::Pin));
-    let way = if all_pins { Way::SelectorValue } else { Way::ControlUnknown };
-    controls.iter().position(|control| control.name() == name).ok_or(way)
+    match places.is_empty() {
+        false => Ok(places),
+        true if all_pins => Err(Way::SelectorValue),
+        true if all => Err(Way::ChannelsUnknown),
+        true => Err(Way::ControlUnknown),
+    }
 }
 
-/// Refusals 35 and 36.
-fn check_control(control: &Control, holds: Holds, asks: Asks) -> Result<(), Way> {
+/// Refusals 35 and 36: "36 if any is not loaded".
+fn check_controls(controls: &[Control], holds: Holds, asks: Asks) -> Result<(), Way> {
     let bound = matches!(asks, Asks::GetMin | Asks::GetMax | Asks::GetRes);
     match holds {
         Holds::YesNo if bound => Err(Way::UnrangedYesNo),
         Holds::Pin if bound => Err(Way::UnrangedPin),
-        Holds::Ranged(_) if !control.loaded => Err(Way::NotLoaded),
+        Holds::Ranged(_) if controls.iter().any(|control| !control.loaded) => Err(Way::NotLoaded),
         _ => Ok(()),
     }
 }
 
-/// Refusal 38, or what an accepted Set stores. The data is as long as the control's size.
+/// "The block holds the values from the lowest such channel up, each at its size".
+fn block(controls: &[Control], holds: Holds, asks: Asks) -> Vec<u8> {
+    let mut block = Vec::new();
+    for control in controls {
+        block.extend(&asks.number(control).to_le_bytes()[..holds.size()]);
+    }
+    block
+}
+
+/// Refusals "37 and 38 over the whole block", or what an accepted Set stores in these controls.
+fn values_to_store(
+    controls: &[Control],
+    holds: Holds,
+    length: usize,
+    data: &[u8],
+) -> Result<Vec<u16>, Way> {
+    let whole = controls.len() * holds.size();
+    if length != whole {
+        return Err(Way::SetLength);
+    }
+    if data.len() != whole {
+        return Err(Way::SetData);
+    }
+    let values = data.chunks(holds.size());
+    controls.iter().zip(values).map(|(one, value)| value_to_store(one, holds, value)).collect()
+}
+
+/// Refusal 38, or what an accepted Set stores in one control. The data is as long as its size.
 fn value_to_store(control: &Control, holds: Holds, data: &[u8]) -> Result<u16, Way> {
     let wire = data.iter().rev().fold(0, |so_far, &byte| so_far * 256 + u16::from(byte));
     match holds {
@@ -309,6 +348,55 @@ mod tests {
             assert_eq!(reply[..sent], [0, 1][..sent]);
             assert!(reply[sent..].iter().all(|&byte| byte == 7));
         }
+    }
+
+    /// Unit 2 with volume on channels 3, 0 and 16, which stand in this order, and mute on two.
+    fn channels_box() -> State {
+        let control =
+            |channel, selector| Control { unit: 2, channel, selector, ..Control::default() };
+        let pin = Control { unit: 3, pins: 2, cur: 1, ..Control::default() };
+        let controls =
+            [control(3, 2), control(1, 1), control(0, 2), pin, control(0, 1), control(16, 2)];
+        State { number: 4, table: Table::of(&controls).unwrap() }
+    }
+
+    fn load_channel(state: &mut State, channel: u8, min: u16, res: u16) {
+        let range = Load { name: (2, channel, 2), min, max: 0, res, cur: 0 };
+        assert_eq!(load(&mut state.table, &range), Ok(()));
+    }
+
+    #[test]
+    fn a_block_goes_by_channel_number() {
+        let mut state = channels_box();
+        load_channel(&mut state, 3, 0xFF00, 3);
+        load_channel(&mut state, 0, 0xFE00, 256);
+        load_channel(&mut state, 16, 0xFD00, 7);
+        let set = [0x21, 1, 255, 2, 4, 2, 6, 0];
+        let wanted = [0x7F, 0xFF, 0x00, 0x80, 0xFF, 0xFC];
+        assert_eq!(request(&mut state, &set, &wanted, &mut []), Ok(Reply::Set));
+        assert_eq!([2, 0, 5].map(|place| state.table.places[place].cur), [0xFF00, 0x8000, 0xFD00]);
+        let mut reply = [7; 5];
+        let get = [0xA1, 0x82, 255, 2, 4, 2, 5, 0];
+        assert_eq!(request(&mut state, &get, &[], &mut reply), Ok(Reply::Got(5)));
+        assert_eq!(reply, [0x00, 0xFE, 0x00, 0xFF, 0x00]);
+    }
+
+    #[test]
+    fn the_order_of_refusals_of_a_block() {
+        let mut state = channels_box();
+        let mut ask = |setup: &[u8], data: &[u8]| request(&mut state, setup, data, &mut [0; 1]);
+        assert_eq!(ask(&[0xA1, 0x84, 255, 1, 4, 9, 9, 9], &[]), Err(Way::UnitUnknown));
+        assert_eq!(ask(&[0xA1, 0x84, 255, 3, 4, 2, 9, 9], &[]), Err(Way::ChannelsUnknown));
+        assert_eq!(ask(&[0xA1, 0x84, 255, 0, 4, 2, 9, 9], &[]), Err(Way::ControlUnknown));
+        assert_eq!(ask(&[0xA1, 0x84, 255, 0, 4, 3, 9, 9], &[]), Err(Way::SelectorValue));
+        assert_eq!(ask(&[0xA1, 0x84, 255, 1, 4, 2, 9, 9], &[]), Err(Way::UnrangedYesNo));
+        assert_eq!(ask(&[0x21, 0x01, 255, 2, 4, 2, 9, 9], &[]), Err(Way::NotLoaded));
+        assert_eq!(ask(&[0x21, 0x01, 255, 1, 4, 2, 1, 0], &[9]), Err(Way::SetLength));
+        assert_eq!(ask(&[0x21, 0x01, 255, 1, 4, 2, 2, 0], &[9]), Err(Way::SetData));
+        assert_eq!(ask(&[0x21, 0x01, 255, 1, 4, 2, 2, 0], &[1, 9]), Err(Way::SetYesNo));
+        assert_eq!(ask(&[0xA1, 0x81, 255, 1, 4, 2, 2, 0], &[]), Err(Way::ReplyShort));
+        assert_eq!(ask(&[0xA1, 0x81, 255, 1, 4, 2, 1, 0], &[]), Ok(Reply::Got(1)));
+        assert_eq!(state, channels_box());
     }
 
     #[test]

@@ -1,4 +1,4 @@
-//! Every way in which document 01 names a refusal: the number it is given, and the words.
+//! Every way in which documents 01 and 02 name a refusal: its number, and the words.
 //!
 //! The programs print the number only. The generator counts the ways, so that a clause that no
 //! vector reaches is seen.
@@ -131,11 +131,12 @@ ways! {
     InterfaceNumber = 32, "wIndex low byte is not the AudioControl number";
     UnitUnknown = 33, "wIndex high byte is no unit with controls";
     ControlUnknown = 34, "no such control of a Feature Unit";
+    ChannelsUnknown = 34, "no channel of a Feature Unit has it";
     SelectorValue = 34, "wValue is not 0 for a Selector";
     UnrangedYesNo = 35, "MIN, MAX, RES of a yes/no";
     UnrangedPin = 35, "MIN, MAX, RES of a Selector";
-    NotLoaded = 36, "ranged control not loaded";
-    SetLength = 37, "Set: wLength is not the control's size";
+    NotLoaded = 36, "an addressed ranged control is not loaded";
+    SetLength = 37, "Set: wLength is not the size of the addressed controls together";
     SetData = 37, "Set data is not that long";
     SetYesNo = 38, "Set of a yes/no to other than 0, 1";
     SetPinZero = 38, "Set of a Selector below its pins";

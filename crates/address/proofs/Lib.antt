@@ -1,1 +1,1 @@
-mod Looking
+mod Seeking

@@ -1,3 +1,4 @@
-pub mod LookedUp
 pub mod Addressed
+pub mod AddressedLaws
 pub mod Sought
+pub mod Seats

@@ -1,119 +1,136 @@
-// Who is addressed (document 01, refusals 33 and 34): where the control that a request names stands in a table, or whether not even
-// its unit has one; and both of a request's first questions, refusal 30 and that, in one. What this crate promises to the layer
-// above: each function answers, for every table whatever, as the definitions of specs/ say.
+// Who is addressed (document 01, refusals 33 and 34; document 02, No. 2): where the controls that a request names stand in the table, from
+// the lowest channel up, or what is missing; with refusal 30 in one. What this crate promises to the layer above: for every table, unit,
+// channel and selector whatever, what specs/Sought.antt says.
 ghost use mathlib.Core.Path.{_≡_};
-ghost use Rattle.address.specs.LookedUp.{sawUnit, missingBy, lookedUp};
-ghost use Rattle.address.specs.Sought.{soughtIn};
+ghost use Prim.Native.Nat.{_+_, _<_};
+ghost use lib.Dec.{ltb};
+ghost use Rattle.ground.specs.Pick.{pick};
+ghost use Rattle.table.specs.Controls.{mostControls};
+ghost use Rattle.address.specs.Addressed.{mostAddressed, wantsChannel};
+ghost use Rattle.address.specs.AddressedLaws.{isNamed};
+ghost use Rattle.address.specs.Sought.{missingBy, noneSought, toldOf, soughtIn};
+ghost use Rattle.address.specs.Seats.{seatedIn};
 use table::Control;
 use table::Table;
 
-// Where a control stands in a table, or whether its unit has any.
-pub enum Lookup {
-    NoUnit,
-    NoControl,
-    At(usize),
+// How many controls one request may address: the master's and those of sixteen channels.
+pub const MOST: usize = 17;
+
+// What a request asks of a table: 30, 33 or 34 where the table is none, or the unit or the control is missing; else 0. The addressed
+// controls stand at the first `count` of `places`, from the lowest channel up; the rest are 0.
+pub struct Sought {
+    pub number: u8,
+    pub count: usize,
+    pub places: [u8; MOST],
 }
 
-// What a request asks of a table: whether refusal 30 has something against it, and else the same, with the control itself.
-pub enum Sought {
-    Unsound,
-    NoUnit,
-    NoControl,
-    At(usize, Control),
-}
-
-// Whether a unit's control was seen by now.
-fn saw(seen: bool, control: Control, unit: u8) -> bool
-    ensures { λ r. ⌜ r ≡ sawUnit seen unit control ⌝ }
+// No control is addressed, for the reason of this number.
+fn none(number: u8) -> Sought
+    ensures { λ r. ⌜ r ≡ noneSought number ⌝ }
 {
-    if seen {
+    let places = [0u8; MOST];
+    Sought {
+        number,
+        count: 0,
+        places,
+    }
+}
+
+// What is missing where so many controls are addressed, and the unit has controls or none.
+fn missing(owned: bool, count: usize) -> u8
+    ensures { λ r. ⌜ r ≡ pick (ltb 0 count) 0 (missingBy owned) ⌝ }
+{
+    if 0 < count {
+        return 0;
+    }
+    if owned {
+        return 34;
+    }
+    33
+}
+
+// Whether a request of this channel and selector is about a control of that selector on the channel `of`.
+fn wants(channel: u8, selector: u8, of: u8) -> bool
+    ensures { λ r. ⌜ r ≡ wantsChannel channel selector of ⌝ }
+{
+    if of == channel {
         return true;
     }
-    control.unit == unit
-}
-
-// What is missing where no control was found.
-fn missing(seen: bool) -> Lookup
-    ensures { λ r. ⌜ r ≡ missingBy seen ⌝ }
-{
-    if seen {
-        Lookup::NoControl
-    } else {
-        Lookup::NoUnit
+    if selector == 0 {
+        return false;
     }
+    channel == 255
 }
 
-// Where the control of this unit, channel and selector stands, or whether not even the unit has a control. One pass.
-pub fn look_up(table: Table, unit: u8, channel: u8, selector: u8) -> Lookup
-    ensures { λ r. ⌜ r ≡ lookedUp table unit channel selector ⌝ }
+// The seat of a control's channel, with the control looked at: one more than its index where it is addressed, and else what it was.
+fn seated(seat: u8, index: usize, control: Control, unit: u8, channel: u8, selector: u8) -> u8
+    requires { ⌜ index < mostControls ⌝ }
+    ensures { λ r. ⌜ r ≡ pick (isNamed unit channel selector control) (index + 1) seat ⌝ }
 {
-    let count = table.count;
-    let mut seen = false;
-    let mut index = 0;
-    while index < table::CONTROLS {
-        if count <= index {
-            return missing(seen);
+    if control.unit != unit {
+        return seat;
+    }
+    if control.selector != selector {
+        return seat;
+    }
+    if wants(channel, selector, control.channel) {
+        return (index + 1) as u8;
+    }
+    seat
+}
+
+// What the seats tell of a unit that has controls or none: the indices from the lowest channel up, or what is missing.
+fn told(seats: &[u8; MOST], owned: bool) -> Sought
+    ensures { λ r. ⌜ r ≡ toldOf owned (seatedIn (now (seats .entry)) mostAddressed) ⌝ }
+{
+    let mut places = [0u8; MOST];
+    let mut count = 0;
+    let mut of = 0;
+    while of < MOST {
+        let seat = seats[of];
+        if 0 < seat {
+            places[count] = seat - 1;
+            count += 1;
         }
-        let control = table.controls[index];
-        if table::answers(control, unit, channel, selector) {
-            return Lookup::At(index);
-        }
-        seen = saw(seen, control, unit);
-        index += 1;
+        of += 1;
     }
-    missing(seen)
-}
-
-// As `seek`, for a table in any order.
-fn seek_slowly(table: Table, unit: u8, channel: u8, selector: u8) -> Sought
-    ensures { λ r. ⌜ r ≡ soughtIn table unit channel selector ⌝ }
-{
-    if !sound::sound_any_order(table) {
-        return Sought::Unsound;
-    }
-    match look_up(table, unit, channel, selector) {
-        Lookup::NoUnit => Sought::NoUnit,
-        Lookup::NoControl => Sought::NoControl,
-        Lookup::At(index) => Sought::At(index, table::control_at(table, index)),
+    let number = missing(owned, count);
+    Sought {
+        number,
+        count,
+        places,
     }
 }
 
-// Whether refusal 30 has nothing against the table, as `sound` asks, and then where the control stands, as `look_up` does: both
-// loops in one function, so that the table is not copied for each.
+// Whether refusal 30 has nothing against the table, as `sound` asks, and then who is addressed. One pass for both, so that the table is
+// not copied for each: tops has one more than each unit's last key, so 0 for a unit with no control; seats has one more than the index of
+// each channel's addressed control, so that these come out by channel, whatever the order of the table.
 pub fn seek(table: Table, unit: u8, channel: u8, selector: u8) -> Sought
     ensures { λ r. ⌜ r ≡ soughtIn table unit channel selector ⌝ }
 {
-    let count = table.count;
-    if table::CONTROLS < count {
-        return Sought::Unsound;
+    if table::CONTROLS < table.count {
+        return none(30);
     }
     let mut tops = [0u32; 256];
+    let mut seats = [0u8; MOST];
+    let mut rising = true;
     let mut index = 0;
-    while index < count {
+    while index < table.count {
         let control = table.controls[index];
         if !single::sound_control(control) {
-            return Sought::Unsound;
+            return none(30);
         }
         let own = ground::index_of(control.unit);
         let key = sound::key_of(control);
-        if key < tops[own] {
-            return seek_slowly(table, unit, channel, selector);
-        }
+        rising = rising & (tops[own] <= key);
         tops[own] = key + 1;
+        let of = ground::index_of(control.channel);
+        seats[of] = seated(seats[of], index, control, unit, channel, selector);
         index += 1;
     }
-    let mut seen = false;
-    let mut next = 0;
-    while next < count {
-        let here = table.controls[next];
-        if table::answers(here, unit, channel, selector) {
-            return Sought::At(next, here);
-        }
-        seen = saw(seen, here, unit);
-        next += 1;
+    if !rising && !sound::sound_any_order(table) {
+        return none(30);
     }
-    if seen {
-        return Sought::NoControl;
-    }
-    Sought::NoUnit
+    let own = ground::index_of(unit);
+    told(&seats, 0 < tops[own])
 }

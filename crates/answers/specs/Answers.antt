@@ -1,10 +1,13 @@
 -- A Set and a Get of the controls that they address, in their order: rows 35 to 39, each of the whole list.
 --   heldBy c, sizeIn c     ==  what the control holds, and how many bytes its value has; sizesOf cs: those of all together
 --   sentTo c d, restOf c d ==  the number that is sent to the first of the controls, c; the data of those behind it
+--   setAsks c d, setTo c d ==  what a Set asks of the control c, to which the front of the data d is sent, and c as it leaves it
+--   getAsks part c         ==  what a Get of that part asks of it
 --   allTake cs d           ==  each control takes the number that is sent to it
 --   allSet cs d            ==  each control with what is stored for that number
 --   blockOf part cs        ==  the bytes of that part of each control, one after another, each at its size
 --   misfits cs n d         ==  37, of a Set: "wLength is not the control's size, or Set data is not that long"
+--   setNumber u t z n l, getNumber k u z room  ==  the rows in their order, from what each asks of all controls together; 0 where none is given
 --   setOf cs n d           ==  36, 37, 38, or the controls as the Set leaves them; n is wLength
 --   cutTo n part cs        ==  the bytes to be sent: "the first wLength bytes of the value, or all of it if wLength is larger"
 --   getOf part cs n room   ==  35, 36, 39: "the reply buffer is shorter than the bytes to be sent", or those bytes; room is the reply's length
@@ -21,6 +24,8 @@ use Rattle.table.specs.Controls.{senseOf, sizeOf}
 use Rattle.setup.specs.declared.Part.{Part}
 use Rattle.deed.specs.Doing.{Doing, lowFirst}
 use Rattle.deed.specs.Doing.Doing.{denied, given, changed}
+use Rattle.answers.specs.declared.SetAsks.{SetAsks}
+use Rattle.answers.specs.declared.GetAsks.{GetAsks}
 use Rattle.answers.specs.Held.{lacking, partOf, unready, valueIn, takes, storedFor, withCur}
 
 abbrev pub heldBy : Control → Sense
@@ -28,6 +33,15 @@ heldBy c = senseOf (c .selector)
 
 abbrev pub sizeIn : Control → ℕ
 sizeIn c = sizeOf (heldBy c)
+
+abbrev pub setAsks : Control → List ℕ → SetAsks
+setAsks c d = record { unready = unready (heldBy c) c; taken = takes (heldBy c) c (valueIn (take (sizeIn c) d)); size = sizeIn c }
+
+abbrev pub setTo : Control → List ℕ → Control
+setTo c d = withCur (storedFor (heldBy c) c (valueIn (take (sizeIn c) d))) c
+
+abbrev pub getAsks : Part → Control → GetAsks
+getAsks part c = record { lacking = lacking (heldBy c) part; unready = unready (heldBy c) c; size = sizeIn c }
 
 unfoldable pub sizesOf : List Control → ℕ
 sizesOf [] = 0
@@ -45,7 +59,7 @@ allTake (c ∷ cs) d = takes (heldBy c) c (sentTo c d) && allTake cs (restOf c d
 
 unfoldable pub allSet : List Control → List ℕ → List Control
 allSet [] d = []
-allSet (c ∷ cs) d = withCur (storedFor (heldBy c) c (sentTo c d)) c ∷ allSet cs (restOf c d)
+allSet (c ∷ cs) d = setTo c d ∷ allSet cs (restOf c d)
 
 unfoldable pub blockOf : Part → List Control → List ℕ
 blockOf part [] = []
@@ -53,6 +67,12 @@ blockOf part (c ∷ cs) = lowFirst (sizeIn c) (partOf part c) ++ blockOf part cs
 
 abbrev pub misfits : List Control → ℕ → List ℕ → Bool
 misfits cs n d = not (eqb n (sizesOf cs)) || not (eqb (length d) (sizesOf cs))
+
+unfoldable pub setNumber : Bool → Bool → ℕ → ℕ → ℕ → ℕ
+setNumber u t z n l = pick u 36 (pick (not (eqb n z) || not (eqb l z)) 37 (pick t 0 38))
+
+unfoldable pub getNumber : Bool → Bool → ℕ → ℕ → ℕ
+getNumber k u z room = pick k 35 (pick u 36 (pick (ltb room z) 39 0))
 
 unfoldable pub setOf : List Control → ℕ → List ℕ → Doing
 setOf cs n d =

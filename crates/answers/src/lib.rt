@@ -1,14 +1,12 @@
-// What a Set and a Get come to at the control that they address (document 01, rows 35 to 39). What this crate promises to the layer
-// above: for every control, wLength, data and reply whatever, what specs/Answers.antt says of a list of that one control.
+// What a Set and a Get ask of each control that they address, and what they do to it (document 01, rows 35 to 39; document 02, Nos. 1 and
+// 2). What this crate promises to the layer above: for every control and data whatever, what specs/Answers.antt says of one control; there
+// too stands what a Set and a Get come to at several.
 ghost use mathlib.Core.Path.{_≡_};
-ghost use mathlib.Core.List.{[], _∷_};
-ghost use Prim.Native.Nat.{_≤_, min};
-ghost use lib.ListN.{length};
-ghost use Rattle.deed.specs.Doing.{lowFirst, deedOf, Written, Done};
-ghost use Rattle.answers.specs.Held.{isRanged, ofRange, lacking, partOf, unready, takes, storedFor};
-ghost use Rattle.answers.specs.Answers.{setOf, getOf};
-use deed::Deed;
-use deed::idle;
+ghost use Prim.Native.Nat.{min};
+ghost use lib.ListN.{take, drop};
+ghost use Rattle.table.specs.Controls.{sizeOf};
+ghost use Rattle.answers.specs.Held.{isRanged, ofRange, lacking, partOf, unready, valueIn, takes, storedFor, withCur};
+ghost use Rattle.answers.specs.Answers.{sizeIn, setAsks, setTo, setNumber, getAsks, getNumber};
 use scan::word_at;
 use setting::Range;
 use setup::Part;
@@ -48,7 +46,8 @@ fn lacks(held: Sense, part: Part) -> bool
     !is_ranged(held)
 }
 
-fn part_of(part: Part, control: Control) -> u16
+// The number that a part of the control is.
+pub fn part_of(part: Part, control: Control) -> u16
     ensures { λ r. ⌜ r ≡ partOf part control ⌝ }
 {
     match part {
@@ -105,77 +104,125 @@ fn stored_for(held: Sense, control: Control, wanted: u16) -> u16
     }
 }
 
-// A Set of the control: 36, 37, 38, or its new value.
-pub fn set_on(control: Control, bytes: u16, data: &[u8]) -> Deed
-    ensures { λ r. ⌜ r ≡ deedOf control (setOf (control ∷ []) bytes (now («data» .entry))) ⌝ }
+// The number that the data send to a control that holds this: as many bytes as its value has, from this place on.
+fn sent_at(held: Sense, data: &[u8], at: usize) -> u16
+    ensures { λ r. ⌜ r ≡ valueIn (take (sizeOf held) (drop at (now («data» .entry)))) ⌝ }
+{
+    if table::size(held) == 1 {
+        return scan::byte_at(data, at) as u16;
+    }
+    word_at(data, at)
+}
+
+fn with_cur(control: Control, cur: u16) -> Control
+    ensures { λ r. ⌜ r ≡ withCur cur control ⌝ }
+{
+    let mut changed = control;
+    changed.cur = cur;
+    changed
+}
+
+// What the rows 36 to 38 ask of a control that a Set addresses, where its bytes begin at this place of the data.
+pub struct SetAsks {
+    pub unready: bool,
+    pub taken: bool,
+    pub size: usize,
+}
+
+pub fn set_asks(control: Control, data: &[u8], at: usize) -> SetAsks
+    ensures { λ r. ⌜ r ≡ setAsks control (drop at (now («data» .entry))) ⌝ }
 {
     let held = table::sense_of(control.selector);
-    if is_unready(held, control) {
-        return idle(36, control);
-    }
+    let wanted = sent_at(held, data, at);
+    let unready = is_unready(held, control);
+    let taken = takes_number(held, control, wanted);
     let size = table::size(held);
+    SetAsks {
+        unready,
+        taken,
+        size,
+    }
+}
+
+// The control as a Set leaves it.
+pub fn set_to(control: Control, data: &[u8], at: usize) -> Control
+    ensures { λ r. ⌜ r ≡ setTo control (drop at (now («data» .entry))) ⌝ }
+{
+    let held = table::sense_of(control.selector);
+    let wanted = sent_at(held, data, at);
+    with_cur(control, stored_for(held, control, wanted))
+}
+
+// The refusal of a Set, 36, 37 or 38, or 0: of all its controls together, whose values have so many bytes, with this wLength and so much data.
+pub fn set_number(unready: bool, taken: bool, size: usize, bytes: u16, long: usize) -> u8
+    ensures { λ r. ⌜ r ≡ setNumber unready taken size bytes long ⌝ }
+{
+    if unready {
+        return 36;
+    }
     if bytes as usize != size {
-        return idle(37, control);
+        return 37;
     }
-    if data.len() != size {
-        return idle(37, control);
+    if long != size {
+        return 37;
     }
-    let wanted = word_at(data, 0);
-    if !takes_number(held, control, wanted) {
-        return idle(38, control);
+    if !taken {
+        return 38;
     }
-    let mut changed = control;
-    changed.cur = stored_for(held, control, wanted);
-    idle(0, changed)
+    0
+}
+
+// What the rows 35, 36 and 39 ask of a control that a Get addresses.
+pub struct GetAsks {
+    pub lacking: bool,
+    pub unready: bool,
+    pub size: usize,
+}
+
+pub fn get_asks(control: Control, part: Part) -> GetAsks
+    ensures { λ r. ⌜ r ≡ getAsks part control ⌝ }
+{
+    let held = table::sense_of(control.selector);
+    let lacking = lacks(held, part);
+    let unready = is_unready(held, control);
+    let size = table::size(held);
+    GetAsks {
+        lacking,
+        unready,
+        size,
+    }
+}
+
+// The refusal of a Get, 35, 36 or 39, or 0: of all its controls together, of which so many bytes are sent to a reply with this room.
+pub fn get_number(lacking: bool, unready: bool, sent: usize, room: usize) -> u8
+    ensures { λ r. ⌜ r ≡ getNumber lacking unready sent room ⌝ }
+{
+    if lacking {
+        return 35;
+    }
+    if unready {
+        return 36;
+    }
+    if room < sent {
+        return 39;
+    }
+    0
+}
+
+// How many bytes the control's value has.
+pub fn size_of(control: Control) -> usize
+    ensures { λ r. ⌜ r ≡ sizeIn control ⌝ }
+{
+    table::size(table::sense_of(control.selector))
 }
 
 // How many bytes a Get sends: wLength, or all where that is more.
-fn sent_of(bytes: u16, size: usize) -> usize
+pub fn sent_of(bytes: u16, size: usize) -> usize
     ensures { λ r. ⌜ r ≡ min bytes size ⌝ }
 {
     if (bytes as usize) < size {
         bytes as usize
     } else {
         size
-    }
-}
-
-// Writes the first bytes of a value, the low one first, to the front of the reply, and answers how many.
-fn write(value: u16, count: usize, reply: &mut [u8]) -> usize
-    requires { ⌜ (count ≤ length (now reply)) × (count ≤ 2) ⌝ }
-    ensures { λ r. ⌜ Written (lowFirst count value) (now (reply .entry)) r (now (reply .exit)) ⌝ }
-{
-    if count == 0 {
-        return 0;
-    }
-    reply[0] = (value % 256) as u8;
-    if count == 1 {
-        return 1;
-    }
-    reply[1] = (value / 256) as u8;
-    2
-}
-
-// A Get of the control: 35, 36, 39, or its bytes are written.
-pub fn get_on(control: Control, part: Part, bytes: u16, reply: &mut [u8]) -> Deed
-    ensures { λ r. ⌜ Done control (getOf part (control ∷ []) bytes (length (now (reply .entry)))) (now (reply .entry)) r (now (reply .exit)) ⌝ }
-{
-    let held = table::sense_of(control.selector);
-    if lacks(held, part) {
-        return idle(35, control);
-    }
-    if is_unready(held, control) {
-        return idle(36, control);
-    }
-    let size = table::size(held);
-    let count = sent_of(bytes, size);
-    if reply.len() < count {
-        return idle(39, control);
-    }
-    let written = write(part_of(part, control), count, reply);
-    Deed {
-        number: 0,
-        written,
-        control,
     }
 }

@@ -2,19 +2,22 @@
 --   Doing            ==  denied n: refusal n; given bytes: a Get answered with these bytes; changed cs: the controls, in the same order,
 --                        as a load or a Set leaves them
 --   bytesIn o        ==  the bytes written: "An accepted Get writes its bytes", and nothing else writes any
---   laid bytes b     ==  the buffer b with the bytes at its front
+--   laid x b         ==  the buffer b with x at its front; laid-long: b's length; laid-front: b, where x is b's own front;
+--                        laid-set, laid-behind: one element, or some, more
 --   lowFirst n x     ==  the n bytes of the number x, "low first"; low-first-long: so many they are; low-first-cut: the first of them
 --   Written w b n a  ==  the bytes w were written to the front of the buffer b, which is a then, and n is how many they are
 --   idleDeed n c     ==  number n, no byte written, and the control c
 --   deedOf c o       ==  what is told of the one control c where o is done
 --   OfOne o          ==  o is what may be done at one control; of-either: so is a choice between two such
 --   Done c o b r a   ==  r tells it, and b, the reply at entry, is a at exit
-use Prim.Native.Nat.{ℕ, zero, suc, min, _%_, _/_}
-use mathlib.Core.Path.{_≡_, refl, ap}
+use Prim.Native.Nat.{ℕ, zero, suc, min, _≤_, _<_, _%_, _/_}
+use mathlib.Core.Path.{_≡_, refl, ap, _∙_}
 use mathlib.Core.List.{List, [], _∷_, _++_}
 use mathlib.Core.Bool.{Bool, true, false}
-use native.Mathlib.Nat.{zero-min, min-zero, suc-min-suc}
-use lib.ListN.{length, take, drop}
+use native.Mathlib.Nat.{zero-min, min-zero, suc-min-suc, le-of-suc-le-suc}
+use native.Mathlib.Omega.{arith}
+use lib.ListN.{length, take, drop, set, length-append, length-drop, take-append-drop}
+use lib.Seq.{length-take-le, take-append-seam, drop-append-add, drop-drop}
 use Rattle.ground.specs.Pick.{pick}
 use Rattle.table.specs.declared.Control.{Control}
 use Rattle.deed.specs.declared.Deed.{Deed}
@@ -29,8 +32,24 @@ bytesIn (denied n) = []
 bytesIn (given bytes) = bytes
 bytesIn (changed cs) = []
 
-abbrev pub laid : List ℕ → List ℕ → List ℕ
-laid bytes b = bytes ++ drop (length bytes) b
+abbrev pub laid : {A : Type 0} → List A → List A → List A
+laid x b = x ++ drop (length x) b
+
+pub laid-long : {A : Type 0} (x b : List A) → length x ≤ length b → length (laid x b) ≡ length b
+laid-long x b h = let k = length-append x (drop (length x) b) in let n = length-drop (length x) b in omega arith
+
+pub laid-front : {A : Type 0} (n : ℕ) (b : List A) → n ≤ length b → laid (take n b) b ≡ b
+laid-front n b h = ap (λ (k : ℕ). take n b ++ drop k b) (length-take-le n b h) ∙ take-append-drop n b
+
+pub laid-set : {A : Type 0} (x b : List A) (y : A) → length x < length b → set (laid x b) (length x) y ≡ laid (x ++ y ∷ []) b
+laid-set [] [] y h = absurd (omega arith)
+laid-set [] (a ∷ b) y h = refl
+laid-set (z ∷ x) [] y h = absurd (omega arith)
+laid-set (z ∷ x) (a ∷ b) y h = ap (λ l. z ∷ l) (laid-set x b y (le-of-suc-le-suc h))
+
+pub laid-behind : {A : Type 0} (x w b : List A) → laid (take (length x) (laid x b) ++ w) (laid x b) ≡ laid (x ++ w) b
+laid-behind x w b =
+    rw (take-append-seam x (drop (length x) b), length-append x w, drop-append-add x (drop (length x) b) (length w), drop-drop (length w) (length x) b)
 
 unfoldable pub lowFirst : ℕ → ℕ → List ℕ
 lowFirst zero x = []

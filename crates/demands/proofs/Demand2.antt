@@ -14,6 +14,7 @@ use Rattle.runs.specs.Runs.{Step, after, Wired}
 use Rattle.runs.proofs.Alone.{alone, run-interface, run-sound}
 use Rattle.runs.proofs.Answers.{next-get, get-keeps, next-set, set-silent, next-load, get-answers}
 use Rattle.runs.proofs.Moved.{whole-run}
+use Rattle.runs.proofs.InTurn.{in-turn}
 use Rattle.runs.proofs.Rows.{step-rows}
 use Rattle.demands.specs.Demand2.{EveryRun, Demand2}
 
@@ -31,6 +32,7 @@ runs-so st h run w =
       next-load = next-load (after st run) s;
       alone = alone (after st run);
       stored = λ k i f. whole-run st k i run h f w;
+      together = λ setup d room b q i cs a n. in-turn (after st run) s setup d room q i cs a n b;
       gets = get-answers st run h w;
     }
 

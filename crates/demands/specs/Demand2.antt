@@ -1,14 +1,16 @@
 -- Demand 2: "Reading equals the Audio 1.0 class definition as document 01 narrows it. After every run of loads and requests each answer is
 -- the one its definition gives: a Get returns the addressed control, an accepted Set stores the closest available setting (silence as
--- itself), and changes that control alone." What the reading is stands in Demand3; here are the runs that begin with a plug-in.
+-- itself), and changes that control alone." (Document 02, No. 2: "the addressed control" reads as "the addressed controls".) What the
+-- reading is stands in Demand3; here are the runs that begin with a plug-in.
 --   now-is st run   ==  the state that the run leaves; Accepted st run step: the next step is accepted in it
 --   EveryRun st run ==  what is true of every run of loads and requests from the state st. Refusal 30 has nothing against the table it
 --                       leaves, and the AudioControl number is what it was. Of the next step: it has the number of the first row of
 --                       the papers' table that applies, 0 where none does; an accepted Get returns the first wLength bytes of the
---                       addressed control's, and no Get changes the table; an accepted Set stores the closest available setting of
---                       it, and no Set writes to the reply; an accepted load stores the range and that; and every other control is
---                       as it was. Over the whole run: each control is what its last accepted load and Set made it, and so each
---                       accepted Get is answered
+--                       addressed controls', and no Get changes the table; an accepted Set stores in each the closest available
+--                       setting to its own value, and no Set writes to the reply; an accepted load stores the range and that; every
+--                       other control is as it was; and a request of several controls is the single requests one after another.
+--                       Over the whole run: each control is what its last accepted load and Set made it, and so each accepted Get
+--                       is answered
 --   Demand2         ==  whatever is plugged in, the table is as document 01 has it before any load: first values, nothing loaded, spare
 --                       places zero; and all that is true of every run from that state whose data are bytes (Wired), as every lent
 --                       slice's are
@@ -16,17 +18,20 @@ use Prim.Native.Nat.{ℕ}
 use mathlib.Core.Path.{_≡_}
 use mathlib.Core.List.{List, []}
 use Rattle.setting.specs.declared.Range.{Range}
+use Rattle.ground.specs.Numbers.{byte}
+use Rattle.table.specs.declared.Control.{Control}
 use Rattle.table.specs.Keys.{Key, StandsAt}
 use Rattle.sound.specs.Meaning.{Sound}
 use Rattle.sound.specs.Fresh.{Fresh}
-use Rattle.setup.specs.Setup.{AsksSet, AsksGet}
+use Rattle.setup.specs.Setup.{AsksSet, AsksGet, WellAsked}
 use Rattle.request.specs.declared.State.{State}
 use Rattle.request.specs.declared.Plugged.{Plugged}
 use Rattle.request.specs.Outcome.{numberOf, bytesOf}
 use Rattle.request.specs.Plugged.{PluggedIn}
-use Rattle.runs.specs.Runs.{Step, stepOf, next, after, stepKey, rangesIn, numbersIn, told, Bytes, Wired}
+use Rattle.runs.specs.Runs.{Step, stepOf, next, after, rangesIn, numbersIn, told, Bytes, Wired}
 use Rattle.runs.specs.Runs.Step.{load, request}
-use Rattle.runs.specs.RequestRows.{stepRows}
+use Rattle.runs.specs.RequestRows.{Addressed, stepRows}
+use Rattle.runs.specs.InTurn.{InTurn}
 use Rattle.runs.specs.Promises.{GetGiven, SetStored, LoadStored, Alone, Moved, Answers}
 
 module _ (st : State) (run : List Step) where
@@ -49,9 +54,11 @@ module _ (st : State) (run : List Step) where
     pub set-silent : (setup «data» : List ℕ) (room : ℕ) → AsksSet setup → bytesOf (stepOf now-is (request setup «data» room)) ≡ []
     pub next-load : (k : Key) (range : Range) (w : ℕ) → Accepted (load k range w)
         → LoadStored (now-is .table) k range w (next now-is (load k range w) .table)
-    pub alone : (step : Step) → Alone (now-is .table) (stepKey step) (next now-is step .table)
+    pub alone : (step : Step) → Alone (now-is .table) step (next now-is step .table)
     pub stored : (k : Key) (i : ℕ) → StandsAt (st .table) k i
         → Moved (st .table) k i (told (rangesIn k) st run) (told (numbersIn k) st run) (now-is .table)
+    pub together : (setup «data» : List ℕ) (room : ℕ) → Bytes «data» → WellAsked setup → byte setup 4 ≡ now-is .control
+        → (cs : List Control) → Addressed (now-is .table) setup cs → (cs ≡ [] → ⊥) → InTurn now-is setup «data» room cs
     pub gets : (setup «data» : List ℕ) (room : ℕ) → AsksGet setup → Accepted (request setup «data» room)
         → Answers st run setup (bytesOf (stepOf now-is (request setup «data» room)))
 

@@ -17,11 +17,12 @@
 --   split-inside, split-front, split-here  ==  of a list that is x, then a, then y: x's length is an index of it, before which x stands and
 --              at which a stands
 --   take-in    ==  an element of a list's first elements is one of the list
+--   take-least ==  there are no more elements to be taken than the list has; take-append: those of two lists in a row
 --   total-one  ==  the lengths of the parts up to an index, and that part's own
 --   total-rises  ==  where each part has an element, more parts are longer together
 --   pad-length, pad-blank, pad-at, pad-front  ==  how many places; all of them spare; one of them; the taken ones
 --   pad-set    ==  filling the next spare place; past the last place nothing changes
-use Prim.Native.Nat.{ℕ, zero, suc, _+_, _-_, _≤_, _<_}
+use Prim.Native.Nat.{ℕ, zero, suc, _+_, _-_, _≤_, _<_, min}
 use mathlib.Core.Path.{_≡_, refl, sym, ap, _∙_}
 use mathlib.Core.Bool.{Bool, true, false, _||_, or-false, or-assoc}
 use mathlib.Core.List.{List, [], _∷_, _++_, flatten, append-assoc, List·Memᴰ, List·Memᴰ·head, List·Memᴰ·tail, List·Memᴰ·not-nil, List·Memᴰ·cases-cons, Memᴰ·append-right, nil≢cons, head-eq-of-cons-eq, tail-eq-of-cons-eq}
@@ -31,7 +32,7 @@ use lib.Seq.{take-add, take-nil, take-suc, take-append-seam, getD-append-seam, d
 use lib.Dec.{ltb}
 use borrow.Author.Tests.{ltb-true, ltb-false}
 use native.Mathlib.Omega.{arith}
-use native.Mathlib.Nat.{le-of-suc-le-suc}
+use native.Mathlib.Nat.{le-of-suc-le-suc, zero-min, min-zero, suc-min-suc, sub-zero, zero-sub, suc-sub-suc}
 use Rattle.ground.specs.Pick.{Reads, true≠false}
 
 abbrev pub part : List ℕ → ℕ → ℕ → List ℕ
@@ -148,6 +149,16 @@ pub take-in : {A : Type 0} (k : ℕ) {l : List A} {x : A} → List·Memᴰ x (ta
 take-in zero m = absurd (List·Memᴰ·not-nil m)
 take-in (suc k) {l = []} m = m
 take-in (suc k) {l = y ∷ l} m = ⊎-elim (λ e. List·Memᴰ·head e) (λ r. List·Memᴰ·tail (take-in k r)) (List·Memᴰ·cases-cons m)
+
+pub take-least : {A : Type 0} (n : ℕ) (l : List A) → take (min n (length l)) l ≡ take n l
+take-least zero l = rw (zero-min (length l))
+take-least (suc n) [] = rw (min-zero (suc n))
+take-least (suc n) (x ∷ l) = rw (suc-min-suc n (length l), take-least n l)
+
+pub take-append : {A : Type 0} (n : ℕ) (x y : List A) → take n (x ++ y) ≡ take n x ++ take (n - length x) y
+take-append {A} n [] y = rw (sub-zero n, take-nil {A = A} n)
+take-append zero (a ∷ x) y = rw (zero-sub (suc (length x)))
+take-append (suc n) (a ∷ x) y = rw (suc-sub-suc n (length x), take-append n x y)
 
 pub total-one : (ds : List (List ℕ)) (i : ℕ) → i < length ds → total (take (suc i) ds) ≡ total (take i ds) + length (getD ds i [])
 unfolding total

@@ -1,2 +1,3 @@
 mod Searched
-mod Stored
+mod Storing
+mod Passing

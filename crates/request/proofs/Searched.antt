@@ -1,91 +1,87 @@
--- What each answer of the search says of the table.
---   There t u ch s p c  ==  30 has nothing against the table, and c is the addressed control, at index p
---   Missed t u ch s b   ==  30 has nothing against it, and no control is addressed; b tells whether the unit has any
---   is-unsound, is-missed-unit, is-missed-control, is-there  ==  so it is, from the answer
-use Prim.Native.Nat.{ℕ}
+-- What the answer of the search says of the table.
+--   is-unsound, is-sound  ==  30, or 30 has nothing against the table
+--   is-missed  ==  .. and no control is addressed, which is 33 or 34
+--   is-there   ==  .. and the places are those of the addressed controls, of which there are some; is-seated: which are as they should be
+use Prim.Native.Nat.{ℕ, _≤_, _<_}
 use mathlib.Core.Path.{_≡_, refl, sym, ap, _∙_}
+use mathlib.Core.List.{List, [], _∷_, List·Memᴰ}
 use mathlib.Core.Bool.{Bool, true, false}
 use native.Mathlib.Omega.{arith}
-use Rattle.table.specs.declared.Control.{Control}
+use lib.ListN.{length, take}
+use borrow.Author.Tests.{lt-ltb}
+use Rattle.ground.specs.Pick.{pick, yes, no}
+use Rattle.ground.specs.Lists.{pad-front}
 use Rattle.table.specs.declared.Table.{Table}
-use Rattle.table.specs.First.{Seat, foundIn}
-use Rattle.table.specs.First.Seat.{absent, seat}
-use Rattle.address.specs.declared.Lookup.the-variants as lookup
-use Rattle.address.specs.declared.Sought.{Sought}
-use Rattle.address.specs.declared.Sought.the-variants as sought
-use Rattle.table.specs.Controls.{at}
-use Rattle.address.specs.LookedUp.{unitIn, lookupBy, lookedUp}
+use Rattle.table.specs.Controls.{mostControls, at}
 use Rattle.sound.specs.Sound.{soundOf}
-use Rattle.address.specs.Sought.{soughtIn, Standing, against, no-unit, no-control, stands, standing}
+use Rattle.sound.specs.Meaning.{sound-reads}
+use Rattle.address.specs.declared.Sought.{Sought}
+use Rattle.address.specs.Addressed.{mostAddressed, addressedIn, unitIn}
+use Rattle.address.specs.AddressedLaws.{addressed-named, addressed-few, addressed-rising, Upward, none, more}
+use Rattle.address.specs.Sought.{missingBy, noneSought, soughtFor, soughtIn}
+use Rattle.request.specs.Stored.{placesIn, Apart, alone, apart, Seated}
 
-pub record There (t : Table) (u ch s p : ℕ) (c : Control) : Type 0 where
-  pub sound : soundOf t ≡ true
-  pub found : foundIn t u ch s ≡ seat p
-  pub control : c ≡ at t p
+missing-other : (b : Bool) (n : ℕ) → missingBy b ≡ n → (n ≡ 30 → ⊥) × (n ≡ 0 → ⊥)
+missing-other true n e = (λ i. omega arith, λ i. omega arith)
+missing-other false n e = (λ i. omega arith, λ i. omega arith)
 
-pub record Missed (t : Table) (u ch s : ℕ) (b : Bool) : Type 0 where
-  pub sound : soundOf t ≡ true
-  pub none : foundIn t u ch s ≡ absent
-  pub unit : unitIn t u ≡ b
+for-not-30 : (t : Table) (u : ℕ) (ps : List ℕ) → soughtFor t u ps .number ≡ 30 → ⊥
+for-not-30 t u [] e = missing-other (unitIn t u) _ refl .0 e
+for-not-30 t u (p ∷ ps) e = let z : soughtFor t u (p ∷ ps) .number ≡ 0 = yes {A = ℕ} 0 (missingBy (unitIn t u)) (lt-ltb 0 (length (p ∷ ps)) (omega arith)) in omega arith
 
-looked-at : (f : Seat) (b : Bool) (p : ℕ) → lookupBy f b ≡ lookup.At p → f ≡ seat p
-looked-at absent true p e = absurd (let z : _≡_ {A = ℕ} 0 1 = cc in omega arith)
-looked-at absent false p e = absurd (let z : _≡_ {A = ℕ} 0 1 = cc in omega arith)
-looked-at (seat q) b p e = let i : q ≡ p = cc in ap seat i
+for-missed : (t : Table) (u : ℕ) (ps : List ℕ) → (soughtFor t u ps .number ≡ 0 → ⊥) → (ps ≡ []) × (soughtFor t u ps .number ≡ missingBy (unitIn t u))
+for-missed t u [] n = (refl, refl)
+for-missed t u (p ∷ ps) n = absurd (n (yes {A = ℕ} 0 (missingBy (unitIn t u)) (lt-ltb 0 (length (p ∷ ps)) (omega arith))))
 
-looked-no-control : (f : Seat) (b : Bool) → lookupBy f b ≡ lookup.NoControl → (f ≡ absent) × (b ≡ true)
-looked-no-control absent true e = (refl, refl)
-looked-no-control absent false e = absurd (let z : _≡_ {A = ℕ} 0 1 = cc in omega arith)
-looked-no-control (seat q) b e = absurd (let z : _≡_ {A = ℕ} 0 1 = cc in omega arith)
+for-there : (t : Table) (u : ℕ) (ps : List ℕ) → soughtFor t u ps .number ≡ 0 → ps ≡ [] → ⊥
+for-there t u [] e i = missing-other (unitIn t u) _ refl .1 e
+for-there t u (p ∷ ps) e i = let z : _≡_ {A = ℕ} 0 1 = cc in omega arith
 
-looked-no-unit : (f : Seat) (b : Bool) → lookupBy f b ≡ lookup.NoUnit → (f ≡ absent) × (b ≡ false)
-looked-no-unit absent true e = absurd (let z : _≡_ {A = ℕ} 0 1 = cc in omega arith)
-looked-no-unit absent false e = (refl, refl)
-looked-no-unit (seat q) b e = absurd (let z : _≡_ {A = ℕ} 0 1 = cc in omega arith)
+upward-apart : (t : Table) (ps : List ℕ) → Upward t ps → Apart ps
+upward-apart t _ none = alone
+upward-apart t _ (more {p} {ps} h u) = apart (λ m. let l = h p m in omega arith) (upward-apart t ps u)
 
-module _ (t : Table) (u ch s : ℕ) where
-  unsound-by : {r : Sought} → Standing t u ch s r → r ≡ sought.Unsound → soundOf t ≡ false
-  unsound-by (against h) e = h
-  unsound-by (no-unit h f) e = absurd (let z : _≡_ {A = ℕ} 0 1 = cc in omega arith)
-  unsound-by (no-control h f) e = absurd (let z : _≡_ {A = ℕ} 0 1 = cc in omega arith)
-  unsound-by (stands h f) e = absurd (let z : _≡_ {A = ℕ} 0 1 = cc in omega arith)
+module _ (t : Table) (u ch s : ℕ) (o : Sought) (e : o ≡ soughtIn t u ch s) where
+  abbrev ps : List ℕ
+  ps = addressedIn t u ch s
 
-  no-unit-by : {r : Sought} → Standing t u ch s r → r ≡ sought.NoUnit → Missed t u ch s false
-  unfolding lookedUp
-  no-unit-by (against h) e = absurd (let z : _≡_ {A = ℕ} 0 1 = cc in omega arith)
-  no-unit-by (no-unit h f) e = let k = looked-no-unit (foundIn t u ch s) (unitIn t u) f in record { sound = h; none = k .0; unit = k .1 }
-  no-unit-by (no-control h f) e = absurd (let z : _≡_ {A = ℕ} 0 1 = cc in omega arith)
-  no-unit-by (stands h f) e = absurd (let z : _≡_ {A = ℕ} 0 1 = cc in omega arith)
+  by-sound : (b : Bool) → soundOf t ≡ b → o ≡ pick b (soughtFor t u ps) (noneSought 30)
+  unfolding soughtIn
+  by-sound b f = e ∙ ap (λ (x : Bool). pick x (soughtFor t u ps) (noneSought 30)) f
 
-  no-control-by : {r : Sought} → Standing t u ch s r → r ≡ sought.NoControl → Missed t u ch s true
-  unfolding lookedUp
-  no-control-by (against h) e = absurd (let z : _≡_ {A = ℕ} 0 1 = cc in omega arith)
-  no-control-by (no-unit h f) e = absurd (let z : _≡_ {A = ℕ} 0 1 = cc in omega arith)
-  no-control-by (no-control h f) e = let k = looked-no-control (foundIn t u ch s) (unitIn t u) f in record { sound = h; none = k .0; unit = k .1 }
-  no-control-by (stands h f) e = absurd (let z : _≡_ {A = ℕ} 0 1 = cc in omega arith)
+  pub is-unsound : o .number ≡ 30 → soundOf t ≡ false
+  is-unsound h = go (soundOf t) refl
+    where
+      go : (b : Bool) → soundOf t ≡ b → soundOf t ≡ false
+      go true f = absurd (for-not-30 t u ps (ap (λ (x : Sought). x .number) (sym (by-sound true f)) ∙ h))
+      go false f = f
 
-  there-by : {r : Sought} (p : ℕ) (c : Control) → Standing t u ch s r → r ≡ sought.At p c → There t u ch s p c
-  unfolding lookedUp
-  there-by p c (against h) e = absurd (let z : _≡_ {A = ℕ} 0 1 = cc in omega arith)
-  there-by p c (no-unit h f) e = absurd (let z : _≡_ {A = ℕ} 0 1 = cc in omega arith)
-  there-by p c (no-control h f) e = absurd (let z : _≡_ {A = ℕ} 0 1 = cc in omega arith)
-  there-by p c (stands {p = q} h f) e =
-      let i : q ≡ p = cc in
-      let j : at t q ≡ c = cc in
-      record { sound = h; found = looked-at (foundIn t u ch s) (unitIn t u) q f ∙ ap seat i; control = sym j ∙ ap (at t) i }
+  module _ (h : o .number ≡ 30 → ⊥) where
+    pub is-sound : soundOf t ≡ true
+    is-sound = go (soundOf t) refl
+      where
+        go : (b : Bool) → soundOf t ≡ b → soundOf t ≡ true
+        go true f = f
+        go false f = absurd (h (ap (λ (x : Sought). x .number) (by-sound false f)))
 
-  module _ (o : Sought) (e : o ≡ soughtIn t u ch s) where
-    seen : Standing t u ch s o
-    seen = rw e (standing t u ch s)
+    answer : o ≡ soughtFor t u ps
+    answer = by-sound true is-sound
 
-    pub is-unsound : o ≡ sought.Unsound → soundOf t ≡ false
-    is-unsound = unsound-by seen
+    pub is-missed : (o .number ≡ 0 → ⊥) → (ps ≡ []) × (o .number ≡ missingBy (unitIn t u))
+    is-missed n = let k = for-missed t u ps (λ z. n (ap (λ (x : Sought). x .number) answer ∙ z)) in (k .0, ap (λ (x : Sought). x .number) answer ∙ k .1)
 
-    pub is-missed-unit : o ≡ sought.NoUnit → Missed t u ch s false
-    is-missed-unit = no-unit-by seen
+    pub is-places : placesIn o ≡ ps
+    is-places = ap placesIn answer ∙ pad-front 0 mostAddressed ps (addressed-few t u ch s)
 
-    pub is-missed-control : o ≡ sought.NoControl → Missed t u ch s true
-    is-missed-control = no-control-by seen
+    pub is-there : o .number ≡ 0 → ps ≡ [] → ⊥
+    is-there z = for-there t u ps (ap (λ (x : Sought). x .number) (sym answer) ∙ z)
 
-    pub is-there : (p : ℕ) (c : Control) → o ≡ sought.At p c → There t u ch s p c
-    is-there p c = there-by p c seen
+    pub is-seated : Seated o
+    is-seated = record {
+      few = let n = ap (λ (x : Sought). x .count) answer in let f = addressed-few t u ch s in omega arith;
+      inside = λ p m.
+          let q = addressed-named t u ch s p (rw is-places at m) .inside in
+          let c = sound-reads t .says is-sound .few in
+          omega arith;
+      each = rw is-places (upward-apart t ps (addressed-rising t u ch s));
+    }

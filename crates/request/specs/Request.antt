@@ -2,9 +2,7 @@
 --   elsewhereBy g m    ==  32: "wIndex low byte is not the AudioControl number", which is m; else 0
 --   barredBy k m       ==  31 or 32, which no table decides; 0 where neither is
 --   missedBy t u       ==  33: "wIndex high byte is no unit with controls"; 34: "no such control"
---   lostBy k m n       ==  31 or 32, or else refusal n
 --   doingOf k d room cs  ==  a Set or a Get of the addressed controls (crate answers)
---   actOf k m d room cs  ==  31 or 32, or that
 --   doneAt t u ps act  ==  33 or 34 where no control is addressed; else what is done at those that are
 --   answerAsked st k d room  ==  31 or 32, or what k comes to at the controls that it names
 --   requestOf st s d room    ==  the whole request; room is the reply's length
@@ -15,8 +13,7 @@ use Rattle.ground.specs.Pick.{pick}
 use Rattle.table.specs.declared.Control.{Control}
 use Rattle.table.specs.declared.Table.{Table}
 use Rattle.table.specs.Controls.{at}
-use Rattle.address.specs.LookedUp.{unitIn, missingBy}
-use Rattle.address.specs.Sought.{soughtBy, soughtNumber}
+use Rattle.address.specs.Sought.{missingBy}
 use Rattle.sound.specs.Sound.{soundOf}
 use Rattle.setup.specs.declared.Target.{Target}
 use Rattle.setup.specs.declared.Asked.{Asked}
@@ -28,7 +25,7 @@ use Rattle.answers.specs.Answers.{setOf, getOf}
 use Rattle.request.specs.declared.State.{State}
 use Rattle.request.specs.Outcome.{Outcome}
 use Rattle.request.specs.Outcome.Outcome.{refused}
-use Rattle.address.specs.Addressed.{addressedIn}
+use Rattle.address.specs.Addressed.{addressedIn, unitIn}
 use Rattle.request.specs.Stored.{outcomeAt}
 
 unfoldable pub elsewhereBy : Target → ℕ → ℕ
@@ -40,18 +37,12 @@ barredBy (asks.Set g) m = elsewhereBy g m
 barredBy (asks.Get part g) m = elsewhereBy g m
 
 abbrev pub missedBy : Table → ℕ → ℕ
-missedBy t u = soughtNumber (soughtBy t (missingBy (unitIn t u)))
-
-unfoldable pub lostBy : Asked → ℕ → ℕ → ℕ
-lostBy k m n = pick (eqb (barredBy k m) 0) n (barredBy k m)
+missedBy t u = missingBy (unitIn t u)
 
 abbrev pub doingOf : Asked → List ℕ → ℕ → List Control → Doing
 doingOf asks.Unknown d room cs = denied 31
 doingOf (asks.Set g) d room cs = setOf cs (g .bytes) d
 doingOf (asks.Get part g) d room cs = getOf part cs (g .bytes) room
-
-unfoldable pub actOf : Asked → ℕ → List ℕ → ℕ → List Control → Doing
-actOf k m d room cs = pick (eqb (barredBy k m) 0) (doingOf k d room cs) (denied (barredBy k m))
 
 unfoldable pub doneAt : Table → ℕ → List ℕ → (List Control → Doing) → Outcome
 doneAt t u [] act = refused (missedBy t u)

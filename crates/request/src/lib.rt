@@ -2,20 +2,22 @@
 // does"). What this crate promises: for every configuration and sheet, every state whatever, every load, setup, data and reply, exactly
 // what specs/Plugged.antt, specs/Load.antt and specs/Request.antt say; a refusal leaves state and reply as they stood.
 ghost use mathlib.Core.Path.{_≡_};
-ghost use mathlib.Core.List.{[], _∷_};
-ghost use lib.ListN.{length};
-ghost use Rattle.deed.specs.Doing.{Done};
+ghost use mathlib.Core.List.{_++_};
+ghost use Prim.Native.Nat.{_≤_, _-_};
+ghost use lib.ListN.{length, take};
+ghost use Rattle.deed.specs.Doing.{lowFirst, Written};
+ghost use Rattle.answers.specs.Answers.{setOf, getOf};
 ghost use Rattle.request.specs.Outcome.{refusal, deedAnswer, answerOf, Answered};
 ghost use Rattle.request.specs.Plugged.{PluggedIn};
 ghost use Rattle.request.specs.Load.{loadOf};
-ghost use Rattle.request.specs.Request.{elsewhereBy, barredBy, lostBy, actOf, requestOf};
+ghost use Rattle.request.specs.Stored.{placesIn, Seated, outcomeOf};
+ghost use Rattle.request.specs.Request.{elsewhereBy, barredBy, requestOf};
 use address::Sought;
 use deed::Deed;
-use deed::idle;
 use setting::Range;
 use setup::Asked;
+use setup::Part;
 use setup::Target;
-use table::Control;
 use table::Entry;
 use table::Table;
 use topology::Reading;
@@ -118,46 +120,133 @@ fn bar(asked: Asked, number: u8) -> u8
     }
 }
 
-// The refusal where the control is not there: 31 and 32 come before.
-fn lost(asked: Asked, number: u8, otherwise: u8) -> u8
-    ensures { λ r. ⌜ r ≡ lostBy asked number otherwise ⌝ }
+// A Set of the controls that were sought: 36, 37, 38, or their new values. All are asked before one is stored, so that nothing of a refused
+// Set is stored. The two passes are one function, since one that takes the state copies it.
+fn set_all(state: State, sought: Sought, bytes: u16, data: &[u8]) -> Answer
+    requires { ⌜ Seated sought ⌝ }
+    ensures { λ r. ⌜ r ≡ answerOf state (outcomeOf (state .table) (placesIn sought) (λ cs. setOf cs bytes (now («data» .entry)))) ⌝ }
 {
-    let barred = bar(asked, number);
-    if barred != 0 {
-        return barred;
+    let mut table = state.table;
+    let mut unready = false;
+    let mut taken = true;
+    let mut size = 0;
+    let mut index = 0;
+    while index < sought.count {
+        let place = sought.places[index] as usize;
+        let asks = answers::set_asks(table.controls[place], data, size);
+        unready |= asks.unready;
+        taken &= asks.taken;
+        size += asks.size;
+        index += 1;
     }
-    otherwise
+    let number = answers::set_number(unready, taken, size, bytes, data.len());
+    if number != 0 {
+        return refused(state, number);
+    }
+    let mut at = 0;
+    let mut next = 0;
+    while next < sought.count {
+        let place = sought.places[next] as usize;
+        let control = table.controls[place];
+        table.controls[place] = answers::set_to(control, data, at);
+        at += answers::size_of(control);
+        next += 1;
+    }
+    let control = state.control;
+    let state = State { control, table };
+    Answer {
+        number: 0,
+        written: 0,
+        state,
+    }
 }
 
-// What the setup asks, of the control that it names.
-fn act(asked: Asked, number: u8, control: Control, data: &[u8], reply: &mut [u8]) -> Deed
-    ensures { λ r. ⌜ Done control (actOf asked number (now («data» .entry)) (length (now (reply .entry))) (control ∷ [])) (now (reply .entry)) r (now (reply .exit)) ⌝ }
+// Writes a value's bytes, the low one first, behind the `at` bytes that were written before and up to `end`; answers how many are
+// written then.
+fn write(value: u16, size: usize, at: usize, end: usize, reply: &mut [u8]) -> usize
+    requires { ⌜ 1 ≤ size ⌝ }
+    requires { ⌜ size ≤ 2 ⌝ }
+    requires { ⌜ at ≤ end ⌝ }
+    requires { ⌜ end ≤ length (now reply) ⌝ }
+    ensures { λ r. ⌜ Written (take at (now (reply .entry)) ++ take (end - at) (lowFirst size value)) (now (reply .entry)) r (now (reply .exit)) ⌝ }
 {
-    let barred = bar(asked, number);
-    if barred != 0 {
-        return idle(barred, control);
+    if end <= at {
+        return at;
     }
-    match asked {
-        Asked::Unknown => idle(31, control),
-        Asked::Set(target) => answers::set_on(control, target.bytes, data),
-        Asked::Get(part, target) => answers::get_on(control, part, target.bytes, reply),
+    reply[at] = (value % 256) as u8;
+    if size == 1 {
+        return at + 1;
+    }
+    if end <= at + 1 {
+        return at + 1;
+    }
+    reply[at + 1] = (value / 256) as u8;
+    at + 2
+}
+
+// A Get of the controls that were sought: 35, 36, 39, or their bytes are written. The state is put together again of its parts, which saves
+// a copy of the table.
+fn get_all(state: State, sought: Sought, part: Part, bytes: u16, reply: &mut [u8]) -> Answer
+    requires { ⌜ Seated sought ⌝ }
+    ensures { λ r. ⌜ Answered state (outcomeOf (state .table) (placesIn sought) (λ cs. getOf part cs bytes (length (now (reply .entry))))) (now (reply .entry)) r (now (reply .exit)) ⌝ }
+{
+    let table = state.table;
+    let mut lacking = false;
+    let mut unready = false;
+    let mut size = 0;
+    let mut index = 0;
+    while index < sought.count {
+        let place = sought.places[index] as usize;
+        let asks = answers::get_asks(table.controls[place], part);
+        lacking |= asks.lacking;
+        unready |= asks.unready;
+        size += asks.size;
+        index += 1;
+    }
+    let end = answers::sent_of(bytes, size);
+    let number = answers::get_number(lacking, unready, end, reply.len());
+    if number != 0 {
+        return refused(state, number);
+    }
+    let mut written = 0;
+    let mut next = 0;
+    while next < sought.count {
+        let place = sought.places[next] as usize;
+        let control = table.controls[place];
+        let value = answers::part_of(part, control);
+        written = write(value, answers::size_of(control), written, end, reply);
+        next += 1;
+    }
+    let control = state.control;
+    let state = State { control, table };
+    Answer {
+        number: 0,
+        written,
+        state,
     }
 }
 
-// Answers one class request: data is what the host sends with a Set, reply the lent buffer of a Get. A function that takes the table
-// copies it, so it goes to one that asks of it and to one that stores.
+// Answers one class request: data is what the host sends with a Set, reply the lent buffer of a Get. The search makes refusal 30's test and
+// finds who is addressed in one pass, so it goes before 31 and 32, and its 33 or 34 come behind them.
 pub fn request(state: State, setup: &[u8], data: &[u8], reply: &mut [u8]) -> Answer
     ensures { λ r. ⌜ Answered state (requestOf state (now (setup .entry)) (now («data» .entry)) (length (now (reply .entry)))) (now (reply .entry)) r (now (reply .exit)) ⌝ }
 {
     let asked = setup::read(setup);
     let target = setup::target_of(asked);
-    match address::seek(state.table, target.unit, target.channel, target.selector) {
-        Sought::Unsound => refused(state, 30),
-        Sought::NoUnit => refused(state, lost(asked, state.control, 33)),
-        Sought::NoControl => refused(state, lost(asked, state.control, 34)),
-        Sought::At(index, control) => {
-            let deed = act(asked, state.control, control, data, reply);
-            done(state, index, deed)
-        }
+    let sought = address::seek(state.table, target.unit, target.channel, target.selector);
+    if sought.number == 30 {
+        return refused(state, 30);
+    }
+    let barred = bar(asked, state.control);
+    if barred != 0 {
+        return refused(state, barred);
+    }
+    if sought.number != 0 {
+        return refused(state, sought.number);
+    }
+    match asked {
+        Asked::Unknown => refused(state, 31),
+        Asked::Set(target) => set_all(state, sought, target.bytes, data),
+        Asked::Get(part, target) => get_all(state, sought, part, target.bytes, reply),
     }
 }

@@ -7,15 +7,18 @@
 --   get-keeps, set-silent  ==  no Get changes the table, and no Set writes to the reply
 --   run-found              ==  every control is found where it was
 --   get-answers            ==  every Get that is accepted after a run is answered so
-use Prim.Native.Nat.{ℕ}
+use Prim.Native.Nat.{ℕ, zero, suc, _<_}
 use mathlib.Core.Path.{_≡_, refl, sym, ap, _∙_, subst}
-use mathlib.Core.List.{List, [], _∷_}
+use mathlib.Core.List.{List, [], _∷_, _++_, map, List·Memᴰ·head, List·Memᴰ·tail, List·Memᴰ·cases-cons, List·Memᴰ·not-nil}
 use mathlib.Core.Bool.{true, false}
+use mathlib.Core.Logic.{⊎-elim}
 use native.Mathlib.Omega.{arith}
-use lib.ListN.{length, take}
+use lib.ListN.{take}
 use borrow.Author.Tests.{not-false}
-use Rattle.ground.specs.Pick.{shows}
+use Rattle.ground.specs.Pick.{pick, shows}
 use Rattle.ground.specs.Numbers.{byte, word}
+use Rattle.ground.specs.Lists.{any}
+use Rattle.graph.specs.Members.{_∈_}
 use Rattle.setting.specs.Setting.{closestTo}
 use Rattle.setting.specs.Legal.{fits-reads, legal-means}
 use Rattle.setting.specs.Closest.{closest-self, closest-only}
@@ -25,37 +28,48 @@ use Rattle.table.specs.declared.Control.{Control}
 use Rattle.table.specs.declared.Table.{Table}
 use Rattle.table.specs.declared.Sense.{Sense}
 use Rattle.table.specs.declared.Sense.the-variants.{Unknown, YesNo, Ranged, Pin}
-use Rattle.table.specs.First.Seat.{absent, seat}
+use Rattle.table.specs.First.{Seat}
+use Rattle.table.specs.First.Seat.{absent}
 use Rattle.table.specs.Controls.{at, placed, senseOf, sizeOf, rangeOf}
-use Rattle.table.specs.Keys.{Key, whereIs}
+use Rattle.table.specs.Keys.{Key, whereIs, StandsAt}
 use Rattle.single.specs.Meaning.{SoundAs, loaded-legal, loaded-fits, loaded-setting}
 use Rattle.sound.specs.Meaning.{Sound, sound-reads}
 use Rattle.table.specs.Placed.{placed-here, placed-elsewhere, kept-found}
+use Rattle.address.specs.Addressed.{mostAddressed, wantsChannel, seatAt, seatsFrom}
+use Rattle.address.specs.AddressedLaws.{found-stands}
 use Rattle.setup.specs.declared.Part.{Part}
 use Rattle.setup.specs.declared.Part.the-variants.{Cur, Min, Max, Res}
-use Rattle.setup.specs.Setup.{AsksSet, AsksGet, codeOf}
+use Rattle.setup.specs.Setup.{AsksSet, AsksGet}
 use Rattle.setup.specs.Asking.{set-no-get}
 use Rattle.deed.specs.Doing.{lowFirst}
-use Rattle.answers.specs.Held.{partOf, unready, valueIn, storedFor, withCur}
+use Rattle.answers.specs.Held.{partOf, unready}
+use Rattle.answers.specs.Answers.{heldBy, blockOf}
 use Rattle.loads.specs.Load.{loadedWith}
 use Rattle.request.specs.declared.State.{State}
 use Rattle.request.specs.Outcome.{Outcome, numberOf, bytesOf, tableAfter}
 use Rattle.request.specs.Outcome.Outcome.{refused, got, done}
 use Rattle.request.specs.Load.{loadOf}
 use Rattle.request.specs.Request.{requestOf}
-use Rattle.runs.specs.Runs.{namedBy, Step, next, after, rangesIn, numbersIn, told, lastOf, Bytes, Wired}
-use Rattle.runs.specs.Promises.{Settles, CurMeans, GetGiven, SetStored, LoadStored, Moved, Means, Answers}
-use Rattle.runs.proofs.Taken.{GetTaken, SetTaken, LoadTaken, get-taken, set-taken, load-taken, load-not-got}
-use Rattle.runs.proofs.Kept.{load-same, index-below, index-inside, found-stands, settles-closest, sent-fits}
+use Rattle.runs.specs.Runs.{addressedBy, Step, next, after, lastOf, Bytes, Wired}
+use Rattle.runs.specs.Promises.{Settles, CurMeans, GetGiven, Turned, SetStored, LoadStored, Moved, Means, keyIn, Answer, Valued, none, more, inBytes, Answers}
+use Rattle.runs.proofs.Shares.{any-front}
+use Rattle.runs.proofs.Taken.{places, GetTaken, SetTaken, LoadTaken, get-taken, set-taken, load-taken, load-not-got}
+use Rattle.runs.proofs.Addressing.{places-low, names-among, among-names, addressed-found}
+use Rattle.runs.proofs.Sets.{shared, set-here, set-other, set-count}
+use Rattle.runs.proofs.Kept.{load-same, index-inside, settles-closest}
 use Rattle.runs.proofs.Moved.{stored-means, whole-run, sense-at}
 use Rattle.runs.proofs.Alone.{alone}
-use Rattle.runs.proofs.Refusals.{Numbered, LoadNumber, load-30, load-20, load-21, RequestNumber, load-numbers, request-numbers}
+use Rattle.runs.proofs.Refusals.{LoadNumber, load-30, load-20, load-21, RequestNumber, load-numbers, request-numbers}
 
 pub settles-one : (s : Sort) (range : Range) (x v w : ℕ) → Settles s range x v → Settles s range x w → v ≡ w
 settles-one s range x v w a b =
     let l = shows (legal-means s range) (a .legal) in
     let f = shows (fits-reads s x) (a .asked) in
     closest-only s range l x f v (a .fits) (a .means) ∙ sym (closest-only s range l x f w (b .fits) (b .means))
+
+map-some : (t : Table) (ps : List ℕ) → (ps ≡ [] → ⊥) → map (at t) ps ≡ [] → ⊥
+map-some t [] n e = n refl
+map-some t (p ∷ ps) n e = let z : _≡_ {A = ℕ} 0 1 = cc in omega arith
 
 module _ (st : State) where
   abbrev t : Table
@@ -97,19 +111,20 @@ module _ (st : State) where
       go (got bytes) e i = absurd (load-not-got st k range w bytes e)
       go (done v) e i = (v, e)
 
-  get-given : (s : List ℕ) (room : ℕ) (bytes : List ℕ) → GetTaken t s room bytes → GetGiven t s bytes
-  get-given s room bytes a = record {
+  get-given : (s bytes : List ℕ) → GetTaken t s bytes → GetGiven t s bytes
+  get-given s bytes a = record {
     part = a .part;
     code = a .code;
-    index = a .index;
-    stands = found-stands t (namedBy s) (a .index) (a .there);
-    given = a .given ∙ ap (λ (k : Sense). take (word s 6) (lowFirst (sizeOf k) (partOf (a .part) (at t (a .index))))) (sense-at t (namedBy s) (a .index) (a .there));
+    controls = addressedBy t s;
+    addressed = addressed-found t s (sound-reads t .says (a .sound));
+    some = map-some t (places t s) (a .some);
+    given = a .given;
   }
 
   pub next-get : (s d : List ℕ) (room : ℕ) → AsksGet s → numberOf (requestOf st s d room) ≡ 0 → GetGiven t s (bytesOf (requestOf st s d room))
   next-get s d room a z =
       let g = get-got s d room a z in
-      subst (GetGiven t s) (sym (ap bytesOf (g .1))) (get-given s room (g .0) (get-taken st s d room (g .0) (g .1)))
+      subst (GetGiven t s) (sym (ap bytesOf (g .1))) (get-given s (g .0) (get-taken st s d room (g .0) (g .1)))
 
   pub get-keeps : (s d : List ℕ) (room : ℕ) → AsksGet s → tableAfter t (requestOf st s d room) ≡ t
   get-keeps s d room a = go (requestOf st s d room) refl
@@ -129,29 +144,27 @@ module _ (st : State) where
 
   module _ (sound : Sound t) where
     set-stored : (s d : List ℕ) → Bytes d → (v : Table) → SetTaken t s d v → SetStored t s d v
-    set-stored s d b v a = rw (a .table) (record {
-      index = p;
-      stands = found-stands t (namedBy s) p (a .there);
-      cur = rw (here, ← held) (stored-means (senseOf (c .selector)) c d (sound .each p (index-below t (namedBy s) p (a .there))) (a .ready) b (a .sized));
-      rest = rw here;
-      others = λ q n. placed-elsewhere t p new q n;
-      count = refl;
-    })
+    set-stored s d b v a = record {
+      controls = addressedBy t s;
+      addressed = addressed-found t s sound;
+      some = map-some t (places t s) (a .some);
+      each = λ i l n. turned i l (names-among t s sound i l n);
+      others = λ i n. set-other t s d v sound a i (λ m. n (places-low t s i m) (among-names t s i m));
+      count = set-count t s d v sound a;
+    }
       where
-        p : ℕ
-        p = a .index
-
-        c : Control
-        c = at t p
-
-        new : Control
-        new = withCur (storedFor (senseOf (c .selector)) c (valueIn d)) c
-
-        here : at (placed t p new) p ≡ new
-        here = placed-here t p (index-inside t (namedBy s) p (a .there) sound) new
-
-        held : senseOf (c .selector) ≡ senseOf (byte s 3)
-        held = sense-at t (namedBy s) p (a .there)
+        turned : (i : ℕ) → i < t .count → i ∈ places t s → Turned (addressedBy t s) d (at t i) (at v i)
+        turned i l m =
+            let h : StandsAt t (keyIn (at t i)) i = record { inside = l; bears = record { unit = refl; channel = refl; selector = refl } } in
+            let g = shared t s d v sound a (keyIn (at t i)) i h m in
+            let e = set-here t s d v sound a (keyIn (at t i)) i h m in
+            record {
+              piece = g .piece;
+              share = g .share;
+              sized = g .sized;
+              cur = rw e (stored-means (heldBy (at t i)) (at t i) (g .piece) (sound .each i l) (g .ready) (g .bytes b) (g .sized));
+              rest = rw e;
+            }
 
     pub next-set : (s d : List ℕ) (room : ℕ) → Bytes d → AsksSet s → numberOf (requestOf st s d room) ≡ 0
         → SetStored t s d (tableAfter t (requestOf st s d room))
@@ -219,45 +232,87 @@ part-means Min k c range x e m rs ns b f g = rw (f, ← e)
 part-means Max k c range x e m rs ns b f g = rw (f, ← e)
 part-means Res k c range x e m rs ns b f g = rw (f, ← e)
 
-got-answers : (st : State) (run : List Step) → Sound (st .table) → Wired run → (s : List ℕ) (room : ℕ) (bytes : List ℕ)
-    → GetTaken (after st run .table) s room bytes → Answers st run s bytes
-got-answers st run h w s room bytes a = record {
-  part = a .part;
-  code = a .code;
-  index = a .index;
-  stands = found-stands t0 (namedBy s) (a .index) there;
-  value = partOf (a .part) now;
-  given = a .given ∙ ap (λ (k : Sense). take (word s 6) (lowFirst (sizeOf k) (partOf (a .part) now))) held;
-  means =
-      part-means (a .part) (senseOf (byte s 3)) now (rangeOf now) _ refl
-      (cur-means t0 (namedBy s) (a .index) _ _ v m was (rw (← held) (a .ready)))
-      _ _ (at t0 (a .index)) (sym (m .ranges)) refl;
-  first = λ z. ap (partOf (a .part)) (m .unmoved z);
-}
+-- whoever is addressed is addressed after every run
+run-places : (st : State) (run : List Step) (s : List ℕ) → places (after st run .table) s ≡ places (st .table) s
+unfolding seatsFrom
+run-places st run s = go 0 mostAddressed
   where
-    t0 : Table
-    t0 = st .table
-
     v : Table
     v = after st run .table
 
-    now : Control
-    now = at v (a .index)
+    same-seat : (c : ℕ) → seatAt v (byte s 5) (byte s 2) (byte s 3) c ≡ seatAt (st .table) (byte s 5) (byte s 2) (byte s 3) c
+    same-seat c =
+        ap (λ (x : Seat). pick (wantsChannel (byte s 2) (byte s 3) c) x absent) (run-found st run (record { unit = byte s 5; channel = c; selector = byte s 3 }))
 
-    there : whereIs t0 (namedBy s) ≡ seat (a .index)
-    there = sym (run-found st run (namedBy s)) ∙ a .there
+    go : (c n : ℕ) → seatsFrom v (byte s 5) (byte s 2) (byte s 3) c n ≡ seatsFrom (st .table) (byte s 5) (byte s 2) (byte s 3) c n
+    go c zero = refl
+    go c (suc n) = rw (same-seat c, go (suc c) n)
 
-    m : Moved t0 (namedBy s) (a .index) (told (rangesIn (namedBy s)) st run) (told (numbersIn (namedBy s)) st run) v
-    m = whole-run st (namedBy s) (a .index) run h (found-stands t0 (namedBy s) (a .index) there) w
+-- of the controls at some of the indices, none is ranged and not loaded
+all-ready : (t : Table) (ps : List ℕ) → any (λ c. unready (heldBy c) c) (map (at t) ps) ≡ false → (p : ℕ) → p ∈ ps → unready (heldBy (at t p)) (at t p) ≡ false
+all-ready t [] h p m = absurd (List·Memᴰ·not-nil m)
+all-ready t (q ∷ ps) h p m =
+    let r = any-front (at t q) (map (at t) ps) h in
+    ⊎-elim (λ (e : p ≡ q). rw e (r .0)) (λ (i : p ∈ ps). all-ready t ps (r .1) p i) (List·Memᴰ·cases-cons m)
 
-    held : senseOf (now .selector) ≡ senseOf (byte s 3)
-    held = sense-at v (namedBy s) (a .index) (a .there)
+module _ (st : State) (run : List Step) (h : Sound (st .table)) (w : Wired run) (s : List ℕ) (part : Part) where
+  abbrev t0 : Table
+  t0 = st .table
 
-    was : SoundAs (senseOf (byte s 3)) (at t0 (a .index))
-    was = rw (← sense-at t0 (namedBy s) (a .index) there) (h .each (a .index) (index-below t0 (namedBy s) (a .index) there))
+  abbrev v0 : Table
+  v0 = after st run .table
+
+  abbrev values : List ℕ → List ℕ
+  values ps = map (λ p. partOf part (at v0 p)) ps
+
+  module _ (ready : (p : ℕ) → p ∈ places t0 s → unready (heldBy (at v0 p)) (at v0 p) ≡ false) where
+    answer-at : (p : ℕ) → p ∈ places t0 s → Answer st run part (at t0 p) (partOf part (at v0 p))
+    answer-at p i =
+        let k : Key = keyIn (at t0 p) in
+        let f : StandsAt t0 k p = record { inside = places-low t0 s p i; bears = record { unit = refl; channel = refl; selector = refl } } in
+        let m = whole-run st k p run h f w in
+        let same : senseOf (at v0 p .selector) ≡ senseOf (k .selector) = ap senseOf (m .same .selector) in
+        record {
+          means =
+              part-means part (senseOf (k .selector)) (at v0 p) (rangeOf (at v0 p)) _ refl
+              (cur-means t0 k p _ _ v0 m (h .each p (f .inside)) (rw same at (ready p i)))
+              _ _ (at t0 p) (sym (m .ranges)) refl;
+          first = λ z. ap (partOf part) (m .unmoved z);
+        }
+
+    all-valued : (ps : List ℕ) → ((p : ℕ) → p ∈ ps → p ∈ places t0 s) → Valued st run part (map (at t0) ps) (values ps)
+    all-valued [] among = none
+    all-valued (p ∷ ps) among =
+        more (answer-at p (among p (List·Memᴰ·head refl))) (all-valued ps (λ q m. among q (List·Memᴰ·tail m)))
+
+  -- each value has the size of the selector
+  all-sized : (ps : List ℕ) → ((p : ℕ) → p ∈ ps → at v0 p .selector ≡ byte s 3) → blockOf part (map (at v0) ps) ≡ inBytes (sizeOf (senseOf (byte s 3))) (values ps)
+  unfolding blockOf inBytes
+  all-sized [] named = refl
+  all-sized (p ∷ ps) named =
+      rw (named p (List·Memᴰ·head refl)) (ap (λ (l : List ℕ). lowFirst (sizeOf (senseOf (byte s 3))) (partOf part (at v0 p)) ++ l) (all-sized ps (λ q m. named q (List·Memᴰ·tail m))))
+
+got-answers : (st : State) (run : List Step) → Sound (st .table) → Wired run → (s bytes : List ℕ) → GetTaken (after st run .table) s bytes
+    → Answers st run s bytes
+got-answers st run h w s bytes a = record {
+  part = a .part;
+  code = a .code;
+  controls = addressedBy (st .table) s;
+  addressed = addressed-found (st .table) s h;
+  some = map-some (st .table) (places (st .table) s) (λ e. a .some (run-places st run s ∙ e));
+  values = values st run h w s (a .part) (places (st .table) s);
+  given =
+      a .given
+      ∙ ap (λ (ps : List ℕ). take (word s 6) (blockOf (a .part) (map (at v) ps))) (run-places st run s)
+      ∙ ap (take (word s 6)) (all-sized st run h w s (a .part) (places (st .table) s) (λ p m. among-names v s p (rw (run-places st run s) m) .selector));
+  means = all-valued st run h w s (a .part) (λ p m. all-ready v (places v s) (a .ready) p (rw (run-places st run s) m)) (places (st .table) s) (λ p m. m);
+}
+  where
+    v : Table
+    v = after st run .table
 
 pub get-answers : (st : State) (run : List Step) → Sound (st .table) → Wired run → (s d : List ℕ) (room : ℕ) → AsksGet s
     → numberOf (requestOf (after st run) s d room) ≡ 0 → Answers st run s (bytesOf (requestOf (after st run) s d room))
 get-answers st run h w s d room a z =
     let g = get-got (after st run) s d room a z in
-    subst (Answers st run s) (sym (ap bytesOf (g .1))) (got-answers st run h w s room (g .0) (get-taken (after st run) s d room (g .0) (g .1)))
+    subst (Answers st run s) (sym (ap bytesOf (g .1))) (got-answers st run h w s (g .0) (get-taken (after st run) s d room (g .0) (g .1)))

@@ -2,20 +2,15 @@
 --   load-same, set-same    ==  the control that is stored is the same control
 --   load-sound, set-sound  ==  30 has nothing against it
 --   index-below, index-inside  ==  a control that is found stands below the count, and in the array
---   found-stands, stands-found, none-stands  ==  a control stands where it is found; it is found where it stands, and stands
---                              nowhere if it is not found, in a table that 30 does not turn away; stands-one: it stands at one index
 --   settles-closest        ==  the closest setting is what is to be stored, by crate setting's statements
 --   sent-fits              ==  the data of a Set are not too wide for the control
-use Prim.Native.Nat.{ℕ, _+_, _*_, _≤_, _<_, min}
-use mathlib.Core.Path.{_≡_, refl, sym, ap, _∙_}
+use Prim.Native.Nat.{ℕ, _<_}
+use mathlib.Core.Path.{_≡_, refl}
 use mathlib.Core.List.{List, [], _∷_}
-use mathlib.Core.Bool.{Bool, true, false, _&&_}
-use mathlib.Core.Logic.{⊎-elim}
+use mathlib.Core.Bool.{true}
 use native.Mathlib.Omega.{arith}
-use lib.Dec.{eqb, leb, ltb}
-use lib.ListN.{length, getD}
-use borrow.Author.Tests.{eq-eqb, ne-eqb}
-use Rattle.ground.specs.Pick.{pick, yes, no, Reads, shows, decided, reads-and, reads-eq, reads-lt, reads-le}
+use lib.ListN.{length}
+use Rattle.ground.specs.Pick.{shows, reads-and, reads-le}
 use Rattle.setting.specs.Setting.{fitsOf, legalOf, closestTo}
 use Rattle.setting.specs.Legal.{fits-reads, legal-means}
 use Rattle.setting.specs.Closest.{closest-fits, closest-means, closest-available}
@@ -26,14 +21,14 @@ use Rattle.table.specs.declared.Control.{Control}
 use Rattle.table.specs.declared.Table.{Table}
 use Rattle.table.specs.declared.Sense.{Sense}
 use Rattle.table.specs.declared.Sense.the-variants.{Unknown, YesNo, Ranged, Pin}
-use Rattle.table.specs.First.{Seat, places, foundIn, found-first, none-found}
-use Rattle.table.specs.First.Seat.{absent, seat}
-use Rattle.table.specs.Controls.{at, senseOf, sizeOf, rangeOf, answersTo}
-use Rattle.table.specs.Keys.{Key, whereIs, Bears, StandsAt}
+use Rattle.table.specs.First.Seat.{seat}
+use Rattle.table.specs.Controls.{senseOf, sizeOf, rangeOf}
+use Rattle.table.specs.Keys.{Key, whereIs}
 use Rattle.table.specs.Same.{Same}
 use Rattle.single.specs.Meaning.{SoundAs, SoundRanged, SoundLoaded, loaded-legal, loaded-tested}
 use Rattle.sound.specs.Meaning.{Sound, sound-counted}
-use Rattle.answers.specs.Held.{unready, valueIn, takes, storedFor, withCur}
+use Rattle.address.specs.AddressedLaws.{found-stands}
+use Rattle.answers.specs.Held.{valueIn, takes, storedFor, withCur}
 use Rattle.loads.specs.Load.{loadedWith}
 use Rattle.runs.specs.Runs.{Bytes}
 use Rattle.runs.specs.Promises.{Settles}
@@ -46,56 +41,11 @@ set-same x c = record { unit = refl; channel = refl; selector = refl }
 
 -- an index that was found
 module _ (t : Table) (k : Key) (p : ℕ) (f : whereIs t k ≡ seat p) where
-  index-answers : answersTo (k .unit) (k .channel) (k .selector) (at t p) ≡ true
-  unfolding foundIn
-  index-answers = found-first _ (places t) p f .passes
-
   pub index-below : p < t .count
-  unfolding foundIn
-  index-below = let h = found-first _ (places t) p f .inside in omega arith
+  index-below = found-stands t k p f .inside
 
   pub index-inside : Sound t → p < length (t .controls)
   index-inside s = sound-counted t s p index-below
-
--- two numbers, neither of which is the less, are one
-apart : (q p : ℕ) → (q ≡ p → ⊥) → (p < q → ⊥) → (q < p → ⊥) → ⊥
-apart q p i m n = ⊎-elim (λ (l : p < q). m l) (λ (l : p < q → ⊥). n (omega arith)) (decided (ltb p q) (reads-lt p q))
-
--- the search, in statements
-answers-reads : (k : Key) (c : Control)
-    → Reads (answersTo (k .unit) (k .channel) (k .selector) c) ((c .unit ≡ k .unit) × ((c .channel ≡ k .channel) × (c .selector ≡ k .selector)))
-unfolding answersTo
-answers-reads k c = reads-and _ _ (reads-eq (c .unit) (k .unit)) (reads-and _ _ (reads-eq (c .channel) (k .channel)) (reads-eq (c .selector) (k .selector)))
-
-pub found-stands : (t : Table) (k : Key) (p : ℕ) → whereIs t k ≡ seat p → StandsAt t k p
-found-stands t k p f =
-    let h = answers-reads k (at t p) .says (index-answers t k p f) in
-    record { inside = index-below t k p f; bears = record { unit = h .0; channel = h .1 .0; selector = h .1 .1 } }
-
-module _ (t : Table) (sound : Sound t) (k : Key) where
-  stands-once : (p q : ℕ) → StandsAt t k p → StandsAt t k q → p < q → ⊥
-  stands-once p q a b l =
-      sound .once p q l (b .inside)
-      (let x = a .bears in let y = b .bears in record { unit = x .unit ∙ sym (y .unit); channel = x .channel ∙ sym (y .channel); selector = x .selector ∙ sym (y .selector) })
-
-  pub stands-one : (p q : ℕ) → StandsAt t k p → StandsAt t k q → p ≡ q
-  stands-one p q a b =
-      ⊎-elim (λ (i : p ≡ q). i) (λ (i : p ≡ q → ⊥). absurd (apart p q i (stands-once q p b a) (stands-once p q a b))) (decided (eqb p q) (reads-eq p q))
-
-  pub none-stands : whereIs t k ≡ absent → (p : ℕ) → StandsAt t k p → ⊥
-  unfolding foundIn
-  none-stands e p h =
-      let few = sound .few in
-      let i = h .inside in
-      let n = none-found (λ q. answersTo (k .unit) (k .channel) (k .selector) (at t q)) (places t) e p (omega arith) in
-      let b = h .bears in answers-reads k (at t p) .denies n (b .unit, (b .channel, b .selector))
-
-  pub stands-found : (p : ℕ) → StandsAt t k p → whereIs t k ≡ seat p
-  stands-found p h = go (whereIs t k) refl
-    where
-      go : (f : Seat) → whereIs t k ≡ f → whereIs t k ≡ seat p
-      go absent e = absurd (none-stands e p h)
-      go (seat q) e = e ∙ ap seat (stands-one q p (found-stands t k q e) h)
 
 -- the number of one byte, and of two
 one-byte : (d : List ℕ) → Bytes d → length d ≡ 1 → valueIn d < 256

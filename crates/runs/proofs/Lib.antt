@@ -1,3 +1,7 @@
+mod Stored
+mod Shares
+pub mod Addressing
+mod Sets
 pub mod Taken
 pub mod Kept
 pub mod Moved
@@ -5,3 +9,4 @@ pub mod Alone
 pub mod Refusals
 pub mod Rows
 pub mod Answers
+pub mod InTurn

@@ -11,7 +11,9 @@ use mathlib.Core.Bool.{Bool, true, false, _||_, or-true, or-false, or-assoc}
 use native.Mathlib.Omega.{arith}
 use borrow.Author.Tests.{not-false}
 use lib.ListN.{length}
+use mathlib.Core.Logic.{⊎-elim}
 use Rattle.ground.specs.Pick.{pick, Reads, shows, refutes, reads-and, reads-eq}
+use Rattle.graph.specs.Members.{_∈_}
 use Rattle.setting.specs.Setting.{fitsOf, legalOf, closestTo}
 use Rattle.setting.specs.declared.Sort.{Sort}
 use Rattle.setting.specs.declared.Range.{Range}
@@ -27,20 +29,25 @@ use Rattle.sound.specs.Meaning.{Sound}
 use Rattle.table.specs.Placed.{placed-here, placed-elsewhere, placed-found}
 use Rattle.sound.specs.Placed.{placed-sound}
 use Rattle.table.specs.Keys.{Key, whereIs, StandsAt}
-use Rattle.setup.specs.Setup.{AsksSet, asksSet}
+use Rattle.setup.specs.Setup.{asksSet}
 use Rattle.setup.specs.Asking.{set-no-get, reads-set}
-use Rattle.answers.specs.Held.{unready, valueIn, storedFor, withCur}
+use Rattle.address.specs.AddressedLaws.{found-stands, stands-found}
+use Rattle.answers.specs.Held.{unready, valueIn, storedFor}
 use Rattle.loads.specs.Load.{loadedWith}
 use Rattle.request.specs.declared.State.{State}
 use Rattle.request.specs.Outcome.{Outcome, tableAfter}
 use Rattle.request.specs.Outcome.Outcome.{refused, got, done}
 use Rattle.request.specs.Load.{loadOf}
 use Rattle.request.specs.Request.{requestOf}
-use Rattle.runs.specs.Runs.{namedBy, Step, accepted, next, after, sameKey, rangesIn, numbersIn, heard, told, lastOf, some, Bytes, sent, Wired}
+use Rattle.runs.specs.Runs.{addressedBy, Step, accepted, next, after, sameKey, shareOf, rangesIn, numbersIn, heard, told, lastOf, some, Bytes, sent, Wired}
 use Rattle.runs.specs.Runs.Step.{load, request}
 use Rattle.runs.specs.Promises.{CurMeans, Moved}
-use Rattle.runs.proofs.Taken.{LoadTaken, SetTaken, load-taken, set-taken, get-taken, load-not-got}
-use Rattle.runs.proofs.Kept.{load-same, set-same, load-sound, set-sound, index-below, index-inside, found-stands, stands-found, settles-closest, sent-fits}
+use Rattle.runs.proofs.Stored.{member}
+use Rattle.runs.proofs.Shares.{none-sent}
+use Rattle.runs.proofs.Taken.{places, LoadTaken, SetTaken, load-taken, set-taken, get-taken, load-not-got}
+use Rattle.runs.proofs.Addressing.{places-low}
+use Rattle.runs.proofs.Sets.{shared, set-here, set-other, set-keeps, set-pins, set-count, set-sound-after}
+use Rattle.runs.proofs.Kept.{load-same, load-sound, index-below, index-inside, settles-closest, sent-fits}
 
 last-append : {A : Type 0} (x : A) (xs ys : List A) → lastOf x (xs ++ ys) ≡ lastOf (lastOf x xs) ys
 unfolding lastOf
@@ -214,49 +221,65 @@ module _ (t : Table) (k : Key) (p : ℕ) (s : Sound t) (f : whereIs t k ≡ seat
           (load-means (senseOf (k .selector)) (a .sort) (held e) range w (a .legal) (a .fits))
       go false e = elsewhere t k p s f l (a .index) (a .there) _ (load-same (a .sort) range w (at t (a .index))) ok e
 
-  set-moves : (su d : List ℕ) (v : Table) → Bytes d → SetTaken t su d v → Moved t k p [] (pick (sameKey k (namedBy su)) (valueIn d ∷ []) []) v
+-- a Set tells each control that it addresses its number
+module _ (t : Table) (k : Key) (p : ℕ) (s : Sound t) (f : StandsAt t k p) (su d : List ℕ) (v : Table) (b : Bytes d) (a : SetTaken t su d v) where
+  still-there : StandsAt v k p
+  still-there =
+      let h = set-keeps t su d v s a p in
+      let x = f .bears in
+      record { inside = rw (set-count t su d v s a) (f .inside); bears = record { unit = h .unit ∙ x .unit; channel = h .channel ∙ x .channel; selector = h .selector ∙ x .selector } }
+
+  told-one : (m : p ∈ places t su) → Moved t k p [] (valueIn (shared t su d v s a k p f m .piece) ∷ []) v
   unfolding lastOf
-  set-moves su d v b a = rw (a .table) (go (sameKey k l) refl)
-    where
-      l : Key
-      l = namedBy su
+  told-one m =
+      let g = shared t su d v s a k p f m in
+      let i = set-here t su d v s a k p f m in
+      let held : senseOf (k .selector) ≡ senseOf (at t p .selector) = ap senseOf (sym (f .bears .selector)) in
+      record {
+        sound = set-sound-after t su d v s a b;
+        there = still-there;
+        same = set-keeps t su d v s a p;
+        pins = set-pins t su d v s a p;
+        loaded = rw i (sym (or-false (at t p .loaded)));
+        ranges = rw i;
+        unmoved = λ z. absurd (some-not-none _ [] z);
+        cur = λ z. rw (i, held) (stored-means (senseOf (at t p .selector)) (at t p) (g .piece) (s .each p (f .inside)) (g .ready) (g .bytes b) (g .sized));
+      }
 
-      c : Control
-      c = at t (a .index)
+  told-none : (p ∈ places t su → ⊥) → Moved t k p [] [] v
+  unfolding lastOf
+  told-none n =
+      let i = set-other t su d v s a p n in
+      record {
+        sound = set-sound-after t su d v s a b;
+        there = still-there;
+        same = set-keeps t su d v s a p;
+        pins = set-pins t su d v s a p;
+        loaded = rw i (sym (or-false (at t p .loaded)));
+        ranges = rw i;
+        unmoved = λ z. i;
+        cur = λ z. absurd (z refl);
+      }
 
-      changed : Control
-      changed = withCur (storedFor (senseOf (c .selector)) c (valueIn d)) c
-
-      whole : SoundAs (senseOf (c .selector)) c
-      whole = s .each (a .index) (index-below t l (a .index) (a .there))
-
-      ok : SoundAs (senseOf (changed .selector)) changed
-      ok = set-sound c d whole b (a .sized) (a .taken)
-
-      means : sameKey k l ≡ true → CurMeans (senseOf (k .selector)) (rangeOf c) (valueIn d) (changed .cur)
-      means e =
-          let i : senseOf (k .selector) ≡ senseOf (c .selector) =
-          ap senseOf (reads-key k l .says e .selector) ∙ sym (sense-at t l (a .index) (a .there))
-          in
-          rw i (stored-means (senseOf (c .selector)) c d whole (a .ready) b (a .sized))
-
-      go : (y : Bool) → sameKey k l ≡ y → Moved t k p [] (pick y (valueIn d ∷ []) []) (placed t (a .index) changed)
-      go true e =
-          here t k p s f l (a .index) (a .there) changed (set-same (storedFor (senseOf (c .selector)) c (valueIn d)) c) ok e [] (valueIn d ∷ []) refl (sym (or-false (c .loaded))) refl (some-not-none (valueIn d) []) (means e)
-      go false e = elsewhere t k p s f l (a .index) (a .there) changed (set-same (storedFor (senseOf (c .selector)) c (valueIn d)) c) ok e
+  set-moves : Moved t k p [] (shareOf k (addressedBy t su) d) v
+  set-moves =
+      ⊎-elim
+      (λ (m : p ∈ places t su). rw (shared t su d v s a k p f m .told) (told-one m))
+      (λ (n : p ∈ places t su → ⊥). rw (none-sent t k p f s (places t su) d (places-low t su) n) (told-none n))
+      (member p (places t su))
 
 module _ (st : State) (k : Key) (p : ℕ) (s : Sound (st .table)) (f : whereIs (st .table) k ≡ seat p) where
   abbrev t : Table
   t = st .table
 
   load-step : (l : Key) (range : Range) (w : ℕ) (o : Outcome) → loadOf st (l .unit) (l .channel) (l .selector) range w ≡ o
-      → Moved t k p (pick (accepted o) (rangesIn k (load l range w)) []) (pick (accepted o) (numbersIn k (load l range w)) []) (tableAfter t o)
+      → Moved t k p (pick (accepted o) (rangesIn k t (load l range w)) []) (pick (accepted o) (numbersIn k t (load l range w)) []) (tableAfter t o)
   load-step l range w (refused n) e = still t k p s f
   load-step l range w (got bytes) e = absurd (load-not-got st l range w bytes e)
   load-step l range w (done v) e = load-moves t k p s f l range w v (load-taken st l range w v e)
 
   request-step : (su d : List ℕ) (room : ℕ) → Bytes d → (o : Outcome) → requestOf st su d room ≡ o
-      → Moved t k p (pick (accepted o) [] []) (pick (accepted o) (numbersIn k (request su d room)) []) (tableAfter t o)
+      → Moved t k p (pick (accepted o) [] []) (pick (accepted o) (numbersIn k t (request su d room)) []) (tableAfter t o)
   request-step su d room b (refused m) e = still t k p s f
   request-step su d room b (got bytes) e =
       let a = get-taken st su d room bytes e in
@@ -265,7 +288,7 @@ module _ (st : State) (k : Key) (p : ℕ) (s : Sound (st .table)) (f : whereIs (
   request-step su d room b (done v) e =
       let a = set-taken st su d room v e in
       let z : asksSet su ≡ true = shows (reads-set su) (a .asked) in
-      rw z (set-moves t k p s f su d v b a)
+      rw z (set-moves t k p s (found-stands t k p f) su d v b a)
 
   pub one-step : (step : Step) → Bytes (sent step) → Moved t k p (heard (rangesIn k) st step) (heard (numbersIn k) st step) (next st step .table)
   one-step (load l range w) b = load-step l range w _ refl

@@ -27,8 +27,7 @@ use Rattle.table.specs.declared.Sense.{Sense}
 use Rattle.table.specs.declared.Sense.the-variants.{Unknown, YesNo, Ranged, Pin}
 use Rattle.table.specs.Controls.{at, senseOf}
 use Rattle.table.specs.Keys.{Key}
-use Rattle.address.specs.LookedUp.{unitIn, missingBy}
-use Rattle.address.specs.Sought.{soughtBy, soughtNumber}
+use Rattle.address.specs.Sought.{missingBy}
 use Rattle.sound.specs.Sound.{soundOf}
 use Rattle.setup.specs.declared.Target.{Target}
 use Rattle.setup.specs.declared.Part.{Part}
@@ -44,7 +43,7 @@ use Rattle.request.specs.declared.State.{State}
 use Rattle.request.specs.declared.Answer.{Answer}
 use Rattle.request.specs.Outcome.{Outcome, numberOf, bytesOf, tableAfter, answerOf, Answered}
 use Rattle.request.specs.Outcome.Outcome.{refused, got, done}
-use Rattle.address.specs.Addressed.{addressedIn}
+use Rattle.address.specs.Addressed.{addressedIn, unitIn}
 use Rattle.request.specs.Stored.{outcomeAt}
 use Rattle.request.specs.Load.{loadAt, loadOf}
 use Rattle.request.specs.Request.{elsewhereBy, barredBy, doingOf, doneAt, answerAsked, requestOf}
@@ -133,13 +132,13 @@ doing-numbers (asks.Set g) d room cs = set-numbers cs (g .bytes) d
 doing-numbers (asks.Get part g) d room cs = get-numbers part cs (g .bytes) room
 
 -- where no control is addressed, one of 33 and 34
-missed-numbers : (t : Table) (b : Bool) → RequestNumber (soughtNumber (soughtBy t (missingBy b)))
-missed-numbers t true = number 34 (omega arith) (omega arith)
-missed-numbers t false = number 33 (omega arith) (omega arith)
+missed-numbers : (b : Bool) → RequestNumber (missingBy b)
+missed-numbers true = number 34 (omega arith) (omega arith)
+missed-numbers false = number 33 (omega arith) (omega arith)
 
 done-numbers : (t : Table) (u : ℕ) (ps : List ℕ) (k : Asked) (d : List ℕ) (room : ℕ) → Numbered RequestNumber (doneAt t u ps (doingOf k d room))
 unfolding doneAt
-done-numbers t u [] k d room = missed-numbers t (unitIn t u)
+done-numbers t u [] k d room = missed-numbers (unitIn t u)
 done-numbers t u (p ∷ ps) k d room =
     denied-numbered RequestNumber t (p ∷ ps) (doingOf k d room (map (at t) (p ∷ ps))) (doing-numbers k d room (map (at t) (p ∷ ps)))
 

@@ -1,6 +1,5 @@
 -- Each refusal exactly where the paper gives it: the number of a load or a request is that of the first row of the paper's table
 -- that is given, and 0 where none is; and no other number is.
---   addressed-found, addressed-one  ==  the addressed controls are those that are found; and no other list is
 --   request-rows, load-rows    ==  the number that is answered is the one that the rows say; step-rows: so it is of every step
 --   request-row-one, load-row-one, step-row-one ==  the rows say one number
 use Prim.Native.Nat.{ℕ, _≤_, _<_}
@@ -24,11 +23,10 @@ use Rattle.table.specs.declared.Control.{Control}
 use Rattle.table.specs.declared.Table.{Table}
 use Rattle.table.specs.declared.Sense.{Sense}
 use Rattle.table.specs.declared.Sense.the-variants.{Unknown, YesNo, Ranged, Pin}
-use Rattle.table.specs.First.{Seat, places, entryAt}
+use Rattle.table.specs.First.{Seat, places as counted, entryAt}
 use Rattle.table.specs.First.Seat.{absent, seat}
 use Rattle.table.specs.Controls.{at, senseOf}
 use Rattle.table.specs.Keys.{Key, whereIs, Bears, StandsAt, InTable}
-use Rattle.address.specs.LookedUp.{unitIn}
 use Rattle.sound.specs.Sound.{soundOf}
 use Rattle.single.specs.Meaning.{SoundAs}
 use Rattle.sound.specs.Meaning.{Sound, sound-reads}
@@ -47,14 +45,16 @@ use Rattle.loads.specs.Load.{loadRange, loadBy, loadOn}
 use Rattle.request.specs.declared.State.{State}
 use Rattle.request.specs.Outcome.{Outcome, numberOf}
 use Rattle.request.specs.Outcome.Outcome.{refused}
-use Rattle.address.specs.Addressed.{indicesOf, addressedIn}
+use Rattle.address.specs.Addressed.{addressedIn, unitIn}
+use Rattle.address.specs.AddressedLaws.{found-stands, none-stands}
 use Rattle.request.specs.Stored.{outcomeAt}
 use Rattle.request.specs.Load.{loadAt, loadOf}
 use Rattle.request.specs.Request.{elsewhereBy, barredBy, doingOf, doneAt, answerAsked, requestOf}
-use Rattle.runs.specs.RequestRows.{Row, given as is-given, passed, NoRow, Owned, ByChannel, none as no-more, more, Addressed, Along, HasRange, Unloaded, Outside, Beyond, first, later, RangedThere, InRange, bytesSent, lastRows, controlRows, addressedRows, askedRows, requestRows, loadRows, stepRows}
+use Rattle.runs.specs.RequestRows.{Row, given as is-given, passed, NoRow, Owned, Addressed, Along, HasRange, Unloaded, Outside, Beyond, first, later, RangedThere, InRange, bytesSent, lastRows, controlRows, addressedRows, askedRows, requestRows, loadRows, stepRows}
 use Rattle.runs.specs.Runs.{namedBy, Step, stepOf}
 use Rattle.runs.specs.Runs.Step.{load, request}
-use Rattle.runs.proofs.Kept.{found-stands, none-stands, stands-one}
+use Rattle.runs.proofs.Taken.{places}
+use Rattle.runs.proofs.Addressing.{places-low, among-names, addressed-found, addressed-one}
 
 -- the number of what is done at the controls
 abbrev numberIn : Doing → ℕ
@@ -185,73 +185,18 @@ module _ (s d : List ℕ) (room : ℕ) where
         by-test 36 _ _ (unready-reads cs) (λ _.
         passed no-set (passed no-set (by-test 39 _ _ no-room (λ _. refl)))))
 
--- lists whose channels rise and that have the same members are one
-module _ where
-  rising-head : {c : Control} {cs : List Control} → ByChannel (c ∷ cs) → (e : Control) → e ∈ cs → c .channel < e .channel
-  rising-head (more h r) = h
-
-  rising-tail : {c : Control} {cs : List Control} → ByChannel (c ∷ cs) → ByChannel cs
-  rising-tail (more h r) = r
-
-  one-head : (c e : Control) (cs es : List Control) → ByChannel (c ∷ cs) → ByChannel (e ∷ es) → c ∈ (e ∷ es) → e ∈ (c ∷ cs) → c ≡ e
-  one-head c e cs es r q m n = go (List·Memᴰ·cases-cons m) (List·Memᴰ·cases-cons n)
-    where
-      go : (c ≡ e) ⊎ (c ∈ es) → (e ≡ c) ⊎ (e ∈ cs) → c ≡ e
-      go (inl i) y = i
-      go (inr x) (inl j) = sym j
-      go (inr x) (inr y) = let a = rising-head q c x in let b = rising-head r e y in absurd (omega arith)
-
-  rest-of : (c e : Control) (cs es : List Control) → c ≡ e → ByChannel (c ∷ cs) → ((x : Control) → x ∈ (c ∷ cs) → x ∈ (e ∷ es)) → (x : Control)
-      → x ∈ cs → x ∈ es
-  rest-of c e cs es i r h x m = go (List·Memᴰ·cases-cons (h x (List·Memᴰ·tail m)))
-    where
-      go : (x ≡ e) ⊎ (x ∈ es) → x ∈ es
-      go (inl j) = let a = rising-head r x m in let b : x .channel ≡ c .channel = ap (λ (y : Control). y .channel) (j ∙ sym i) in absurd (omega arith)
-      go (inr y) = y
-
-  rising-one : (cs es : List Control) → ByChannel cs → ByChannel es → ((x : Control) → x ∈ cs → x ∈ es) → ((x : Control) → x ∈ es → x ∈ cs) → cs ≡ es
-  rising-one [] [] r q h k = refl
-  rising-one [] (e ∷ es) r q h k = absurd (List·Memᴰ·not-nil (k e (List·Memᴰ·head refl)))
-  rising-one (c ∷ cs) [] r q h k = absurd (List·Memᴰ·not-nil (h c (List·Memᴰ·head refl)))
-  rising-one (c ∷ cs) (e ∷ es) r q h k =
-      let i = one-head c e cs es r q (h c (List·Memᴰ·head refl)) (k e (List·Memᴰ·head refl)) in
-      let j = rising-one cs es (rising-tail r) (rising-tail q) (rest-of c e cs es i r h) (rest-of e c es cs (sym i) q k) in
-      ap (λ (x : Control). x ∷ cs) i ∙ ap (λ (l : List Control). e ∷ l) j
-
-pub addressed-one : (t : Table) (s : List ℕ) (cs es : List Control) → Addressed t s cs → Addressed t s es → cs ≡ es
-addressed-one t s cs es a b =
-    rising-one cs es (a .rising) (b .rising) (λ x m. b .each x .1 (a .each x .0 m)) (λ x m. a .each x .1 (b .each x .0 m))
-
 -- what stands in a table that 30 does not turn away
 module _ (t : Table) (sound : Sound t) where
   owned-reads : (u : ℕ) → Reads (unitIn t u) (Owned t u)
   unfolding unitIn
   owned-reads u =
       let few = sound .few in
-      reads-same (reads-somewhere (λ q. eqb (at t q .unit) u) (λ q. at t q .unit ≡ u) (places t) (λ q l. reads-eq (at t q .unit) u))
+      reads-same (reads-somewhere (λ q. eqb (at t q .unit) u) (λ q. at t q .unit ≡ u) (counted t) (λ q l. reads-eq (at t q .unit) u))
       (λ k. let i = k .1 in record { index = k .0; inside = omega arith; unit = k .2 })
       (λ o. let i = o .inside in (o .index, omega arith, o .unit))
 
   bears-stands : (k : Key) (c : Control) (i : InTable t c) → Bears k c → StandsAt t k (i .index)
   bears-stands k c i b = record { inside = i .inside; bears = rw (i .is) b }
-
-  -- the control that is found, and no other
-  the-one : (k : Key) (p : ℕ) → whereIs t k ≡ seat p → (c : Control) → InTable t c → Bears k c → c ≡ at t p
-  the-one k p f c i b = sym (i .is) ∙ ap (at t) (stands-one t sound k (i .index) p (bears-stands k c i b) (found-stands t k p f))
-
-  pub addressed-found : (s : List ℕ) (f : Seat) → whereIs t (namedBy s) ≡ f → Addressed t s (map (at t) (indicesOf f))
-  addressed-found s absent e = record {
-    each = λ c. (λ m. absurd (List·Memᴰ·not-nil m), λ h. absurd (none-stands t sound (namedBy s) e (h .0 .index) (bears-stands (namedBy s) c (h .0) (h .1))));
-    rising = no-more;
-  }
-  addressed-found s (seat p) e = record {
-    each = λ c. (λ m. only c (List·Memᴰ·cases-cons m), λ h. List·Memᴰ·head (the-one (namedBy s) p e c (h .0) (h .1)));
-    rising = more (λ x m. absurd (List·Memᴰ·not-nil m)) no-more;
-  }
-    where
-      only : (c : Control) → (c ≡ at t p) ⊎ (c ∈ []) → InTable t c × Bears (namedBy s) c
-      only c (inl i) = let a = found-stands t (namedBy s) p e in (record { index = p; inside = a .inside; is = sym i }, rw i (a .bears))
-      only c (inr m) = absurd (List·Memᴰ·not-nil m)
 
   each-sound : (s : List ℕ) (cs : List Control) → Addressed t s cs → (c : Control) → c ∈ cs → SoundAs (heldBy c) c
   each-sound s cs a c m = let h = a .each c .0 m .0 in rw (← (h .is)) (sound .each (h .index) (h .inside))
@@ -262,20 +207,26 @@ module _ (st : State) (sound : Sound (st .table)) (s d : List ℕ) (room : ℕ) 
   abbrev t : Table
   t = st .table
 
-  found-rows : (f : Seat) → whereIs t (namedBy s) ≡ f → (b : Bool) → Reads b (Owned t (byte s 5)) → unitIn t (byte s 5) ≡ b
-      → Row 33 (Owned t (byte s 5) → ⊥) (Along t s (addressedRows s d room)) (numberOf (doneAt t (byte s 5) (indicesOf f) act))
-  unfolding doneAt
-  found-rows (seat p) e b r h =
-      let a = found-stands t (namedBy s) p e in
-      let l = addressed-found t sound s (seat p) e in
-      passed (λ n. n (record { index = p; inside = a .inside; unit = a .bears .unit }))
-      (at t p ∷ [], (l, passed (λ i. List·Memᴰ·not-nil (subst (λ (x : List Control). at t p ∈ x) i (List·Memᴰ·head refl))) (rw (same-number t (p ∷ []) (act (at t p ∷ []))) (rows (at t p ∷ []) l))))
-  found-rows absent e true r h =
-      passed (λ n. n (r .says refl)) (rw h ([], (addressed-found t sound s absent e, is-given refl refl)))
-  found-rows absent e false r h = rw h (is-given (r .denies refl) refl)
+  abbrev restRows : ℕ → Type 0
+  restRows = Row 33 (Owned t (byte s 5) → ⊥) (Along t s (addressedRows s d room))
 
-  here-rows : Row 33 (Owned t (byte s 5) → ⊥) (Along t s (addressedRows s d room)) (numberOf (doneAt t (byte s 5) (addressedIn t (byte s 5) (byte s 2) (byte s 3)) act))
-  here-rows = found-rows (whereIs t (namedBy s)) refl (unitIn t (byte s 5)) (owned-reads t sound (byte s 5)) refl
+  -- where a control is addressed its unit has one
+  owned-by : (ps : List ℕ) → places t s ≡ ps → (p : ℕ) → p ∈ ps → Owned t (byte s 5)
+  owned-by ps e p m =
+      let i : p ∈ places t s = rw e m in
+      record { index = p; inside = places-low t s p i; unit = among-names t s p i .unit }
+
+  found-rows : (ps : List ℕ) → places t s ≡ ps → Addressed t s (map (at t) ps) → (b : Bool) → Reads b (Owned t (byte s 5)) → unitIn t (byte s 5) ≡ b
+      → restRows (numberOf (doneAt t (byte s 5) ps act))
+  unfolding doneAt
+  found-rows (p ∷ ps) e l b r h =
+      passed (λ n. n (owned-by (p ∷ ps) e p (List·Memᴰ·head refl)))
+      (map (at t) (p ∷ ps), (l, passed (λ i. List·Memᴰ·not-nil (subst (λ (x : List Control). at t p ∈ x) i (List·Memᴰ·head refl))) (rw (same-number t (p ∷ ps) (act (map (at t) (p ∷ ps)))) (rows (map (at t) (p ∷ ps)) l))))
+  found-rows [] e l true r h = passed (λ n. n (r .says refl)) (rw h ([], (l, is-given refl refl)))
+  found-rows [] e l false r h = rw h (is-given (r .denies refl) refl)
+
+  here-rows : restRows (numberOf (doneAt t (byte s 5) (addressedIn t (byte s 5) (byte s 2) (byte s 3)) act))
+  here-rows = found-rows (places t s) refl (addressed-found t s sound) (unitIn t (byte s 5)) (owned-reads t sound (byte s 5)) refl
 
 module _ (st : State) (sound : Sound (st .table)) (s d : List ℕ) (room : ℕ) where
   -- 32 where the interface is another

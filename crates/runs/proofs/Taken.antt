@@ -1,21 +1,22 @@
 -- What an accepted step was: each acceptance, taken apart into what the papers ask of it.
 --   LoadTaken  ==  a load that was taken
+--   places t s ==  the indices of the controls that the setup addresses
 --   SetTaken   ==  a Set that was taken
 --   GetTaken   ==  a Get that was answered
 --   load-taken, set-taken, get-taken  ==  every acceptance is one of these
 --   load-not-got  ==  no load is answered with bytes
-use Prim.Native.Nat.{ℕ, min}
+use Prim.Native.Nat.{ℕ}
 use mathlib.Core.Path.{_≡_, refl, sym, ap, _∙_}
-use mathlib.Core.List.{List, [], _∷_}
+use mathlib.Core.List.{List, [], _∷_, map}
 use mathlib.Core.Bool.{Bool, true, false, not, _&&_, _||_}
 use mathlib.Core.Logic.{_⊎_, inl, inr, ⊎-elim}
 use native.Mathlib.Omega.{arith}
 use lib.Dec.{eqb, ltb}
-use lib.ListN.{length, take}
-use lib.Seq.{take-all}
+use lib.ListN.{length}
 use borrow.Author.Tests.{eqb-true, not-false}
 use Rattle.ground.specs.Pick.{pick, true≠false, reads-true, reads-and}
 use Rattle.ground.specs.Numbers.{byte, word}
+use Rattle.ground.specs.Lists.{any}
 use Rattle.setting.specs.Setting.{fitsOf, legalOf}
 use Rattle.setting.specs.declared.Sort.{Sort}
 use Rattle.setting.specs.declared.Range.{Range}
@@ -33,20 +34,19 @@ use Rattle.setup.specs.declared.Asked.{Asked}
 use Rattle.setup.specs.declared.Asked.the-variants as asks
 use Rattle.setup.specs.Setup.{AsksSet, AsksGet, codeOf, askedOf, targetIn}
 use Rattle.setup.specs.Asking.{Asking, none, sets, gets, asking}
-use Rattle.deed.specs.Doing.{Doing, lowFirst, low-first-cut}
+use Rattle.deed.specs.Doing.{Doing}
 use Rattle.deed.specs.Doing.Doing.{denied, given, changed}
-use Rattle.answers.specs.Held.{lacking, partOf, unready, valueIn, takes, storedFor, withCur}
-use Rattle.answers.specs.Answers.{heldBy, sizeIn, sentTo, setOf, getOf}
-use Rattle.answers.specs.AnswersLaws.{setOne, set-one, getOne, get-one}
+use Rattle.answers.specs.Held.{lacking, unready}
+use Rattle.answers.specs.Answers.{heldBy, sizesOf, allTake, allSet, misfits, cutTo, setOf, getOf}
 use Rattle.loads.specs.Load.{loadedWith, loadRange, loadBy, loadOn}
 use Rattle.request.specs.declared.State.{State}
 use Rattle.request.specs.Outcome.{Outcome}
 use Rattle.request.specs.Outcome.Outcome.{refused, got, done}
-use Rattle.address.specs.Addressed.{indicesOf}
+use Rattle.address.specs.Addressed.{addressedIn}
 use Rattle.request.specs.Stored.{storedAt, outcomeAt}
 use Rattle.request.specs.Load.{loadAt, loadOf}
-use Rattle.request.specs.Request.{barredBy, doingOf, doneAt, answerAsked, requestOf}
-use Rattle.runs.specs.Runs.{namedBy}
+use Rattle.request.specs.Request.{barredBy, doneAt, answerAsked, requestOf}
+use Rattle.runs.specs.Runs.{addressedBy}
 
 -- which of its two a choice came from
 picked : {A : Type 0} (b : Bool) (x y z : A) → pick b x y ≡ z → ((b ≡ true) × (x ≡ z)) ⊎ ((b ≡ false) × (y ≡ z))
@@ -136,141 +136,136 @@ load-taken st k range w v e =
     (λ h. no-done (h .1))
     (picked (soundOf (st .table)) _ _ (done v) e)
 
-pub record SetTaken (t : Table) (s d : List ℕ) (v : Table) : Type 0 where
-  pub sound : soundOf t ≡ true
-  pub asked : AsksSet s
-  pub index : ℕ
-  pub there : whereIs t (namedBy s) ≡ seat index
-  pub ready : unready (heldBy (at t index)) (at t index) ≡ false
-  pub sized : length d ≡ sizeIn (at t index)
-  pub taken : takes (heldBy (at t index)) (at t index) (valueIn d) ≡ true
-  pub table : v ≡ placed t index (withCur (storedFor (heldBy (at t index)) (at t index) (valueIn d)) (at t index))
+-- what is addressed where the setup names it
+module _ (t : Table) (s : List ℕ) where
+  abbrev pub places : List ℕ
+  places = addressedIn t (byte s 5) (byte s 2) (byte s 3)
 
-pub record GetTaken (t : Table) (s : List ℕ) (room : ℕ) (bytes : List ℕ) : Type 0 where
-  pub sound : soundOf t ≡ true
-  pub asked : AsksGet s
-  pub part : Part
-  pub code : byte s 1 ≡ codeOf part
-  pub index : ℕ
-  pub there : whereIs t (namedBy s) ≡ seat index
-  pub has : lacking (heldBy (at t index)) part ≡ false
-  pub ready : unready (heldBy (at t index)) (at t index) ≡ false
-  pub given : bytes ≡ take (word s 6) (lowFirst (sizeIn (at t index)) (partOf part (at t index)))
+  pub record SetTaken (d : List ℕ) (v : Table) : Type 0 where
+    pub sound : soundOf t ≡ true
+    pub asked : AsksSet s
+    pub some : places ≡ [] → ⊥
+    pub ready : any (λ c. unready (heldBy c) c) (addressedBy t s) ≡ false
+    pub sized : length d ≡ sizesOf (addressedBy t s)
+    pub taken : allTake (addressedBy t s) d ≡ true
+    pub table : v ≡ storedAt t places (allSet (addressedBy t s) d)
 
-missized-not : (size n : ℕ) (d : List ℕ) → (not (eqb n size) || not (eqb (length d) size)) ≡ false → length d ≡ size
-missized-not size n d e = go (eqb n size) e
+  pub record GetTaken (bytes : List ℕ) : Type 0 where
+    pub sound : soundOf t ≡ true
+    pub asked : AsksGet s
+    pub part : Part
+    pub code : byte s 1 ≡ codeOf part
+    pub some : places ≡ [] → ⊥
+    pub ready : any (λ c. unready (heldBy c) c) (addressedBy t s) ≡ false
+    pub given : bytes ≡ cutTo (word s 6) part (addressedBy t s)
+
+misfits-not : (cs : List Control) (n : ℕ) (d : List ℕ) → misfits cs n d ≡ false → length d ≡ sizesOf cs
+misfits-not cs n d e = go (eqb n (sizesOf cs)) e
   where
-    go : (b : Bool) → (not b || not (eqb (length d) size)) ≡ false → length d ≡ size
+    go : (b : Bool) → (not b || not (eqb (length d) (sizesOf cs))) ≡ false → length d ≡ sizesOf cs
     go true h = eqb-true _ _ (not-false _ h)
     go false h = absurd (true≠false h)
 
--- a Set of the control at index p
-module _ (t : Table) (s d : List ℕ) (q : soundOf t ≡ true) (p : ℕ) (f : whereIs t (namedBy s) ≡ seat p) where
-  abbrev here : Control
-  here = at t p
-
-  set-changed : AsksSet s → (n : ℕ) (v : Table) (cs : List Control) → setOne here n d ≡ changed cs → v ≡ storedAt t (p ∷ []) cs → SetTaken t s d v
-  unfolding storedAt
-  set-changed a n v cs e i =
-      let x = passed-change (unready (heldBy here) here) 36 _ cs e in
-      let y = passed-change (not (eqb n (sizeIn here)) || not (eqb (length d) (sizeIn here))) 37 _ cs (x .1) in
-      let z = kept-change (takes (heldBy here) here (sentTo here d)) 38 _ cs (y .1) in
-      let l = missized-not (sizeIn here) n d (y .0) in
-      let w : sentTo here d ≡ valueIn d = ap valueIn (take-all (sizeIn here) d (omega arith)) in
-      record {
-        sound = q;
-        asked = a;
-        index = p;
-        there = f;
-        ready = x .0;
-        sized = l;
-        taken = ap (takes (heldBy here) here) (sym w) ∙ z .0;
-        table = i ∙ ap (storedAt t (p ∷ [])) (z .1) ∙ ap (λ (y : ℕ). placed t p (withCur (storedFor (heldBy here) here y) here)) w;
-      }
-
-  get-gave : AsksGet s → (part : Part) → byte s 1 ≡ codeOf part → (room : ℕ) (bytes : List ℕ) → getOne here part (word s 6) room ≡ given bytes
-      → GetTaken t s room bytes
-  get-gave a part c room bytes e =
-      let x = passed-gift (lacking (heldBy here) part) 35 _ bytes e in
-      let y = passed-gift (unready (heldBy here) here) 36 _ bytes (x .1) in
-      let z = passed-gift (ltb room (min (word s 6) (sizeIn here))) 39 _ bytes (y .1) in
-      record {
-        sound = q;
-        asked = a;
-        part = part;
-        code = c;
-        index = p;
-        there = f;
-        has = x .0;
-        ready = y .0;
-        given = given-one (sym (z .1)) ∙ sym (low-first-cut (word s 6) (sizeIn here) (partOf part here));
-      }
-    where
-      given-one : {x y : List ℕ} → given x ≡ given y → x ≡ y
-      given-one i = cc
+given-one : {x y : List ℕ} → given x ≡ given y → x ≡ y
+given-one i = cc
 
 -- a Set is not answered with bytes, and a Get stores nothing
-set-no-gift : (c : Control) (n : ℕ) (d : List ℕ) (bytes : List ℕ) → setOne c n d ≡ given bytes → ⊥
-set-no-gift c n d bytes e =
-    let x = passed-gift (unready (heldBy c) c) 36 _ bytes e in
-    let y = passed-gift (not (eqb n (sizeIn c)) || not (eqb (length d) (sizeIn c))) 37 _ bytes (x .1) in
-    ⊎-elim (λ h. change-no-gift (h .1)) (λ h. no-gift (h .1)) (picked (takes (heldBy c) c (sentTo c d)) _ _ (given bytes) (y .1))
+set-no-gift : (cs : List Control) (n : ℕ) (d : List ℕ) (bytes : List ℕ) → setOf cs n d ≡ given bytes → ⊥
+unfolding setOf
+set-no-gift cs n d bytes e =
+    let x = passed-gift (any (λ c. unready (heldBy c) c) cs) 36 _ bytes e in
+    let y = passed-gift (misfits cs n d) 37 _ bytes (x .1) in
+    ⊎-elim (λ h. change-no-gift (h .1)) (λ h. no-gift (h .1)) (picked (allTake cs d) _ _ (given bytes) (y .1))
 
-get-no-change : (c : Control) (part : Part) (n room : ℕ) (cs : List Control) → getOne c part n room ≡ changed cs → ⊥
-get-no-change c part n room cs e =
-    let x = passed-change (lacking (heldBy c) part) 35 _ cs e in
-    let y = passed-change (unready (heldBy c) c) 36 _ cs (x .1) in
-    let z = passed-change (ltb room (min n (sizeIn c))) 39 _ cs (y .1) in
+get-no-change : (part : Part) (cs : List Control) (n room : ℕ) (es : List Control) → getOf part cs n room ≡ changed es → ⊥
+unfolding getOf
+get-no-change part cs n room es e =
+    let x = passed-change (any (λ c. lacking (heldBy c) part) cs) 35 _ es e in
+    let y = passed-change (any (λ c. unready (heldBy c) c) cs) 36 _ es (x .1) in
+    let z = passed-change (ltb room (length (cutTo n part cs))) 39 _ es (y .1) in
     change-no-gift (sym (z .1))
 
 module _ (st : State) (s d : List ℕ) (room : ℕ) (q : soundOf (st .table) ≡ true) where
   abbrev t : Table
   t = st .table
 
-  -- what is done where the named control was found
-  set-found : AsksSet s → (f : Seat) → whereIs t (namedBy s) ≡ f → (v : Table)
-      → doneAt t (byte s 5) (indicesOf f) (λ cs. setOf cs (word s 6) d) ≡ done v → SetTaken t s d v
-  unfolding doneAt
-  set-found a absent i v e = no-done e
-  set-found a (seat p) i v e =
-      let x = done-changed t (p ∷ []) (setOf (at t p ∷ []) (word s 6) d) v e in
-      set-changed t s d q p i a (word s 6) v (x .0) (sym (set-one (at t p) (word s 6) d) ∙ x .1 .0) (x .1 .1)
+  -- what is done at the addressed controls
+  set-changed : AsksSet s → (places t s ≡ [] → ⊥) → (v : Table) (es : List Control) → setOf (addressedBy t s) (word s 6) d ≡ changed es
+      → v ≡ storedAt t (places t s) es → SetTaken t s d v
+  unfolding setOf
+  set-changed a n v es e i =
+      let x = passed-change (any (λ c. unready (heldBy c) c) (addressedBy t s)) 36 _ es e in
+      let y = passed-change (misfits (addressedBy t s) (word s 6) d) 37 _ es (x .1) in
+      let z = kept-change (allTake (addressedBy t s) d) 38 _ es (y .1) in
+      record {
+        sound = q;
+        asked = a;
+        some = n;
+        ready = x .0;
+        sized = misfits-not (addressedBy t s) (word s 6) d (y .0);
+        taken = z .0;
+        table = i ∙ ap (storedAt t (places t s)) (z .1);
+      }
 
-  set-found-not : (f : Seat) (bytes : List ℕ) → doneAt t (byte s 5) (indicesOf f) (λ cs. setOf cs (word s 6) d) ≡ got bytes → ⊥
-  unfolding doneAt
-  set-found-not absent bytes e = no-got e
-  set-found-not (seat p) bytes e =
-      set-no-gift (at t p) (word s 6) d bytes (sym (set-one (at t p) (word s 6) d) ∙ got-given t (p ∷ []) (setOf (at t p ∷ []) (word s 6) d) bytes e)
+  get-gave : AsksGet s → (places t s ≡ [] → ⊥) → (part : Part) → byte s 1 ≡ codeOf part → (bytes : List ℕ)
+      → getOf part (addressedBy t s) (word s 6) room ≡ given bytes → GetTaken t s bytes
+  unfolding getOf
+  get-gave a n part c bytes e =
+      let x = passed-gift (any (λ c. lacking (heldBy c) part) (addressedBy t s)) 35 _ bytes e in
+      let y = passed-gift (any (λ c. unready (heldBy c) c) (addressedBy t s)) 36 _ bytes (x .1) in
+      let z = passed-gift (ltb room (length (cutTo (word s 6) part (addressedBy t s)))) 39 _ bytes (y .1) in
+      record { sound = q; asked = a; part = part; code = c; some = n; ready = y .0; given = given-one (sym (z .1)) }
 
-  get-found : AsksGet s → (part : Part) → byte s 1 ≡ codeOf part → (f : Seat) → whereIs t (namedBy s) ≡ f → (bytes : List ℕ)
-      → doneAt t (byte s 5) (indicesOf f) (λ cs. getOf part cs (word s 6) room) ≡ got bytes → GetTaken t s room bytes
-  unfolding doneAt
-  get-found a part c absent i bytes e = no-got e
-  get-found a part c (seat p) i bytes e =
-      get-gave t s d q p i a part c room bytes (sym (get-one (at t p) part (word s 6) room) ∙ got-given t (p ∷ []) (getOf part (at t p ∷ []) (word s 6) room) bytes e)
+  cons-some : {p : ℕ} {ps : List ℕ} → p ∷ ps ≡ [] → ⊥
+  cons-some e = let z : _≡_ {A = ℕ} 0 1 = cc in omega arith
 
-  get-found-not : (part : Part) (f : Seat) (v : Table) → doneAt t (byte s 5) (indicesOf f) (λ cs. getOf part cs (word s 6) room) ≡ done v → ⊥
+  -- from what it came to: it is done somewhere
+  some-done : (act : List Control → Doing) (v : Table) → doneAt t (byte s 5) (places t s) act ≡ done v
+      → (places t s ≡ [] → ⊥) × ((es : List Control) × ((act (addressedBy t s) ≡ changed es) × (v ≡ storedAt t (places t s) es)))
   unfolding doneAt
-  get-found-not part absent v e = no-done e
-  get-found-not part (seat p) v e =
-      let x = done-changed t (p ∷ []) (getOf part (at t p ∷ []) (word s 6) room) v e in
-      get-no-change (at t p) part (word s 6) room (x .0) (sym (get-one (at t p) part (word s 6) room) ∙ x .1 .0)
+  some-done act v e = go (places t s) refl e
+    where
+      go : (ps : List ℕ) → places t s ≡ ps → doneAt t (byte s 5) ps act ≡ done v
+          → (ps ≡ [] → ⊥) × ((es : List Control) × ((act (map (at t) ps) ≡ changed es) × (v ≡ storedAt t ps es)))
+      go [] i h = no-done h
+      go (p ∷ ps) i h = (cons-some, done-changed t (p ∷ ps) (act (map (at t) (p ∷ ps))) v h)
+
+  some-got : (act : List Control → Doing) (bytes : List ℕ) → doneAt t (byte s 5) (places t s) act ≡ got bytes
+      → (places t s ≡ [] → ⊥) × (act (addressedBy t s) ≡ given bytes)
+  unfolding doneAt
+  some-got act bytes e = go (places t s) refl e
+    where
+      go : (ps : List ℕ) → places t s ≡ ps → doneAt t (byte s 5) ps act ≡ got bytes → (ps ≡ [] → ⊥) × (act (map (at t) ps) ≡ given bytes)
+      go [] i h = no-got h
+      go (p ∷ ps) i h = (cons-some, got-given t (p ∷ ps) (act (map (at t) (p ∷ ps))) bytes h)
 
   set-asked : (k : Asked) → Asking s k → (v : Table) → answerAsked st k d room ≡ done v → SetTaken t s d v
   unfolding answerAsked
   set-asked _ (none w) v e = no-done e
   set-asked _ (sets l a) v e =
-      ⊎-elim (λ h. set-found a (whereIs t (namedBy s)) refl v (h .1)) (λ h. no-done (h .1)) (picked (eqb (barredBy (asks.Set _) (st .control)) 0) _ _ (done v) e)
+      ⊎-elim
+      (λ h. let x = some-done (λ cs. setOf cs (word s 6) d) v (h .1) in set-changed a (x .0) v (x .1 .0) (x .1 .1 .0) (x .1 .1 .1))
+      (λ h. no-done (h .1))
+      (picked (eqb (barredBy (asks.Set _) (st .control)) 0) _ _ (done v) e)
   set-asked _ (gets part l a c) v e =
-      ⊎-elim (λ h. absurd (get-found-not part (whereIs t (namedBy s)) v (h .1))) (λ h. no-done (h .1)) (picked (eqb (barredBy (asks.Get part _) (st .control)) 0) _ _ (done v) e)
+      ⊎-elim
+      (λ h. let x = some-done (λ cs. getOf part cs (word s 6) room) v (h .1) in absurd (get-no-change part (addressedBy t s) (word s 6) room (x .1 .0) (x .1 .1 .0)))
+      (λ h. no-done (h .1))
+      (picked (eqb (barredBy (asks.Get part _) (st .control)) 0) _ _ (done v) e)
 
-  get-asked : (k : Asked) → Asking s k → (bytes : List ℕ) → answerAsked st k d room ≡ got bytes → GetTaken t s room bytes
+  get-asked : (k : Asked) → Asking s k → (bytes : List ℕ) → answerAsked st k d room ≡ got bytes → GetTaken t s bytes
   unfolding answerAsked
   get-asked _ (none w) bytes e = no-got e
   get-asked _ (sets l a) bytes e =
-      ⊎-elim (λ h. absurd (set-found-not (whereIs t (namedBy s)) bytes (h .1))) (λ h. no-got (h .1)) (picked (eqb (barredBy (asks.Set _) (st .control)) 0) _ _ (got bytes) e)
+      ⊎-elim
+      (λ h. let x = some-got (λ cs. setOf cs (word s 6) d) bytes (h .1) in absurd (set-no-gift (addressedBy t s) (word s 6) d bytes (x .1)))
+      (λ h. no-got (h .1))
+      (picked (eqb (barredBy (asks.Set _) (st .control)) 0) _ _ (got bytes) e)
   get-asked _ (gets part l a c) bytes e =
-      ⊎-elim (λ h. get-found a part c (whereIs t (namedBy s)) refl bytes (h .1)) (λ h. no-got (h .1)) (picked (eqb (barredBy (asks.Get part _) (st .control)) 0) _ _ (got bytes) e)
+      ⊎-elim
+      (λ h. let x = some-got (λ cs. getOf part cs (word s 6) room) bytes (h .1) in get-gave a (x .0) part c bytes (x .1))
+      (λ h. no-got (h .1))
+      (picked (eqb (barredBy (asks.Get part _) (st .control)) 0) _ _ (got bytes) e)
 
 pub set-taken : (st : State) (s d : List ℕ) (room : ℕ) (v : Table) → requestOf st s d room ≡ done v → SetTaken (st .table) s d v
 unfolding requestOf
@@ -280,7 +275,7 @@ set-taken st s d room v e =
     (λ h. no-done (h .1))
     (picked (soundOf (st .table)) _ _ (done v) e)
 
-pub get-taken : (st : State) (s d : List ℕ) (room : ℕ) (bytes : List ℕ) → requestOf st s d room ≡ got bytes → GetTaken (st .table) s room bytes
+pub get-taken : (st : State) (s d : List ℕ) (room : ℕ) (bytes : List ℕ) → requestOf st s d room ≡ got bytes → GetTaken (st .table) s bytes
 unfolding requestOf
 get-taken st s d room bytes e =
     ⊎-elim

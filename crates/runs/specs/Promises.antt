@@ -3,24 +3,29 @@
 --                            (Stored, of crate setting, says so over the integers: the closest available setting, silence as itself)
 --   CurMeans k range x v ==  v is what CUR must be where the control holds k, has that range and x was asked: of a ranged control
 --                            the closest setting (Settles), of another x
---   Sent s x bytes       ==  the bytes are the first wLength of those of the number x, low first, of a control with the setup's selector:
---                            all of them where wLength is larger
---   GetGiven t s bytes   ==  the setup asks a part of the control that it names, which is one of the table's, and the bytes are those
---                            sent of that number of it
---   SetStored t s d v    ==  from the table t to v the control that the setup names has for its CUR what is stored where the number
---                            that the data are is wanted, and is else as it was; so is every other
+--   GetGiven t s bytes   ==  the setup asks a part of the controls that it addresses, of which there are some, and the bytes are the first
+--                            wLength of that part of each, one after another, each low first and at its size
+--   Share cs d c piece   ==  the piece of the data d of a Set of the controls cs that is the control c's
+--   Turned cs d b a      ==  the control b, one of cs, is a after the Set: its CUR is what is stored where the number of its piece of the data d
+--                            is wanted, and else it is as it was
+--   SetStored t s d v    ==  from the table t to v each control that the setup addresses is turned so, and every other is as it was
 --   LoadStored t k range w v  ==  .. the control of the key k is loaded with that range, and its CUR is what is stored where w is wanted
---   Alone t k v          ==  v differs from t in the numbers of the control k alone: every index at which k does not stand is what it was
+--   About step c         ==  the step is about the control c: it loads it, or addresses it
+--   Alone t step v       ==  v differs from t in the numbers of the controls that the step is about alone: every other index is what it was
 --   Moved t k p rs ns v  ==  from t to v the control of the key k, at index p, was given the ranges rs and asked to take the numbers ns,
 --                            in this order: it stands where it stood, with as many pins; it is loaded if it was or was given a
 --                            range; its range is the last of rs; its CUR is what is stored where the last of ns is wanted; it is
 --                            as it was where ns is empty; and 30 has nothing against the table
 --   Means k part c rs ns v  ==  v is what a Get of that part must give, where c is the control at the start, rs are the ranges of
 --                            its accepted loads since and ns the numbers of its accepted loads and Sets since
---   Answers st run s bytes  ==  .. and the bytes are those sent of such a number of the control that the setup names
+--   keyIn c              ==  the key of the control c
+--   Answer st run part c v  ==  v is such a number of c, and c's own where the run told it none
+--   Valued st run part cs vs  ==  vs are such numbers of the controls cs, one for each
+--   inBytes n vs         ==  the numbers vs, one after another, each in n bytes, low first
+--   Answers st run s bytes  ==  the bytes are the first wLength of such numbers of the controls that the setup addresses
 use Prim.Native.Nat.{ℕ, _<_}
 use mathlib.Core.Path.{_≡_}
-use mathlib.Core.List.{List, []}
+use mathlib.Core.List.{List, [], _∷_, _++_}
 use mathlib.Core.Bool.{true, _||_}
 use lib.ListN.{length, take}
 use Rattle.ground.specs.Numbers.{byte, word}
@@ -33,7 +38,7 @@ use Rattle.table.specs.declared.Sense.{Sense}
 use Rattle.table.specs.declared.Sense.the-variants.{Unknown, YesNo, Ranged, Pin}
 use Rattle.table.specs.declared.Table.{Table}
 use Rattle.table.specs.Controls.{at, senseOf, sizeOf, rangeOf}
-use Rattle.table.specs.Keys.{Key, StandsAt}
+use Rattle.table.specs.Keys.{Key, Bears, StandsAt}
 use Rattle.table.specs.Same.{Same}
 use Rattle.sound.specs.Meaning.{Sound}
 use Rattle.setup.specs.declared.Part.{Part}
@@ -41,8 +46,11 @@ use Rattle.setup.specs.declared.Part.the-variants.{Cur, Min, Max, Res}
 use Rattle.setup.specs.Setup.{codeOf}
 use Rattle.deed.specs.Doing.{lowFirst}
 use Rattle.answers.specs.Held.{partOf, valueIn, withCur}
+use Rattle.answers.specs.Answers.{heldBy, sizeIn, restOf, blockOf}
 use Rattle.request.specs.declared.State.{State}
 use Rattle.runs.specs.Runs.{namedBy, Step, rangesIn, numbersIn, told, lastOf, some}
+use Rattle.runs.specs.Runs.Step.{load, request}
+use Rattle.runs.specs.RequestRows.{Names, Addressed}
 
 pub record Settles (s : Sort) (range : Range) (x v : ℕ) : Type 0 where
   pub legal : Legal s range
@@ -56,22 +64,31 @@ CurMeans YesNo range x v = v ≡ x
 CurMeans (Ranged s) range x v = Settles s range x v
 CurMeans Pin range x v = v ≡ x
 
-abbrev pub Sent : List ℕ → ℕ → List ℕ → Type 0
-Sent s x bytes = bytes ≡ take (word s 6) (lowFirst (sizeOf (senseOf (byte s 3))) x)
-
 pub record GetGiven (t : Table) (s bytes : List ℕ) : Type 0 where
   pub part : Part
   pub code : byte s 1 ≡ codeOf part
-  pub index : ℕ
-  pub stands : StandsAt t (namedBy s) index
-  pub given : Sent s (partOf part (at t index)) bytes
+  pub controls : List Control
+  pub addressed : Addressed t s controls
+  pub some : controls ≡ [] → ⊥
+  pub given : bytes ≡ take (word s 6) (blockOf part controls)
+
+pub data Share : List Control → List ℕ → Control → List ℕ → Type 0 where
+  first : {c : Control} {cs : List Control} {d : List ℕ} → Share (c ∷ cs) d c (take (sizeIn c) d)
+  later : {c e : Control} {cs : List Control} {d piece : List ℕ} → Share cs (restOf c d) e piece → Share (c ∷ cs) d e piece
+
+pub record Turned (cs : List Control) (d : List ℕ) (b a : Control) : Type 0 where
+  pub piece : List ℕ
+  pub share : Share cs d b piece
+  pub sized : length piece ≡ sizeIn b
+  pub cur : CurMeans (heldBy b) (rangeOf b) (valueIn piece) (a .cur)
+  pub rest : a ≡ withCur (a .cur) b
 
 pub record SetStored (t : Table) (s d : List ℕ) (v : Table) : Type 0 where
-  pub index : ℕ
-  pub stands : StandsAt t (namedBy s) index
-  pub cur : CurMeans (senseOf (byte s 3)) (rangeOf (at t index)) (valueIn d) (at v index .cur)
-  pub rest : at v index ≡ withCur (at v index .cur) (at t index)
-  pub others : (q : ℕ) → (q ≡ index → ⊥) → at v q ≡ at t q
+  pub controls : List Control
+  pub addressed : Addressed t s controls
+  pub some : controls ≡ [] → ⊥
+  pub each : (i : ℕ) → i < t .count → Names (namedBy s) (at t i) → Turned controls d (at t i) (at v i)
+  pub others : (i : ℕ) → (i < t .count → Names (namedBy s) (at t i) → ⊥) → at v i ≡ at t i
   pub count : v .count ≡ t .count
 
 pub record LoadStored (t : Table) (k : Key) (range : Range) (w : ℕ) (v : Table) : Type 0 where
@@ -85,10 +102,14 @@ pub record LoadStored (t : Table) (k : Key) (range : Range) (w : ℕ) (v : Table
   pub others : (q : ℕ) → (q ≡ index → ⊥) → at v q ≡ at t q
   pub count : v .count ≡ t .count
 
-pub record Alone (t : Table) (k : Key) (v : Table) : Type 0 where
+abbrev pub About : Step → Control → Type 0
+About (load k range w) c = Bears k c
+About (request s d room) c = Names (namedBy s) c
+
+pub record Alone (t : Table) (step : Step) (v : Table) : Type 0 where
   pub count : v .count ≡ t .count
   pub room : length (v .controls) ≡ length (t .controls)
-  pub others : (q : ℕ) → (StandsAt t k q → ⊥) → at v q ≡ at t q
+  pub others : (q : ℕ) → (q < t .count → About step (at t q) → ⊥) → at v q ≡ at t q
   pub same : (q : ℕ) → Same (at v q) (at t q)
   pub pins : (q : ℕ) → at v q .pins ≡ at t q .pins
 
@@ -108,12 +129,28 @@ Means k Min c rs ns v = v ≡ lastOf (rangeOf c) rs .min
 Means k Max c rs ns v = v ≡ lastOf (rangeOf c) rs .max
 Means k Res c rs ns v = v ≡ lastOf (rangeOf c) rs .res
 
+abbrev pub keyIn : Control → Key
+keyIn c = record { unit = c .unit; channel = c .channel; selector = c .selector }
+
+module _ (st : State) (run : List Step) (part : Part) where
+  pub record Answer (c : Control) (v : ℕ) : Type 0 where
+    pub means : Means (heldBy c) part c (told (rangesIn (keyIn c)) st run) (told (numbersIn (keyIn c)) st run) v
+    pub first : told (numbersIn (keyIn c)) st run ≡ [] → v ≡ partOf part c
+
+  pub data Valued : List Control → List ℕ → Type 0 where
+    none : Valued [] []
+    more : {c : Control} {cs : List Control} {v : ℕ} {vs : List ℕ} → Answer c v → Valued cs vs → Valued (c ∷ cs) (v ∷ vs)
+
+unfoldable pub inBytes : ℕ → List ℕ → List ℕ
+inBytes n [] = []
+inBytes n (v ∷ vs) = lowFirst n v ++ inBytes n vs
+
 pub record Answers (st : State) (run : List Step) (s bytes : List ℕ) : Type 0 where
   pub part : Part
   pub code : byte s 1 ≡ codeOf part
-  pub index : ℕ
-  pub stands : StandsAt (st .table) (namedBy s) index
-  pub value : ℕ
-  pub given : Sent s value bytes
-  pub means : Means (senseOf (byte s 3)) part (at (st .table) index) (told (rangesIn (namedBy s)) st run) (told (numbersIn (namedBy s)) st run) value
-  pub first : told (numbersIn (namedBy s)) st run ≡ [] → value ≡ partOf part (at (st .table) index)
+  pub controls : List Control
+  pub addressed : Addressed (st .table) s controls
+  pub some : controls ≡ [] → ⊥
+  pub values : List ℕ
+  pub given : bytes ≡ take (word s 6) (inBytes (sizeOf (senseOf (byte s 3))) values)
+  pub means : Valued st run part controls values

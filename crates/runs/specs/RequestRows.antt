@@ -4,7 +4,9 @@
 --   Row n When rest m        ==  m is the number answered by the row n, which is given when When, and behind it the rows rest
 --   NoRow m                  ==  behind the last row m is 0
 --   Owned t u                ==  u is a "unit with controls" of the table t
---   ByChannel cs                ==  the channels rise along the list
+--   Names k c                ==  a request that names k is about the control c: the one of its unit, channel and selector, or, by "channel number
+--                                255 of a Feature Unit", any that has its unit and selector; a Selector's control, of selector 0, has no such form
+--   ByChannel cs             ==  the channels rise along the list
 --   Addressed t s cs         ==  cs are the controls of the table t that the setup s names, each once, the lowest channel first
 --   Along t s rows m         ==  the addressed controls are such a list, and m is what the rows say of it
 --   HasRange s               ==  a control with selector s is ranged, of some sort
@@ -57,12 +59,17 @@ pub record Owned (t : Table) (u : ℕ) : Type 0 where
   pub inside : index < t .count
   pub unit : at t index .unit ≡ u
 
+pub record Names (k : Key) (c : Control) : Type 0 where
+  pub unit : c .unit ≡ k .unit
+  pub selector : c .selector ≡ k .selector
+  pub channel : (c .channel ≡ k .channel) ⊎ ((k .channel ≡ 255) × (k .selector ≡ 0 → ⊥))
+
 pub data ByChannel : List Control → Type 0 where
   none : ByChannel []
   more : {c : Control} {cs : List Control} → ((e : Control) → e ∈ cs → c .channel < e .channel) → ByChannel cs → ByChannel (c ∷ cs)
 
 pub record Addressed (t : Table) (s : List ℕ) (cs : List Control) : Type 0 where
-  pub each : (c : Control) → c ∈ cs ↔ (InTable t c × Bears (namedBy s) c)
+  pub each : (c : Control) → c ∈ cs ↔ (InTable t c × Names (namedBy s) c)
   pub rising : ByChannel cs
 
 abbrev pub Along : Table → List ℕ → (List Control → ℕ → Type 0) → ℕ → Type 0

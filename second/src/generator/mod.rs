@@ -1,5 +1,6 @@
 //! The generator of the vectors: configurations and scripts, made on purpose and at random.
 
+pub mod blocks;
 pub mod build;
 pub mod compare;
 pub mod configs;

@@ -7,11 +7,11 @@ use super::configs::mixer;
 use super::rng::Rng;
 use super::script::{load_body, put_body, request_body, setup, Script};
 use super::steps::sample;
-use crate::controls::{Control, Holds};
-use crate::numbers::{CONFIGURATION_MOST, CONTROLS, ENTITIES, PINS, SHEET};
+use crate::controls::{Control, Holds, Table};
+use crate::numbers::{CHANNELS, CONFIGURATION_MOST, CONTROLS, ENTITIES, PINS, REPLY, SHEET};
 use crate::reader;
 use crate::relay::{LOAD, PLUG_IN, PUT, REQUEST, SHOW};
-use crate::requests::{table_breach, State};
+use crate::requests::{self, table_breach, Load, State, ALL_CHANNELS};
 use crate::settings::Scale;
 
 /// Numbers at which one-byte and two-byte readings part.
@@ -509,7 +509,8 @@ pub fn step(rng: &mut Rng, script: &mut Script) {
     }
     let (kind, body) = match rng.below(100) {
         0..=1 if script.state.table.count <= 20 => (SHOW, Vec::new()),
-        2..=4 => (PUT, put_spoilt(rng, &script.state)),
+        2 => (PUT, put_shuffled(rng, &script.state)),
+        3..=4 => (PUT, put_spoilt(rng, &script.state)),
         5..=29 => (LOAD, load(rng, &script.state)),
         _ => (REQUEST, request(rng, &script.state)),
     };
@@ -582,23 +583,47 @@ fn legal(rng: &mut Rng, scale: Scale) -> [u16; 4] {
     [scale.held(ends[0]), scale.held(ends[1]), res as u16, fitting(rng, scale)]
 }
 
-/// A request: good more often than not.
-fn request(rng: &mut Rng, state: &State) -> Vec<u8> {
-    let wanted = if rng.one_in(10) { |_: &Control| true } else { can_answer };
-    let control = target(rng, state, wanted);
-    let holds = Holds::of(control.selector);
-    let ranged = holds.is_some_and(|holds| holds.scale().is_some());
-    let pair = match rng.below(20) {
+/// The controls of this one's unit and selector, by channel.
+fn block(state: &State, control: &Control) -> Vec<Control> {
+    let alike = |one: &&Control| (one.unit, one.selector) == (control.unit, control.selector);
+    let controls = state.table.controls().unwrap_or(&[]);
+    let mut block: Vec<Control> = controls.iter().filter(alike).copied().collect();
+    block.sort_by_key(|one| one.channel);
+    block
+}
+
+/// Type and request: bounds of a ranged control more often than of another.
+fn pair(rng: &mut Rng, control: &Control) -> (u8, u8) {
+    match rng.below(20) {
         0 => (rng.byte(), rng.byte()),
         1 => (*rng.pick(&[0x21, 0xA1]), *rng.pick(&[1, 2, 0x81, 0x82, 0x83, 0x84, 0x85])),
-        2..=5 if ranged || rng.one_in(4) => (0xA1, *rng.pick(&[0x82, 0x83, 0x84])),
+        2..=5 if is_ranged(control) || rng.one_in(4) => (0xA1, *rng.pick(&[0x82, 0x83, 0x84])),
         6..=10 => (0xA1, 0x81),
         _ => (0x21, 0x01),
-    };
-    let size = holds.map_or(1, Holds::size);
+    }
+}
+
+/// A request, for all channels now and then: good more often than not.
+fn request(rng: &mut Rng, state: &State) -> Vec<u8> {
+    let wanted = if rng.one_in(10) { |_: &Control| true } else { can_answer };
+    let mut control = target(rng, state, wanted);
+    let mut addressed = vec![control];
+    if rng.one_in(6) {
+        // The larger block of three.
+        for other in [target(rng, state, wanted), target(rng, state, wanted)] {
+            if block(state, &other).len() > block(state, &control).len() {
+                control = other;
+            }
+        }
+        addressed = block(state, &control);
+        control.channel = ALL_CHANNELS;
+    }
+    let pair = pair(rng, &control);
+    let each = Holds::of(control.selector).map_or(1, Holds::size);
+    let size = each * addressed.len();
     let length = match rng.below(15) {
         0 => number(rng),
-        1..=3 if pair.0 == 0xA1 => *rng.pick(&[0, 1, 2, 3, 64]),
+        1..=3 if pair.0 == 0xA1 => *rng.pick(&[0, 1, 2, 3, 64, size as u16 / 2, size as u16 + 1]),
         _ => size as u16,
     };
     let interface = if rng.one_in(25) { rng.byte() } else { state.number };
@@ -606,15 +631,26 @@ fn request(rng: &mut Rng, state: &State) -> Vec<u8> {
     if rng.one_in(40) {
         setup.resize(rng.below(12), 0);
     }
-    let value = value(rng, &control);
-    let mut data = value.to_le_bytes()[..size].to_vec();
-    if pair.0 != 0x21 && !rng.one_in(10) {
-        data.clear();
-    } else if rng.one_in(20) {
-        data.resize(rng.below(5), 0);
+    let mut data = Vec::new();
+    if pair.0 == 0x21 || rng.one_in(10) {
+        for one in &addressed {
+            data.extend(&value(rng, one).to_le_bytes()[..each]);
+        }
     }
-    let room = if rng.one_in(10) { rng.below(4) } else { 2 + rng.below(63) };
-    request_body(room as u16, &setup, &data)
+    if pair.0 == 0x21 && rng.one_in(20) {
+        data.resize(rng.below(size + 4), 0);
+    }
+    request_body(room(rng, size) as u16, &setup, &data)
+}
+
+/// Room for a reply: enough for so many bytes more often than not.
+fn room(rng: &mut Rng, size: usize) -> usize {
+    let enough = size.min(REPLY);
+    if rng.one_in(10) {
+        rng.below(enough + 2)
+    } else {
+        enough + rng.below(REPLY + 1 - enough)
+    }
 }
 
 /// A value to be set: on the grid, beside it, halfway, or any.
@@ -638,15 +674,50 @@ fn value(rng: &mut Rng, control: &Control) -> u16 {
     }
 }
 
-/// A table that is one.
+/// A table that is one, its controls in any order.
 fn put_good(rng: &mut Rng) -> Vec<u8> {
-    let mut controls = sample();
+    let mut controls = if rng.one_in(3) { sample() } else { blocks(rng) };
     rng.shuffle(&mut controls);
     let count = controls.len();
     if rng.one_in(3) {
         controls.push(Control { unit: rng.byte(), selector: rng.byte(), ..Control::default() });
     }
     put_body(rng.byte(), count as u16, &controls)
+}
+
+/// The state's table in another order, if it is short; else a good one.
+fn put_shuffled(rng: &mut Rng, state: &State) -> Vec<u8> {
+    match state.table.controls() {
+        Some(own) if own.len() <= 20 && rng.one_in(2) => {
+            let mut controls = own.to_vec();
+            rng.shuffle(&mut controls);
+            put_body(state.number, state.table.count, &controls)
+        }
+        _ => put_good(rng),
+    }
+}
+
+/// Three blocks of two units: a selector on some channels, loaded but for a few.
+fn blocks(rng: &mut Rng) -> Vec<Control> {
+    let mut selectors = [1, 2, 3, 4, 5, 7, 8, 9, 10];
+    rng.shuffle(&mut selectors);
+    let mut controls = Vec::new();
+    for (unit, selector) in [(2, selectors[0]), (2, selectors[1]), (3, selectors[0])] {
+        let gaps = 1 + rng.below(6);
+        for channel in (0..=CHANNELS as u8).filter(|_| rng.one_in(gaps)) {
+            controls.push(Control { unit, channel, selector, ..Control::default() });
+        }
+    }
+    let mut table = Table::of(&controls).expect("at most 51 controls");
+    for control in &controls {
+        let scale = Holds::of(control.selector).and_then(Holds::scale);
+        if let Some(scale) = scale.filter(|_| !rng.one_in(50)) {
+            let [min, max, res, cur] = legal(rng, scale);
+            // A volume MIN of -32768 is refused, and the control is one of the few.
+            let _ = requests::load(&mut table, &Load { name: control.name(), min, max, res, cur });
+        }
+    }
+    table.controls().expect("as many as before").to_vec()
 }
 
 /// The state's table, or the sample, with a field changed, or a count that is not its own.
@@ -715,6 +786,7 @@ pub fn fill(rng: &mut Rng, script: &mut Script, configurations: usize, steps: us
 mod tests {
     use super::*;
     use crate::relay;
+    use crate::requests::Reply;
     use crate::ways::Way;
 
     #[test]
@@ -726,6 +798,50 @@ mod tests {
             let way = refusal.map(|one| one.way);
             assert!(matches!(way, None | Some(Way::ManyControls)), "{way:?} {bytes:02X?}");
         }
+    }
+
+    /// A request for one unit and selector, with the bytes that it answers.
+    fn asked(state: &mut State, setup: &[u8], data: &[u8]) -> Result<Vec<u8>, Way> {
+        let mut reply = [0; REPLY];
+        requests::request(state, setup, data, &mut reply).map(|answer| match answer {
+            Reply::Set => Vec::new(),
+            Reply::Got(sent) => reply[..sent].to_vec(),
+        })
+    }
+
+    /// "The outcome, before that cut, equals the single requests done one after another in that
+    /// order, when none would be refused, and the table is untouched otherwise."
+    #[test]
+    fn a_block_is_its_single_requests() {
+        let mut rng = Rng::new(3);
+        let mut met = [0; 2];
+        for _ in 0..4000 {
+            let mut controls = blocks(&mut rng);
+            rng.shuffle(&mut controls);
+            let mut state = State { number: 0, table: Table::of(&controls).unwrap() };
+            let Some(control) = controls.first() else { continue };
+            let (unit, selector) = (control.unit, control.selector);
+            let pair = *rng.pick(&[(0x21, 1), (0xA1, 0x81), (0xA1, 0x82), (0xA1, 0x84)]);
+            let each = Holds::of(selector).unwrap().size();
+            let (mut one_by_one, mut outcome, mut block) = (state.clone(), Ok(vec![]), vec![]);
+            for channel in 0..=CHANNELS as u8 {
+                let name = (unit, channel, selector);
+                let Some(one) = controls.iter().find(|one| one.name() == name) else { continue };
+                let data = value(&mut rng, one).to_le_bytes()[..each].to_vec();
+                let single = setup(pair, 0, name, each as u16);
+                outcome = outcome.and_then(|mut bytes| {
+                    bytes.extend(asked(&mut one_by_one, &single, &data)?);
+                    Ok(bytes)
+                });
+                block.extend(data);
+            }
+            let before = state.clone();
+            let all = setup(pair, 0, (unit, ALL_CHANNELS, selector), block.len() as u16);
+            assert_eq!(asked(&mut state, &all, &block), outcome);
+            assert_eq!(state, if outcome.is_ok() { one_by_one } else { before });
+            met[usize::from(outcome.is_ok())] += 1;
+        }
+        assert!(met.into_iter().all(|times| times > 500), "{met:?}");
     }
 
     #[test]

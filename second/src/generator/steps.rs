@@ -1,6 +1,7 @@
 //! Steps made on purpose: loads, requests and tables, each rule just kept and just broken, with
-//! the answers that document 01 gives.
+//! the answers that document 01 gives. Requests for all channels stand in `blocks`.
 
+use super::blocks;
 use super::build::{case_a, telephone, Part, Plan, Telephone};
 use super::configs::desk;
 use super::script::{load_body, put_body, request_body, setup, Script};
@@ -9,16 +10,17 @@ use crate::numbers::{CONTROLS, PINS};
 use crate::relay::{LOAD, PLUG_IN, PUT, REQUEST, SHOW};
 use crate::ways::Way;
 
-const SET: (u8, u8) = (0x21, 0x01);
-const CUR: (u8, u8) = (0xA1, 0x81);
-const MIN: (u8, u8) = (0xA1, 0x82);
-const MAX: (u8, u8) = (0xA1, 0x83);
-const RES: (u8, u8) = (0xA1, 0x84);
+/// Type and request of a Set and of each Get.
+pub const SET: (u8, u8) = (0x21, 0x01);
+pub const CUR: (u8, u8) = (0xA1, 0x81);
+pub const MIN: (u8, u8) = (0xA1, 0x82);
+pub const MAX: (u8, u8) = (0xA1, 0x83);
+pub const RES: (u8, u8) = (0xA1, 0x84);
 
 /// The selector numbers of ranged controls of two bytes and of one.
-const WIDE: [u8; 2] = [2, 8];
+pub const WIDE: [u8; 2] = [2, 8];
 const NARROW: [u8; 3] = [3, 4, 5];
-const YES_NO: [u8; 4] = [1, 7, 9, 10];
+pub const YES_NO: [u8; 4] = [1, 7, 9, 10];
 
 type Name = (u8, u8, u8);
 
@@ -37,18 +39,27 @@ pub fn all(script: &mut Script) {
     spoilt_tables(script);
     every_field(script);
     full_tables(script);
+    blocks::all(script);
 }
 
-fn signed(number: i32) -> u16 {
+/// A number of two bytes, as it is held.
+pub fn signed(number: i32) -> u16 {
     number as u16
 }
 
-fn narrow(number: i32) -> u16 {
+/// A number of one byte, as it is held.
+pub fn narrow(number: i32) -> u16 {
     u16::from(number as u8)
 }
 
+/// The line of a Get that answers these bytes.
+pub fn got(bytes: &[u8]) -> String {
+    let hex: String = bytes.iter().map(|byte| format!(" {byte:02X}")).collect();
+    format!("got{hex}")
+}
+
 /// Adds a load.
-fn load(script: &mut Script, name: Name, numbers: [u16; 4], line: &str) {
+pub fn load(script: &mut Script, name: Name, numbers: [u16; 4], line: &str) {
     script.says(LOAD, &load_body(name, numbers), line);
 }
 
@@ -62,12 +73,11 @@ fn set_and_get(script: &mut Script, name: Name, wanted: u16, size: usize, stored
 }
 
 /// Adds a Get that answers `value`.
-fn get(script: &mut Script, pair: (u8, u8), name: Name, size: usize, value: u16) {
+pub fn get(script: &mut Script, pair: (u8, u8), name: Name, size: usize, value: u16) {
     let number = script.state.number;
-    let bytes = &value.to_le_bytes()[..size];
-    let hex: String = bytes.iter().map(|byte| format!(" {byte:02X}")).collect();
     let setup = setup(pair, number, name, size as u16);
-    script.says(REQUEST, &request_body(size as u16, &setup, &[]), &format!("got{hex}"));
+    let line = got(&value.to_le_bytes()[..size]);
+    script.says(REQUEST, &request_body(size as u16, &setup, &[]), &line);
 }
 
 /// A box with AudioControl number 4: unit 2 has every control on the master and on two channels,
@@ -363,7 +373,7 @@ fn request_refusals(script: &mut Script) {
         for unit in [0, 1, 5, 6, 7, 255] {
             script.fails(REQUEST, &ask(pair, 4, (unit, 0, 2), 2), Way::UnitUnknown);
         }
-        for (channel, selector) in [(0, 0), (0, 6), (0, 11), (3, 2), (255, 2), (2, 0), (1, 255)] {
+        for (channel, selector) in [(0, 0), (0, 6), (0, 11), (3, 2), (254, 2), (2, 0), (1, 255)] {
             let body = ask(pair, 4, (2, channel, selector), 2);
             script.fails(REQUEST, &body, Way::ControlUnknown);
         }
@@ -406,13 +416,12 @@ fn cut_gets(script: &mut Script) {
     for (name, size, pair, value) in asked {
         for length in [0, 1, 2, 3, 64, 256, 0xFFFF] {
             let sent = &value.to_le_bytes()[..size.min(usize::from(length))];
-            let hex: String = sent.iter().map(|byte| format!(" {byte:02X}")).collect();
             for room in [0, 1, 2, 64] {
                 let body = request_body(room, &setup(pair, 4, name, length), &[]);
                 if usize::from(room) < sent.len() {
                     script.fails(REQUEST, &body, Way::ReplyShort);
                 } else {
-                    script.says(REQUEST, &body, &format!("got{hex}"));
+                    script.says(REQUEST, &body, &got(sent));
                 }
             }
         }
@@ -522,7 +531,7 @@ fn closest_sweeps(script: &mut Script) {
 }
 
 /// The closest setting by trying every one, the lowest first.
-fn by_trial(min: i32, max: i32, res: i32, wanted: i32) -> i32 {
+pub fn by_trial(min: i32, max: i32, res: i32, wanted: i32) -> i32 {
     let settings = (0..).map(|k| min + k * res).take_while(|&setting| setting <= max);
     settings.min_by_key(|setting| (setting - wanted).abs()).expect("MIN is one")
 }
@@ -564,7 +573,8 @@ fn probe(script: &mut Script, way: Option<Way>) {
     }
 }
 
-fn put(script: &mut Script, controls: &[Control]) {
+/// Adds a put of a table with these controls, and AudioControl number 9.
+pub fn put(script: &mut Script, controls: &[Control]) {
     script.says(PUT, &put_body(9, controls.len() as u16, controls), "put");
 }
 

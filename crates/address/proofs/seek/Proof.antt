@@ -1,113 +1,111 @@
--- The first pass is that of `sound`; past it 30 has nothing against the table, and the second is that of `look_up`.
+-- The pass asks 30 and gives the seats; past it 30 has nothing against the table, and the seats tell who is addressed.
 use borrow.Author.Needs.{needs}
 use Prim.Native.Nat.{_-_}
-use Rattle.sound.specs.Rising.{passed-many, Rising, rising-start, rising-few, rising-inside, rising-unsound, rising-on, rising-over}
-use Rattle.address.proofs.Looking.{sought-unsound, Seeking, seeking-start, seeking-inside, seeking-no-control, seeking-no-unit, seeking-here, seeking-on}
+use mathlib.Core.Logic.{⊎-elim}
+use Rattle.sound.specs.Rising.{passed-many}
+use Rattle.address.proofs.Seeking.{sought-unsound, Seeking, seeking-start, seeking-inside, seeking-channel, seeking-unsound, seeking-on, twice-unsound, sought-in-order, sought-any-order}
 use Rattle.address.proofs.seek.Statement.{statement}
 use Rattle.address.proofs.seek.Tie as tie
 
-ruleset first = (passed-many, sought-unsound, rising-start, rising-inside, rising-unsound, rising-on, needs)
+ruleset laws = (passed-many, sought-unsound, seeking-start, seeking-inside, seeking-channel, seeking-unsound, seeking-on, needs)
 
-ruleset next = (rising-few, rising-over, seeking-start, seeking-inside, seeking-no-control, seeking-no-unit, seeking-here, seeking-on, needs)
+ruleset behind = (sought-unsound, twice-unsound, sought-in-order, sought-any-order, needs)
 
 abbrev Inv-loop : tie.InvT-loop
-Inv-loop unit channel selector table count tops₀ index₀ tops index = Rising table tops index
+Inv-loop unit channel selector table tops₀ seats₀ rising₀ index₀ tops seats rising index = Seeking table unit channel selector tops seats rising index
 
 abbrev μ-loop : tie.MeasureT-loop
-μ-loop unit channel selector table count tops₀ index₀ tops index = table .count - index
+μ-loop unit channel selector table tops₀ seats₀ rising₀ index₀ tops seats rising index = table .count - index
 
-abbrev Inv-loop2 : tie.InvT-loop2
-Inv-loop2 unit channel selector table count index seen₀ next₀ seen next = Seeking table unit channel selector seen next
+none-requires : tie.Need-none-requires Inv-loop μ-loop
+none-requires c κs = search laws
 
-abbrev μ-loop2 : tie.MeasureT-loop2
-μ-loop2 unit channel selector table count index seen₀ next₀ seen next = table .count - next
+returns : tie.Need-returns Inv-loop μ-loop
+returns c = search laws
 
-returns : tie.Need-returns Inv-loop μ-loop Inv-loop2 μ-loop2
-returns c = search first
+loop-holds : tie.Need-loop-holds Inv-loop μ-loop
+loop-holds c = search laws
 
-loop-holds : tie.Need-loop-holds Inv-loop μ-loop Inv-loop2 μ-loop2
-loop-holds c = search first
+mul-control : tie.Need-mul-control Inv-loop μ-loop
+mul-control c = search laws
 
-mul-control : tie.Need-mul-control Inv-loop μ-loop Inv-loop2 μ-loop2
-mul-control c = search first
+element-copy-out-control : tie.Need-element-copy-out-control Inv-loop μ-loop
+element-copy-out-control c = search laws
 
-element-copy-out-control : tie.Need-element-copy-out-control Inv-loop μ-loop Inv-loop2 μ-loop2
-element-copy-out-control c = search first
+sound-control-requires : tie.Need-sound-control-requires Inv-loop μ-loop
+sound-control-requires c κs = search laws
 
-sound-control-requires : tie.Need-sound-control-requires Inv-loop μ-loop Inv-loop2 μ-loop2
-sound-control-requires c κs = search first
+none-requires-2 : tie.Need-none-requires-2 Inv-loop μ-loop
+none-requires-2 c κs = search laws
 
-returns-2 : tie.Need-returns-2 Inv-loop μ-loop Inv-loop2 μ-loop2
-returns-2 c = search first
+returns-2 : tie.Need-returns-2 Inv-loop μ-loop
+returns-2 c = search laws
 
-index-of-requires : tie.Need-index-of-requires Inv-loop μ-loop Inv-loop2 μ-loop2
-index-of-requires c κs = search first
+index-of-requires : tie.Need-index-of-requires Inv-loop μ-loop
+index-of-requires c κs = search laws
 
-key-of-requires : tie.Need-key-of-requires Inv-loop μ-loop Inv-loop2 μ-loop2
-key-of-requires c κs = search first
+key-of-requires : tie.Need-key-of-requires Inv-loop μ-loop
+key-of-requires c κs = search laws
 
-mul-if3 : tie.Need-mul-if3 Inv-loop μ-loop Inv-loop2 μ-loop2
-mul-if3 c = search first
+mul-rising : tie.Need-mul-rising Inv-loop μ-loop
+mul-rising c = search laws
 
-array-read-if3 : tie.Need-array-read-if3 Inv-loop μ-loop Inv-loop2 μ-loop2
-array-read-if3 c = search first
+array-read-rising : tie.Need-array-read-rising Inv-loop μ-loop
+array-read-rising c = search laws
 
-seek-slowly-requires : tie.Need-seek-slowly-requires Inv-loop μ-loop Inv-loop2 μ-loop2
-seek-slowly-requires c κs = search first
+add-tops : tie.Need-add-tops Inv-loop μ-loop
+add-tops c = search laws
 
-returns-3 : tie.Need-returns-3 Inv-loop μ-loop Inv-loop2 μ-loop2
-returns-3 c = search first
+mul-tops : tie.Need-mul-tops Inv-loop μ-loop
+mul-tops c = search laws
 
-add-tops : tie.Need-add-tops Inv-loop μ-loop Inv-loop2 μ-loop2
-add-tops c = search first
+array-write-tops : tie.Need-array-write-tops Inv-loop μ-loop
+array-write-tops c = search laws
 
-mul-tops : tie.Need-mul-tops Inv-loop μ-loop Inv-loop2 μ-loop2
-mul-tops c = search first
+index-of-requires-2 : tie.Need-index-of-requires-2 Inv-loop μ-loop
+index-of-requires-2 c κs = search laws
 
-array-write-tops : tie.Need-array-write-tops Inv-loop μ-loop Inv-loop2 μ-loop2
-array-write-tops c = search first
+array-read-seated : tie.Need-array-read-seated Inv-loop μ-loop
+array-read-seated c = search laws
 
-add-index : tie.Need-add-index Inv-loop μ-loop Inv-loop2 μ-loop2
-add-index c = search first
+seated-requires : tie.Need-seated-requires Inv-loop μ-loop
+seated-requires c κs = search laws
 
-loop-less : tie.Need-loop-less Inv-loop μ-loop Inv-loop2 μ-loop2
-loop-less c = search first
+array-write-seats : tie.Need-array-write-seats Inv-loop μ-loop
+array-write-seats c = search laws
 
-loop-again : tie.Need-loop-again Inv-loop μ-loop Inv-loop2 μ-loop2
-loop-again c = search first
+add-index : tie.Need-add-index Inv-loop μ-loop
+add-index c = search laws
 
-loop2-holds : tie.Need-loop2-holds Inv-loop μ-loop Inv-loop2 μ-loop2
-loop2-holds c = search next
+loop-less : tie.Need-loop-less Inv-loop μ-loop
+loop-less c = search laws
 
-mul-here : tie.Need-mul-here Inv-loop μ-loop Inv-loop2 μ-loop2
-mul-here c = search next
+loop-again : tie.Need-loop-again Inv-loop μ-loop
+loop-again c = search laws
 
-element-copy-out-here : tie.Need-element-copy-out-here Inv-loop μ-loop Inv-loop2 μ-loop2
-element-copy-out-here c = search next
+sound-any-order-requires : tie.Need-sound-any-order-requires Inv-loop μ-loop
+sound-any-order-requires c κs = search behind
 
-answers-requires : tie.Need-answers-requires Inv-loop μ-loop Inv-loop2 μ-loop2
-answers-requires c κs = search next
+none-requires-3 : tie.Need-none-requires-3 Inv-loop μ-loop
+none-requires-3 c κs = search behind
 
-returns-4 : tie.Need-returns-4 Inv-loop μ-loop Inv-loop2 μ-loop2
-returns-4 c = search next
+returns-3 : tie.Need-returns-3 Inv-loop μ-loop
+returns-3 c = search behind
 
-saw-requires : tie.Need-saw-requires Inv-loop μ-loop Inv-loop2 μ-loop2
-saw-requires c κs = search next
+index-of-requires-3 : tie.Need-index-of-requires-3 Inv-loop μ-loop
+index-of-requires-3 c κs = search behind
 
-add-next : tie.Need-add-next Inv-loop μ-loop Inv-loop2 μ-loop2
-add-next c = search next
+mul-told : tie.Need-mul-told Inv-loop μ-loop
+mul-told c = search behind
 
-loop2-less : tie.Need-loop2-less Inv-loop μ-loop Inv-loop2 μ-loop2
-loop2-less c = search next
+array-read-told : tie.Need-array-read-told Inv-loop μ-loop
+array-read-told c = search behind
 
-loop2-again : tie.Need-loop2-again Inv-loop μ-loop Inv-loop2 μ-loop2
-loop2-again c = search next
+told-requires : tie.Need-told-requires Inv-loop μ-loop
+told-requires c κs = search behind
 
-returns-5 : tie.Need-returns-5 Inv-loop μ-loop Inv-loop2 μ-loop2
-returns-5 c = search next
-
-returns-6 : tie.Need-returns-6 Inv-loop μ-loop Inv-loop2 μ-loop2
-returns-6 c = search next
+returns-4 : tie.Need-returns-4 Inv-loop μ-loop
+returns-4 c = ⊎-elim (λ w. search behind) (λ w. search behind) (c .before .before .before .if3 .came)
 
 pub seek-spec : {M : Type 1} → statement M
 seek-spec =
@@ -115,34 +113,33 @@ seek-spec =
     (tie.spec
     Inv-loop
     μ-loop
-    Inv-loop2
-    μ-loop2
+    none-requires
     returns
     loop-holds
     mul-control
     element-copy-out-control
     sound-control-requires
+    none-requires-2
     returns-2
     index-of-requires
     key-of-requires
-    mul-if3
-    array-read-if3
-    seek-slowly-requires
-    returns-3
+    mul-rising
+    array-read-rising
     add-tops
     mul-tops
     array-write-tops
+    index-of-requires-2
+    array-read-seated
+    seated-requires
+    array-write-seats
     add-index
     loop-less
     loop-again
-    loop2-holds
-    mul-here
-    element-copy-out-here
-    answers-requires
-    returns-4
-    saw-requires
-    add-next
-    loop2-less
-    loop2-again
-    returns-5
-    returns-6)
+    sound-any-order-requires
+    none-requires-3
+    returns-3
+    index-of-requires-3
+    mul-told
+    array-read-told
+    told-requires
+    returns-4)

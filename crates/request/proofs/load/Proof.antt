@@ -24,7 +24,7 @@ use Rattle.request.specs.declared.Answer.{Answer}
 use Rattle.request.specs.Outcome.{answerOf, refusal, deedAnswer}
 use Rattle.request.specs.Stored.{outcomeAt}
 use Rattle.request.specs.Load.{loadAt, loadOf}
-use Rattle.request.proofs.Stored.{done-answer, refuses}
+use Rattle.request.proofs.Storing.{done-answer, refuses}
 use Rattle.request.proofs.load.Statement.{statement}
 use Rattle.request.proofs.load.Tie as tie
 

@@ -1,201 +1,170 @@
--- One law for each answer of the search: 30, a refusal of what is not there, or what is done at the control's index.
+-- The rows in their order: 30, 31 and 32, 33 and 34, and then what is done at the addressed controls.
 use borrow.Author.Needs.{needs}
 use Prim.Native.Nat.{ℕ}
-use mathlib.Core.Path.{_≡_, refl, sym, ap, _∙_, subst}
-use mathlib.Core.List.{List, [], _∷_}
-use mathlib.Core.Bool.{Bool, true, false}
-use mathlib.Core.Logic.{⊎-elim}
-use lib.Dec.{eqb}
+use mathlib.Core.Path.{_≡_, refl, sym, ap, _∙_}
+use mathlib.Core.List.{List, [], _∷_, map}
 use lib.ListN.{length}
 use borrow.Author.Tests.{eq-eqb, ne-eqb}
-use Rattle.ground.specs.Pick.{pick, yes, no, decided, reads-eq}
+use Rattle.ground.specs.Pick.{yes, no}
 use Rattle.table.specs.declared.Control.{Control}
 use Rattle.table.specs.declared.Table.{Table}
-use Rattle.address.specs.LookedUp.{missingBy}
-use Rattle.table.specs.First.{Seat, foundIn}
-use Rattle.table.specs.First.Seat.{absent, seat}
-use Rattle.address.specs.declared.Sought.{Sought}
-use Rattle.address.specs.declared.Sought.the-variants as sought
 use Rattle.table.specs.Controls.{at}
-use Rattle.sound.specs.Sound.{soundOf}
-use Rattle.address.specs.Sought.{soughtIn, soughtBy, soughtNumber}
 use Rattle.setup.specs.declared.Target.{Target}
 use Rattle.setup.specs.declared.Part.{Part}
 use Rattle.setup.specs.declared.Asked.{Asked}
 use Rattle.setup.specs.declared.Asked.the-variants as asks
 use Rattle.setup.specs.Setup.{askedOf, targetIn}
-use Rattle.deed.specs.declared.Deed.{Deed}
-use Rattle.deed.specs.Doing.{Doing, bytesIn, laid, deedOf, OfOne, denies, of-either, Done}
-use Rattle.deed.specs.Doing.Doing.{denied, given, changed}
-use Rattle.answers.specs.AnswersLaws.{set-of-one, get-of-one}
+use Rattle.deed.specs.Doing.{Doing, laid}
+use Rattle.address.specs.declared.Sought.{Sought}
+use Rattle.address.specs.Addressed.{addressedIn}
+use Rattle.address.specs.Sought.{soughtIn}
+use Rattle.answers.specs.Answers.{setOf, getOf}
 use Rattle.request.specs.declared.State.{State}
 use Rattle.request.specs.declared.Answer.{Answer}
-use Rattle.request.specs.Outcome.{Outcome, bytesOf, answerOf, refusal, deedAnswer, Answered}
-use Rattle.request.specs.Outcome.Outcome.{refused}
-use Rattle.address.specs.Addressed.{indicesOf}
-use Rattle.request.specs.Stored.{outcomeAt}
-use Rattle.request.specs.Request.{barredBy, missedBy, lostBy, doingOf, actOf, doneAt, answerAsked, requestOf}
-use Rattle.request.proofs.Searched.{There, Missed, is-unsound, is-missed-unit, is-missed-control, is-there}
-use Rattle.request.proofs.Stored.{done-answer, refuses}
+use Rattle.request.specs.Outcome.{Outcome, bytesOf, answerOf, refusal, Answered}
+use Rattle.request.specs.Outcome.Outcome.{refused, got, done}
+use Rattle.request.specs.Stored.{outcomeAt, outcomeOf, placesIn, Seated}
+use Rattle.request.specs.Request.{barredBy, doingOf, doneAt, answerAsked, requestOf}
+use Rattle.request.proofs.Searched.{is-unsound, is-sound, is-missed, is-places, is-there, is-seated}
+use Rattle.request.proofs.Storing.{refuses}
+use Rattle.request.proofs.Passing.{set-writes-none}
 use Rattle.request.proofs.request.Statement.{statement}
 use Rattle.request.proofs.request.Tie as tie
 
-doing-of-one : (k : Asked) (d : List ℕ) (room : ℕ) (c : Control) → OfOne (doingOf k d room (c ∷ []))
-doing-of-one asks.Unknown d room c = denies
-doing-of-one (asks.Set g) d room c = set-of-one c (g .bytes) d
-doing-of-one (asks.Get part g) d room c = get-of-one c part (g .bytes) room
-
-act-of-one : (k : Asked) (m : ℕ) (d : List ℕ) (room : ℕ) (c : Control) → OfOne (actOf k m d room (c ∷ []))
-unfolding actOf
-act-of-one k m d room c = of-either (eqb (barredBy k m) 0) _ _ (doing-of-one k d room c) denies
-
--- the bytes that are written are those of what is done
-same-bytes : (t : Table) (ps : List ℕ) (o : Doing) → bytesOf (outcomeAt t ps o) ≡ bytesIn o
-same-bytes t ps (denied n) = refl
-same-bytes t ps (given bytes) = refl
-same-bytes t ps (changed cs) = refl
-
-module _ (st : State) (k : Asked) (d : List ℕ) (room : ℕ) where
-  abbrev unit : ℕ
-  unit = targetIn k .unit
-
-  abbrev where-is : Seat
-  where-is = foundIn (st .table) unit (targetIn k .channel) (targetIn k .selector)
-
-  -- where no control is addressed
-  lost-asked : (b : Bool) → Missed (st .table) unit (targetIn k .channel) (targetIn k .selector) b → (x : ℕ) → x ≡ lostBy k (st .control) (soughtNumber (soughtBy (st .table) (missingBy b)))
-      → answerAsked st k d room ≡ refused x
-  unfolding answerAsked doneAt lostBy
-  lost-asked b h x e =
-      ⊎-elim
-      (λ (z : barredBy k (st .control) ≡ 0).
-      yes _ _ (eq-eqb _ _ z)
-      ∙ ap (λ (f : Seat). doneAt (st .table) unit (indicesOf f) (doingOf k d room)) (h .none)
-      ∙ ap (λ (y : Bool). refused (soughtNumber (soughtBy (st .table) (missingBy y)))) (h .unit)
-      ∙ ap refused (sym (e ∙ yes _ _ (eq-eqb _ _ z))))
-      (λ (z : barredBy k (st .control) ≡ 0 → ⊥). no _ _ (ne-eqb _ _ z) ∙ ap refused (sym (e ∙ no _ _ (ne-eqb _ _ z))))
-      (decided (eqb (barredBy k (st .control)) 0) (reads-eq (barredBy k (st .control)) 0))
-
-  -- where one is
-  one-asked : (p : ℕ) → where-is ≡ seat p → answerAsked st k d room ≡ outcomeAt (st .table) (p ∷ []) (actOf k (st .control) d room (at (st .table) p ∷ []))
-  unfolding answerAsked doneAt actOf
-  one-asked p f =
-      ⊎-elim
-      (λ (z : barredBy k (st .control) ≡ 0).
-      yes _ _ (eq-eqb _ _ z)
-      ∙ ap (λ (x : Seat). doneAt (st .table) unit (indicesOf x) (doingOf k d room)) f
-      ∙ ap (outcomeAt (st .table) (p ∷ [])) (sym (yes (doingOf k d room (at (st .table) p ∷ [])) (denied (barredBy k (st .control))) (eq-eqb _ _ z))))
-      (λ (z : barredBy k (st .control) ≡ 0 → ⊥).
-      no _ _ (ne-eqb _ _ z)
-      ∙ ap (outcomeAt (st .table) (p ∷ [])) (sym (no (doingOf k d room (at (st .table) p ∷ [])) (denied (barredBy k (st .control))) (ne-eqb _ _ z))))
-      (decided (eqb (barredBy k (st .control)) 0) (reads-eq (barredBy k (st .control)) 0))
+done-some : (t : Table) (u : ℕ) (ps : List ℕ) (act : List Control → Doing) → (ps ≡ [] → ⊥) → doneAt t u ps act ≡ outcomeOf t ps act
+unfolding doneAt
+done-some t u [] act n = absurd (n refl)
+done-some t u (p ∷ ps) act n = refl
 
 -- one law for each way out
 module _ (st : State) (s d b : List ℕ) (r : Answer) (k : Asked) (f : k ≡ askedOf s) (g : Target) (j : g ≡ targetIn k) (o : Sought)
     (e : o ≡ soughtIn (st .table) (g .unit) (g .channel) (g .selector)) where
+  abbrev t : Table
+  t = st .table
+
   abbrev Told : List ℕ → Type 0
   Told a = Answered st (requestOf st s d (length b)) b r a
 
-  asked : soundOf (st .table) ≡ true → requestOf st s d (length b) ≡ answerAsked st k d (length b)
-  unfolding requestOf
-  asked h = yes _ _ h ∙ ap (λ (x : Asked). answerAsked st x d (length b)) (sym f)
+  abbrev ps : List ℕ
+  ps = addressedIn t (targetIn k .unit) (targetIn k .channel) (targetIn k .selector)
 
-  seen : o ≡ soughtIn (st .table) (targetIn k .unit) (targetIn k .channel) (targetIn k .selector)
+  seen : o ≡ soughtIn t (targetIn k .unit) (targetIn k .channel) (targetIn k .selector)
   seen = rw (← j) e
 
   refuses-all : (n : ℕ) → requestOf st s d (length b) ≡ refused n → r ≡ refusal st n → Told b
   refuses-all n h q = record { result = refuses st _ r n h q; lent = ap (λ (x : Outcome). laid (bytesOf x) b) (sym h) }
 
-  unsound : o ≡ sought.Unsound → r ≡ refusal st 30 → Told b
+  unsound : o .number ≡ 30 → r ≡ refusal st 30 → Told b
   unfolding requestOf
-  unsound h = refuses-all 30 (no _ _ (is-unsound (st .table) _ _ _ o seen h))
+  unsound h = refuses-all 30 (no _ _ (is-unsound t _ _ _ o seen h))
 
-  lost-unit : o ≡ sought.NoUnit → (x : ℕ) → x ≡ lostBy k (st .control) 33 → r ≡ refusal st x → Told b
-  lost-unit h x q =
-      let m = is-missed-unit (st .table) _ _ _ o seen h in refuses-all x (asked (m .sound) ∙ lost-asked st k d (length b) false m x q)
+  module _ (h : o .number ≡ 30 → ⊥) (x : ℕ) (i : x ≡ barredBy k (st .control)) where
+    asked : requestOf st s d (length b) ≡ answerAsked st k d (length b)
+    unfolding requestOf
+    asked = yes _ _ (is-sound t _ _ _ o seen h) ∙ ap (λ (y : Asked). answerAsked st y d (length b)) (sym f)
 
-  lost-control : o ≡ sought.NoControl → (x : ℕ) → x ≡ lostBy k (st .control) 34 → r ≡ refusal st x → Told b
-  lost-control h x q =
-      let m = is-missed-control (st .table) _ _ _ o seen h in refuses-all x (asked (m .sound) ∙ lost-asked st k d (length b) true m x q)
+    barred : (x ≡ 0 → ⊥) → r ≡ refusal st x → Told b
+    unfolding answerAsked
+    barred n = refuses-all x (asked ∙ no _ _ (ne-eqb _ _ (λ z. n (i ∙ z))) ∙ ap refused (sym i))
 
-  there : (p : ℕ) (c : Control) → o ≡ sought.At p c → (v : Deed) (a : List ℕ)
-      → Done c (actOf k (st .control) d (length b) (c ∷ [])) b v a → r ≡ deedAnswer st p v → Told a
-  there p c h v a y q = record {
-    result =
-        q
-        ∙ ap (deedAnswer st p) (y .result ∙ ap (λ (x : Control). deedOf x (actOf k (st .control) d (length b) (x ∷ []))) (m .control))
-        ∙ done-answer st p _ (act-of-one k (st .control) d (length b) (at (st .table) p))
-        ∙ sym (ap (answerOf st) comes);
-    lent =
-        y .lent
-        ∙ ap (λ (x : Control). laid (bytesIn (actOf k (st .control) d (length b) (x ∷ []))) b) (m .control)
-        ∙ ap (λ (x : List ℕ). laid x b) (sym (ap bytesOf comes ∙ same-bytes (st .table) (p ∷ []) (actOf k (st .control) d (length b) (at (st .table) p ∷ []))));
-  }
-    where
-      m : There (st .table) (targetIn k .unit) (targetIn k .channel) (targetIn k .selector) p c
-      m = is-there (st .table) _ _ _ o seen p c h
+    module _ (z : x ≡ 0) where
+      free : requestOf st s d (length b) ≡ doneAt t (targetIn k .unit) ps (doingOf k d (length b))
+      unfolding answerAsked
+      free = asked ∙ yes _ _ (eq-eqb _ _ (sym i ∙ z))
 
-      comes : requestOf st s d (length b) ≡ outcomeAt (st .table) (p ∷ []) (actOf k (st .control) d (length b) (at (st .table) p ∷ []))
-      comes = asked (m .sound) ∙ one-asked st k d (length b) p (m .found)
+      missed : (o .number ≡ 0 → ⊥) → r ≡ refusal st (o .number) → Told b
+      unfolding doneAt
+      missed n =
+          let m = is-missed t _ _ _ o seen h n in
+          refuses-all (o .number) (free ∙ ap (λ (l : List ℕ). doneAt t (targetIn k .unit) l (doingOf k d (length b))) (m .0) ∙ ap refused (sym (m .1)))
 
-ruleset laws = (unsound, lost-unit, lost-control, there, needs)
+      module _ (y : o .number ≡ 0) where
+        seated : Seated o
+        seated = is-seated t _ _ _ o seen h
+
+        comes : (act : List Control → Doing) → doingOf k d (length b) ≡ act → requestOf st s d (length b) ≡ outcomeOf t (placesIn o) act
+        comes act q =
+            free
+            ∙ done-some t (targetIn k .unit) ps (doingOf k d (length b)) (is-there t _ _ _ o seen h y)
+            ∙ ap (λ (l : List ℕ). outcomeOf t l (doingOf k d (length b))) (sym (is-places t _ _ _ o seen h))
+            ∙ ap (outcomeOf t (placesIn o)) q
+
+        unknown : k ≡ asks.Unknown → r ≡ refusal st 31 → Told b
+        unknown q = refuses-all 31 (comes _ (ap (λ (v : Asked). doingOf v d (length b)) q))
+
+        setting : (w : Target) → k ≡ asks.Set w → r ≡ answerOf st (outcomeOf t (placesIn o) (λ cs. setOf cs (w .bytes) d)) → Told b
+        setting w q a =
+            let c = comes (λ cs. setOf cs (w .bytes) d) (ap (λ (v : Asked). doingOf v d (length b)) q) in
+            record {
+              result = a ∙ sym (ap (answerOf st) c);
+              lent = sym (ap (λ (v : Outcome). laid (bytesOf v) b) c ∙ ap (λ (v : List ℕ). laid v b) (set-writes-none t (placesIn o) (w .bytes) d));
+            }
+
+        getting : (part : Part) (w : Target) (a : List ℕ) → k ≡ asks.Get part w
+            → Answered st (outcomeOf t (placesIn o) (λ cs. getOf part cs (w .bytes) (length b))) b r a → Told a
+        getting part w a q v = rw (comes (λ cs. getOf part cs (w .bytes) (length b)) (ap (λ (y : Asked). doingOf y d (length b)) q)) v
+
+ruleset laws = (unsound, barred, missed, seated, unknown, setting, getting, needs)
 
 read-requires : tie.Need-read-requires
-read-requires c κs = search laws
+read-requires c κs = search needs
 
 target-of-requires : tie.Need-target-of-requires
-target-of-requires c κs = search laws
+target-of-requires c κs = search needs
 
 seek-requires : tie.Need-seek-requires
-seek-requires c κs = search laws
-
-enum-told : tie.Need-enum-told
-enum-told c = search laws
+seek-requires c κs = search needs
 
 refused-requires : tie.Need-refused-requires
-refused-requires c κs = search laws
-
-enum-told-2 : tie.Need-enum-told-2
-enum-told-2 c = search laws
-
-lost-requires : tie.Need-lost-requires
-lost-requires c κs = search laws
-
-refused-requires-2 : tie.Need-refused-requires-2
-refused-requires-2 c κs = search laws
-
-enum-told-3 : tie.Need-enum-told-3
-enum-told-3 c = search laws
-
-lost-requires-2 : tie.Need-lost-requires-2
-lost-requires-2 c κs = search laws
-
-refused-requires-3 : tie.Need-refused-requires-3
-refused-requires-3 c κs = search laws
-
-enum-known-index : tie.Need-enum-known-index
-enum-known-index c = search laws
-
-act-requires : tie.Need-act-requires
-act-requires c κs = search laws
-
-done-requires : tie.Need-done-requires
-done-requires c κs = search laws
+refused-requires c κs = search needs
 
 returns : tie.Need-returns
 returns c = search laws
 
+bar-requires : tie.Need-bar-requires
+bar-requires c κs = search needs
+
+refused-requires-2 : tie.Need-refused-requires-2
+refused-requires-2 c κs = search needs
+
 returns-2 : tie.Need-returns-2
 returns-2 c = search laws
+
+refused-requires-3 : tie.Need-refused-requires-3
+refused-requires-3 c κs = search needs
 
 returns-3 : tie.Need-returns-3
 returns-3 c = search laws
 
-same-length : tie.Need-same-length
-same-length c = search laws
+enum-told : tie.Need-enum-told
+enum-told c = search needs
+
+refused-requires-4 : tie.Need-refused-requires-4
+refused-requires-4 c κs = search needs
+
+enum-known-asked : tie.Need-enum-known-asked
+enum-known-asked c = search needs
+
+set-all-requires : tie.Need-set-all-requires
+set-all-requires c κs = search laws
+
+enum-known-asked-2 : tie.Need-enum-known-asked-2
+enum-known-asked-2 c = search needs
+
+get-all-requires : tie.Need-get-all-requires
+get-all-requires c κs = search laws
 
 returns-4 : tie.Need-returns-4
 returns-4 c = search laws
+
+returns-5 : tie.Need-returns-5
+returns-5 c = search laws
+
+same-length : tie.Need-same-length
+same-length c = search needs
+
+returns-6 : tie.Need-returns-6
+returns-6 c = search laws
 
 pub request-spec : {M : Type 1} → statement M
 request-spec =
@@ -204,19 +173,20 @@ request-spec =
     read-requires
     target-of-requires
     seek-requires
-    enum-told
     refused-requires
-    enum-told-2
-    lost-requires
-    refused-requires-2
-    enum-told-3
-    lost-requires-2
-    refused-requires-3
-    enum-known-index
-    act-requires
-    done-requires
     returns
+    bar-requires
+    refused-requires-2
     returns-2
+    refused-requires-3
     returns-3
+    enum-told
+    refused-requires-4
+    enum-known-asked
+    set-all-requires
+    enum-known-asked-2
+    get-all-requires
+    returns-4
+    returns-5
     same-length
-    returns-4)
+    returns-6)
