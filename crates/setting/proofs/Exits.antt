@@ -26,12 +26,16 @@ and-fails b e = ap (λ (x : Bool). x && b) e
 
 -- ---- number_at
 
-pub rest-fits : (a m : ℕ) (s : Sort) → m ≡ spanOf s → Fits w16 (a % m)
-rest-fits a m s e =
-    let h = span-some s in
+pub rest-fits : (s : Sort) (sum r : ℕ) → r ≡ sum % spanOf s → Fits w16 r
+rest-fits s sum r e =
     let g = span-small s in
-    let l : a % m < m = mod-lt a (omega arith) in
+    let l : sum % spanOf s < spanOf s = mod-lt sum (span-some s) in
     record { fits = omega arith }
+
+-- ---- on_grid and closest_height are asked for heights
+
+pub height-short : (s : Sort) (n h : ℕ) → h ≡ heightOf s n → h < 65536
+height-short s n h e = omega (arith, height-below s n, span-small s)
 
 -- ---- legal
 

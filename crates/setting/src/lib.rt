@@ -4,7 +4,7 @@
 // specs/Available.antt and specs/Closest.antt. Which sort a control is of is for the layer above to say.
 ghost use mathlib.Core.Path.{_≡_};
 ghost use mathlib.Core.Bool.{true};
-ghost use Prim.Native.Nat.{_≤_, _<_, min};
+ghost use Prim.Native.Nat.{_%_, _≤_, _<_, min};
 ghost use Rattle.setting.specs.Setting.{spanOf, biasOf, mostRes, heightOf, atHeight, silenceOf, fitsOf, legalOf, wholeSteps, onGrid, closestHeight, closestSetting, availableOf, closestTo};
 
 // The three sorts of ranged numbers: volume (two bytes, signed), tone = bass, mid, treble (one byte, signed), delay (two
@@ -45,11 +45,22 @@ fn bias(sort: Sort) -> u32
     }
 }
 
+// What is left of a sum that has come round. Each span is a power of two, so this is the sum's low bits.
+fn around(sort: Sort, sum: u32) -> u32
+    ensures { λ r. ⌜ r ≡ sum % spanOf sort ⌝ }
+{
+    match sort {
+        Sort::Volume => sum % 65536,
+        Sort::Tone => sum % 256,
+        Sort::Delay => sum % 65536,
+    }
+}
+
 // How far a number's value lies above the lowest value. Heights are ordered as the values are, and none is negative.
 fn height(sort: Sort, number: u16) -> u32
     ensures { λ r. ⌜ r ≡ heightOf sort number ⌝ }
 {
-    (number as u32 + bias(sort)) % span(sort)
+    around(sort, number as u32 + bias(sort))
 }
 
 // The number whose value lies that high.
@@ -57,7 +68,7 @@ fn number_at(sort: Sort, height: u32) -> u16
     requires { ⌜ height < 65536 ⌝ }
     ensures { λ r. ⌜ r ≡ atHeight sort height ⌝ }
 {
-    ((height + bias(sort)) % span(sort)) as u16
+    around(sort, height + bias(sort)) as u16
 }
 
 // The volume number −32768.
@@ -115,18 +126,35 @@ pub fn legal(sort: Sort, range: Range) -> bool
     !silence(sort, min)
 }
 
-// The length of the most whole steps that room has place for; 0 where a step is 0.
+// The length of the most whole steps that room has place for; 0 where a step is 0. A small box has no divider, so the step is
+// taken off and doubled while it fits into the rest, then halved back, each doubling that still fits taken off: at most 17 times
+// each way, and not once where room is shorter than a step.
 fn whole_steps(room: u32, step: u32) -> u32
+    requires { ⌜ room < 65536 ⌝ }
     ensures { λ r. ⌜ r ≡ wholeSteps room step ⌝ }
 {
     if step == 0 {
         return 0;
     }
-    room / step * step
+    let mut reach = step;
+    let mut rest = room;
+    while reach <= rest {
+        rest -= reach;
+        reach *= 2;
+    }
+    while step <= rest {
+        reach /= 2;
+        while rest < reach {
+            reach /= 2;
+        }
+        rest -= reach;
+    }
+    room - rest
 }
 
 // Whether x is least, or a number of steps above it, and not above most.
 fn on_grid(least: u32, most: u32, step: u32, x: u32) -> bool
+    requires { ⌜ most < 65536 ⌝ }
     ensures { λ r. ⌜ r ≡ onGrid least most step x ⌝ }
 {
     if x < least {
@@ -161,7 +189,7 @@ fn lesser(a: u32, b: u32) -> u32
 
 // The closest to x of least, least + step, .. up to most, at a tie the lower.
 fn closest_height(least: u32, most: u32, step: u32, x: u32) -> u32
-    requires { ⌜ (least ≤ most) × (0 < step) ⌝ }
+    requires { ⌜ (least ≤ most) × ((most < 65536) × (0 < step)) ⌝ }
     ensures { λ r. ⌜ r ≡ closestHeight least most step x ⌝ }
 {
     if x <= least {

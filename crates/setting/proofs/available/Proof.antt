@@ -2,9 +2,9 @@
 use borrow.Author.Needs.{needs}
 use Rattle.setting.proofs.available.Statement.{statement}
 use Rattle.setting.proofs.available.Tie as tie
-use Rattle.setting.proofs.Exits.{available-silence, available-wide, available-end}
+use Rattle.setting.proofs.Exits.{available-silence, available-wide, available-end, height-short}
 
-ruleset laws = (available-silence, available-wide, available-end, needs)
+ruleset laws = (available-silence, available-wide, available-end, height-short, needs)
 
 silence-requires : tie.Need-silence-requires
 silence-requires c κs = search needs
@@ -31,7 +31,7 @@ height-requires-3 : tie.Need-height-requires-3
 height-requires-3 c κs = search needs
 
 on-grid-requires : tie.Need-on-grid-requires
-on-grid-requires c κs = search needs
+on-grid-requires c κs = search laws
 
 returns-3 : tie.Need-returns-3
 returns-3 c = search laws

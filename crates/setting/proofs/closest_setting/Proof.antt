@@ -1,11 +1,11 @@
 -- closest_setting meets its contract: a legal range has MIN ≤ MAX and a step, and its closest height is below the span.
 use Rattle.setting.specs.Setting.{closestSetting}
-use Rattle.setting.proofs.Exits.{min-max, res-some, closest-below}
+use Rattle.setting.proofs.Exits.{min-max, res-some, closest-below, height-short}
 use borrow.Author.Needs.{needs}
 use Rattle.setting.proofs.closest_setting.Statement.{statement}
 use Rattle.setting.proofs.closest_setting.Tie as tie
 
-ruleset laws = (min-max, res-some, closest-below, needs)
+ruleset laws = (min-max, res-some, closest-below, height-short, needs)
 
 height-requires : tie.Need-height-requires
 height-requires c κs = search needs
