@@ -4,20 +4,22 @@
 //! The work stands in three layers, as in document 01: cutting ([`cut`]), topology ([`entity`],
 //! [`topology`], [`streaming`], put together by [`reader`]) and requests ([`controls`],
 //! [`settings`], [`requests`]). Above them stand the programs [`sheet`], [`lend`] and [`relay`], and
-//! beside them the [`generator`].
+//! beside them what changed between two sheets ([`differences`], [`sheets`]) and the [`generator`].
 //!
-//! `second sheet`, `second lend`, `second relay`: the programs, from standard input to standard
-//! output.
+//! `second sheet`, `second lend`, `second relay`, `second sheets`: the programs, from standard input
+//! to standard output.
+//! `second differ`: the program `compare`, over the files `left` and `right` of the folder.
 //! `second vectors DIR [--report]`: writes the vectors; fails if a clause is not reached.
 //! `second fuzz SEED COUNT`: a fresh script of COUNT configurations and COUNT other steps.
-//! `second compare SEED COUNT EVERY SHEET LEND RELAY`: fresh inputs through the programs SHEET,
-//! LEND and RELAY (each a command with its arguments) and through this one; one configuration in
-//! EVERY goes through SHEET.
+//! `second compare SEED COUNT EVERY SHEET LEND RELAY SHEETS`: fresh inputs through the programs SHEET,
+//! LEND, RELAY and SHEETS (each a command with its arguments) and through this one; one configuration
+//! in EVERY goes through SHEET.
 
 #![deny(missing_docs)]
 
 mod controls;
 mod cut;
+mod differences;
 mod entity;
 mod generator;
 mod lend;
@@ -27,6 +29,7 @@ mod relay;
 mod requests;
 mod settings;
 mod sheet;
+mod sheets;
 mod streaming;
 mod topology;
 mod ways;
@@ -38,8 +41,8 @@ use std::process::ExitCode;
 use generator::{compare, vectors};
 
 const USAGE: &str =
-    "usage: second sheet | lend | relay | vectors DIR [--report] | fuzz SEED COUNT \
-                     | compare SEED COUNT EVERY SHEET LEND RELAY";
+    "usage: second sheet | lend | relay | sheets | differ | vectors DIR [--report] \
+                     | fuzz SEED COUNT | compare SEED COUNT EVERY SHEET LEND RELAY SHEETS";
 
 fn main() -> ExitCode {
     let arguments: Vec<String> = std::env::args().skip(1).collect();
@@ -62,10 +65,12 @@ fn run(words: &[&str]) -> Result<Vec<u8>, String> {
         ["sheet"] => Ok(sheet::program(&input()?).into_bytes()),
         ["lend"] => Ok(lend::program(&input()?).into_bytes()),
         ["relay"] => Ok(relay::program(&input()?).into_bytes()),
+        ["sheets"] => Ok(sheets::program(&input()?).into_bytes()),
+        ["differ"] => Ok(sheets::compare(Path::new(".")).into_bytes()),
         ["vectors", dir] => write_vectors(dir, false),
         ["vectors", dir, "--report"] => write_vectors(dir, true),
         ["fuzz", seed, count] => Ok(compare::script(number(seed)?, number(count)? as usize).tape.bytes),
-        ["compare", seed, count, every, sheet, lend, relay] => {
+        ["compare", seed, count, every, sheet, lend, relay, sheets] => {
             let command = |text: &str| text.split_whitespace().map(str::to_string).collect();
             let job = compare::Job {
                 seed: number(seed)?,
@@ -73,6 +78,7 @@ fn run(words: &[&str]) -> Result<Vec<u8>, String> {
                 sheet: command(sheet),
                 lend: command(lend),
                 relay: command(relay),
+                sheets: command(sheets),
                 every: number(every)? as usize,
             };
             compare::run(&job).map(|line| (line + "\n").into_bytes())

@@ -57,7 +57,7 @@ pub fn program(script: &[u8]) -> String {
 
 /// The first step of what is not empty: its kind, its bytes, and what follows. "an n over 8,192 ...
 /// or an input that ends within a step" is none.
-fn take(script: &[u8]) -> Result<(u8, &[u8], &[u8]), BadStep> {
+pub fn take(script: &[u8]) -> Result<(u8, &[u8], &[u8]), BadStep> {
     if script.len() < 3 {
         return Err(BadStep);
     }

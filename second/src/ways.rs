@@ -13,7 +13,7 @@ macro_rules! ways {
             /// All clauses, in the order of the papers.
             pub const ALL: &'static [Way] = &[$(Way::$name,)*];
 
-            /// The number that document 01 gives this refusal.
+            /// The number that the papers give this refusal.
             pub fn number(self) -> u16 {
                 match self { $(Way::$name => $number,)* }
             }
@@ -142,6 +142,10 @@ ways! {
     SetPinZero = 38, "Set of a Selector below its pins";
     SetPinHigh = 38, "Set of a Selector above its pins";
     ReplyShort = 39, "Get: the reply buffer is shorter than the bytes to be sent";
+    ComparedLong = 41, "length over 512";
+    ComparedUneven = 41, "length not a multiple of 16";
+    ComparedIdZero = 42, "an ID of zero";
+    ComparedIdTwice = 42, "an ID that stands twice";
 }
 
 /// A refusal of a configuration: its clause and its place.
@@ -166,7 +170,7 @@ mod tests {
 
     #[test]
     fn every_number_of_the_papers_has_a_way() {
-        let wanted = (1..=16).chain([20, 21]).chain(30..=39);
+        let wanted = (1..=16).chain([20, 21]).chain(30..=39).chain([41, 42]);
         for number in wanted {
             assert!(Way::ALL.iter().any(|way| way.number() == number), "{number}");
         }

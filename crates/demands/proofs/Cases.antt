@@ -30,7 +30,8 @@ use Rattle.graph.specs.Along.{put, given}
 use Rattle.graph.specs.Tables.{tabulateFrom}
 use Rattle.ground.specs.Places.{firstIn, somewhere}
 use Rattle.sources.specs.Lookup.{lookupBelow, sourceNumber}
-use Rattle.ids.specs.Breach.{wrongId, breach10}
+use Rattle.graph.specs.Borne.{wrongId}
+use Rattle.ids.specs.Breach.{breach10}
 use Rattle.sources.specs.Breach.{wrongSource, breach11}
 use Rattle.ranks.specs.Order.{ordered}
 use Rattle.ranks.specs.Breach.{breach12}

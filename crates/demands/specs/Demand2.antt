@@ -18,7 +18,7 @@ use Prim.Native.Nat.{ℕ}
 use mathlib.Core.Path.{_≡_}
 use mathlib.Core.List.{List, []}
 use Rattle.setting.specs.declared.Range.{Range}
-use Rattle.ground.specs.Numbers.{byte}
+use Rattle.ground.specs.Numbers.{byte, Bytes}
 use Rattle.table.specs.declared.Control.{Control}
 use Rattle.table.specs.Keys.{Key, StandsAt}
 use Rattle.sound.specs.Meaning.{Sound}
@@ -28,7 +28,7 @@ use Rattle.request.specs.declared.State.{State}
 use Rattle.request.specs.declared.Plugged.{Plugged}
 use Rattle.request.specs.Outcome.{numberOf, bytesOf}
 use Rattle.request.specs.Plugged.{PluggedIn}
-use Rattle.runs.specs.Runs.{Step, stepOf, next, after, rangesIn, numbersIn, told, Bytes, Wired}
+use Rattle.runs.specs.Runs.{Step, stepOf, next, after, rangesIn, numbersIn, told, Wired}
 use Rattle.runs.specs.Runs.Step.{load, request}
 use Rattle.runs.specs.RequestRows.{Addressed, stepRows}
 use Rattle.runs.specs.InTurn.{InTurn}

@@ -5,4 +5,5 @@ pub mod Passes
 pub mod Grown
 pub mod Quiet
 pub mod Ranked
+pub mod Borne
 pub mod Along

@@ -3,19 +3,19 @@
 --   wrongId run i       ==  the ID of the i-th entity is zero or borne by an earlier one
 --   breach10 run        ==  the place of the first such entity
 use Prim.Native.Nat.{ℕ}
-use mathlib.Core.Bool.{Bool, _||_}
-use lib.Dec.{eqb}
+use mathlib.Core.Bool.{Bool}
 use Rattle.ground.specs.declared.Place.{Place}
 use Rattle.ground.specs.declared.Place.the-variants.{Nowhere, At}
-use Rattle.ground.specs.Places.{somewhere, firstIn}
+use Rattle.ground.specs.Places.{firstIn}
+use Rattle.graph.specs.Borne as borne
 use Rattle.entities.specs.declared.Run.{Run}
 use Rattle.entities.specs.Run.{held, idAt, placeAt}
 
 abbrev pub bears : Run → ℕ → ℕ → Bool
-bears run x i = eqb (idAt run i) x
+bears run = borne.bears (idAt run)
 
-unfoldable pub wrongId : Run → ℕ → Bool
-wrongId run i = eqb (idAt run i) 0 || somewhere (bears run (idAt run i)) i
+abbrev pub wrongId : Run → ℕ → Bool
+wrongId run = borne.wrongId (idAt run)
 
 unfoldable pub breach10 : Run → Place
 breach10 run = firstIn (wrongId run) (λ i. At (placeAt run i)) Nowhere 0 (held run)

@@ -8,25 +8,26 @@
 --   distinct-run     ==  in graph's words: by rule 10, no two indices of the run bear the same ID
 use Prim.Native.Nat.{ℕ, _<_}
 use mathlib.Core.Path.{_≡_, sym, ap, _∙_}
-use mathlib.Core.Logic.{_↔_}
+use mathlib.Core.Logic.{_↔_, ⊎-map}
 use mathlib.Core.List.{List, []}
 use native.Mathlib.Omega.{arith}
 use lib.ListN.{length, getD, take}
 use lib.Seq.{length-take-le, getD-take}
 use Rattle.ground.specs.declared.Place.the-variants.{Nowhere, At}
-use Rattle.ground.specs.Pick.{Reads, reads-eq, reads-or, reads-same}
+use Rattle.ground.specs.Pick.{Reads, reads-same}
 use Rattle.ground.specs.Lists.{Some, member-at, member-index}
 use Rattle.ground.specs.First.{Breaks}
-use Rattle.ground.specs.Places.{reads-somewhere, breach-nowhere, breach-at}
+use Rattle.ground.specs.Places.{breach-nowhere, breach-at}
 use Rattle.graph.specs.Members.{_∈_}
 use Rattle.graph.specs.Ranked.{Distinct}
+use Rattle.graph.specs.Borne.{reads-wrong}
 use Rattle.edition.specs.Edition.{Edition, ownId}
 use Rattle.entities.specs.declared.Run.{Run}
 use Rattle.entities.specs.Run.{held, idAt, placeAt}
 use Rattle.entities.specs.Represents.{Represents}
 use Rattle.entities.specs.RepresentsLaws.{sound-of, breaks-of}
 use Rattle.ids.specs.Rule10.{WrongId, Rule10}
-use Rattle.ids.specs.Breach.{bears, wrongId, breach10}
+use Rattle.ids.specs.Breach.{wrongId, breach10}
 use Rattle.ids.specs.OwnIds.{earlier, own-ids}
 
 module _ {ed : Edition} {s : List ℕ} {p : ℕ} {ds : List (List ℕ)} {run : Run} (k : Represents ed s p ds run) where
@@ -34,11 +35,7 @@ module _ {ed : Edition} {s : List ℕ} {p : ℕ} {ds : List (List ℕ)} {run : R
   inside l = rw (k .counted) at l
 
   pub reads-id : (i : ℕ) → i < held run → Reads (wrongId run i) (WrongId (take i ds) (getD ds i []))
-  unfolding wrongId
-  reads-id i l =
-      reads-or _ _
-      (reads-same (reads-eq (idAt run i) 0) (λ e. sym own ∙ e) (λ e. own ∙ e))
-      (reads-same (reads-somewhere (bears run (idAt run i)) (λ j. idAt run j ≡ idAt run i) i (λ j h. reads-eq (idAt run j) (idAt run i))) to of)
+  reads-id i l = reads-same (reads-wrong (idAt run) i) (⊎-map (λ e. sym own ∙ e) to) (⊎-map (λ e. own ∙ e) of)
     where
       n : i < length ds
       n = inside l

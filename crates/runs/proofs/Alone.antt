@@ -11,6 +11,7 @@ use mathlib.Core.Logic.{⊎-elim}
 use native.Mathlib.Omega.{arith}
 use lib.Dec.{eqb}
 use lib.ListN.{length, length-set}
+use Rattle.ground.specs.Numbers.{Bytes}
 use Rattle.ground.specs.Pick.{decided, reads-eq}
 use Rattle.setting.specs.declared.Range.{Range}
 use Rattle.table.specs.declared.Control.{Control}
@@ -28,7 +29,7 @@ use Rattle.request.specs.Outcome.{Outcome, tableAfter}
 use Rattle.request.specs.Outcome.Outcome.{refused, got, done}
 use Rattle.request.specs.Load.{loadOf}
 use Rattle.request.specs.Request.{requestOf}
-use Rattle.runs.specs.Runs.{Step, next, after, Bytes, sent, Wired}
+use Rattle.runs.specs.Runs.{Step, next, after, sent, Wired}
 use Rattle.runs.specs.Runs.Step.{load, request}
 use Rattle.runs.specs.Promises.{Alone}
 use Rattle.runs.proofs.Taken.{LoadTaken, SetTaken, load-taken, set-taken}

@@ -16,7 +16,7 @@ use native.Mathlib.Omega.{arith}
 use lib.ListN.{take}
 use borrow.Author.Tests.{not-false}
 use Rattle.ground.specs.Pick.{pick, shows}
-use Rattle.ground.specs.Numbers.{byte, word}
+use Rattle.ground.specs.Numbers.{byte, word, Bytes}
 use Rattle.ground.specs.Lists.{any}
 use Rattle.graph.specs.Members.{_∈_}
 use Rattle.setting.specs.Setting.{closestTo}
@@ -50,7 +50,7 @@ use Rattle.request.specs.Outcome.{Outcome, numberOf, bytesOf, tableAfter}
 use Rattle.request.specs.Outcome.Outcome.{refused, got, done}
 use Rattle.request.specs.Load.{loadOf}
 use Rattle.request.specs.Request.{requestOf}
-use Rattle.runs.specs.Runs.{addressedBy, Step, next, after, lastOf, Bytes, Wired}
+use Rattle.runs.specs.Runs.{addressedBy, Step, next, after, lastOf, Wired}
 use Rattle.runs.specs.Promises.{Settles, CurMeans, GetGiven, Turned, SetStored, LoadStored, Moved, Means, keyIn, Answer, Valued, none, more, inBytes, Answers}
 use Rattle.runs.proofs.Shares.{any-front}
 use Rattle.runs.proofs.Taken.{places, GetTaken, SetTaken, LoadTaken, get-taken, set-taken, load-taken, load-not-got}

@@ -15,7 +15,7 @@ use lib.Dec.{eqb, ltb}
 use lib.ListN.{length, take, length-drop}
 use lib.Seq.{take-take, take-nil, take-all, length-take-le}
 use Rattle.ground.specs.Pick.{pick, yes, true≠false, Reads, shows, refutes, decided, reads-same, reads-eq, reads-lt, reads-or, reads-not}
-use Rattle.ground.specs.Numbers.{byte, word}
+use Rattle.ground.specs.Numbers.{byte, word, Bytes}
 use Rattle.ground.specs.Lists.{any}
 use Rattle.graph.specs.Members.{_∈_, map-same}
 use Rattle.table.specs.declared.Control.{Control}
@@ -41,7 +41,7 @@ use Rattle.request.specs.Outcome.Outcome.{refused, got, done}
 use Rattle.address.specs.AddressedLaws.{sound-channel, stands-one}
 use Rattle.request.specs.Stored.{storedAt, outcomeAt}
 use Rattle.request.specs.Request.{elsewhereBy, doneAt, answerAsked, requestOf}
-use Rattle.runs.specs.Runs.{addressedBy, Step, stepOf, accepted, after, Bytes}
+use Rattle.runs.specs.Runs.{addressedBy, Step, stepOf, accepted, after}
 use Rattle.runs.specs.Runs.Step.{request}
 use Rattle.runs.specs.RequestRows.{Addressed, bytesSent}
 use Rattle.runs.specs.Promises.{keyIn}

@@ -10,6 +10,7 @@ use mathlib.Core.List.{List, [], _∷_}
 use mathlib.Core.Bool.{true}
 use native.Mathlib.Omega.{arith}
 use lib.ListN.{length}
+use Rattle.ground.specs.Numbers.{Bytes}
 use Rattle.ground.specs.Pick.{shows, reads-and, reads-le}
 use Rattle.setting.specs.Setting.{fitsOf, legalOf, closestTo}
 use Rattle.setting.specs.Legal.{fits-reads, legal-means}
@@ -30,7 +31,6 @@ use Rattle.sound.specs.Meaning.{Sound, sound-counted}
 use Rattle.address.specs.AddressedLaws.{found-stands}
 use Rattle.answers.specs.Held.{valueIn, takes, storedFor, withCur}
 use Rattle.loads.specs.Load.{loadedWith}
-use Rattle.runs.specs.Runs.{Bytes}
 use Rattle.runs.specs.Promises.{Settles}
 
 pub load-same : (s : Sort) (range : Range) (w : ℕ) (c : Control) → Same (loadedWith s range w c) c

@@ -12,6 +12,7 @@ use native.Mathlib.Omega.{arith}
 use borrow.Author.Tests.{not-false}
 use lib.ListN.{length}
 use mathlib.Core.Logic.{⊎-elim}
+use Rattle.ground.specs.Numbers.{Bytes}
 use Rattle.ground.specs.Pick.{pick, Reads, shows, refutes, reads-and, reads-eq}
 use Rattle.graph.specs.Members.{_∈_}
 use Rattle.setting.specs.Setting.{fitsOf, legalOf, closestTo}
@@ -39,7 +40,7 @@ use Rattle.request.specs.Outcome.{Outcome, tableAfter}
 use Rattle.request.specs.Outcome.Outcome.{refused, got, done}
 use Rattle.request.specs.Load.{loadOf}
 use Rattle.request.specs.Request.{requestOf}
-use Rattle.runs.specs.Runs.{addressedBy, Step, accepted, next, after, sameKey, shareOf, rangesIn, numbersIn, heard, told, lastOf, some, Bytes, sent, Wired}
+use Rattle.runs.specs.Runs.{addressedBy, Step, accepted, next, after, sameKey, shareOf, rangesIn, numbersIn, heard, told, lastOf, some, sent, Wired}
 use Rattle.runs.specs.Runs.Step.{load, request}
 use Rattle.runs.specs.Promises.{CurMeans, Moved}
 use Rattle.runs.proofs.Stored.{member}

@@ -7,6 +7,7 @@ use Prim.Native.Nat.{ℕ, _<_}
 use mathlib.Core.Path.{_≡_, refl, sym, ap, _∙_}
 use mathlib.Core.List.{List, [], _∷_, map}
 use lib.ListN.{length, length-map}
+use Rattle.ground.specs.Numbers.{Bytes}
 use Rattle.graph.specs.Members.{_∈_}
 use Rattle.table.specs.declared.Control.{Control}
 use Rattle.table.specs.declared.Table.{Table}
@@ -17,7 +18,7 @@ use Rattle.single.specs.Meaning.{SoundAs}
 use Rattle.sound.specs.Meaning.{Sound}
 use Rattle.answers.specs.Held.{valueIn, storedFor, withCur}
 use Rattle.answers.specs.Answers.{heldBy, allSet}
-use Rattle.runs.specs.Runs.{addressedBy, Bytes}
+use Rattle.runs.specs.Runs.{addressedBy}
 use Rattle.runs.specs.Promises.{keyIn}
 use Rattle.runs.proofs.Stored.{Pair, pair-in, stored-count, stored-room, stored-here, stored-other, stored-same, stored-pins, stored-sound}
 use Rattle.runs.proofs.Shares.{Sent, sent-to, set-long}

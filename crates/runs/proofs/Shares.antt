@@ -13,6 +13,7 @@ use native.Mathlib.Omega.{arith}
 use lib.Dec.{ltb}
 use lib.ListN.{length, getD, take, drop, length-drop}
 use lib.Seq.{getD-take, getD-drop, length-take-le}
+use Rattle.ground.specs.Numbers.{Bytes}
 use Rattle.ground.specs.Pick.{pick, yes, no, shows, refutes, true≠false, decided, reads-true, reads-and, reads-lt}
 use Rattle.ground.specs.Lists.{any}
 use Rattle.graph.specs.Members.{_∈_}
@@ -24,7 +25,7 @@ use Rattle.sound.specs.Meaning.{Sound}
 use Rattle.address.specs.AddressedLaws.{answers-reads, stands-one}
 use Rattle.answers.specs.Held.{unready, valueIn, takes, storedFor, withCur}
 use Rattle.answers.specs.Answers.{heldBy, sizeIn, sizesOf, sentTo, restOf, allTake, allSet}
-use Rattle.runs.specs.Runs.{shareOf, Bytes}
+use Rattle.runs.specs.Runs.{shareOf}
 use Rattle.runs.specs.Promises.{Share, first, later}
 use Rattle.runs.proofs.Stored.{Pair, front, behind}
 use Rattle.request.specs.Stored.{Apart, alone, apart}

@@ -14,17 +14,15 @@
 --   told f st run     ==  what f finds in the accepted steps of the run, in their order
 --   lastOf x xs       ==  the last of xs, or x where there is none
 --   some xs           ==  there is one
---   Bytes d           ==  every element of d is a byte, as in every lent slice
 --   sent step         ==  the data of a request
 --   Wired run         ==  the data of every request of the run are bytes
-use Prim.Native.Nat.{ℕ, _<_}
+use Prim.Native.Nat.{ℕ}
 use mathlib.Core.Path.{_≡_}
 use mathlib.Core.List.{List, [], _∷_, _++_, map, List·Memᴰ}
 use mathlib.Core.Bool.{Bool, true, false, _&&_}
 use lib.Dec.{eqb}
-use lib.ListN.{getD}
 use Rattle.ground.specs.Pick.{pick}
-use Rattle.ground.specs.Numbers.{byte}
+use Rattle.ground.specs.Numbers.{byte, Bytes}
 use Rattle.setting.specs.declared.Range.{Range}
 use Rattle.table.specs.declared.Control.{Control}
 use Rattle.table.specs.declared.Table.{Table}
@@ -94,9 +92,6 @@ lastOf x (y ∷ ys) = lastOf y ys
 abbrev pub some : {A : Type 0} → List A → Bool
 some [] = false
 some (x ∷ xs) = true
-
-abbrev pub Bytes : List ℕ → Type 0
-Bytes d = (i : ℕ) → getD d i 0 < 256
 
 abbrev pub sent : Step → List ℕ
 sent (load k range w) = []

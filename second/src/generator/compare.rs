@@ -4,9 +4,11 @@ use std::io::Write;
 use std::process::{Command, Stdio};
 
 use super::lent::{self, Lent};
+use super::pairs::{self, Pairs};
 use super::random;
 use super::rng::Rng;
 use super::script::{put_body, step_bytes, Reach, Script};
+use super::tape::Tape;
 use crate::relay::{self, PLUG_IN};
 use crate::requests::State;
 use crate::sheet;
@@ -27,6 +29,8 @@ pub struct Job {
     pub lend: Vec<String>,
     /// The program `relay` and its arguments.
     pub relay: Vec<String>,
+    /// The program `sheets` and its arguments.
+    pub sheets: Vec<String>,
     /// One configuration in so many goes through `sheet` too; none if 0.
     pub every: usize,
 }
@@ -54,18 +58,21 @@ pub fn run(job: &Job) -> Result<String, String> {
         compare_relay(job, &script)?;
         sheets += compare_sheets(job, &script)?;
         let lent = lent_script(seed, &script);
-        compare_lent(job, &lent)?;
+        compare_tape("lend", &job.lend, &lent.tape)?;
+        let pairs = pair_script(seed, now);
+        compare_tape("sheets", &job.sheets, &pairs.tape)?;
         reach.add(&script.reach);
         reach.add(&lent.reach);
+        reach.add(&pairs.reach);
         done += now;
         eprintln!("{done} of {} configurations and steps", job.count);
     }
     let (ways, all) = (reach.ways.len(), Way::ALL.len());
     Ok(format!(
         "no difference: {done} configurations and {done} other steps through `relay`, {sheets} \
-         configurations through `sheet`, {} through `lend`; {ways} of the {all} clauses of refusals \
-         met",
-        reach.lent
+         configurations through `sheet`, {} through `lend`, {} pairs through `sheets`; {ways} of the \
+         {all} clauses of refusals met",
+        reach.lent, reach.pairs
     ))
 }
 
@@ -77,6 +84,16 @@ fn lent_script(seed: u64, script: &Script) -> Lent {
         lent::random_length(&mut rng, &mut lent, config);
     }
     lent
+}
+
+/// So many pairs of sheets at random.
+fn pair_script(seed: u64, count: usize) -> Pairs {
+    let mut rng = Rng::new(seed.rotate_left(32));
+    let mut pairs = Pairs::default();
+    for _ in 0..count {
+        pairs::random(&mut rng, &mut pairs);
+    }
+    pairs
 }
 
 /// Runs a program over these bytes and answers what it printed.
@@ -104,11 +121,12 @@ fn compare_relay(job: &Job, script: &Script) -> Result<(), String> {
     }
 }
 
-fn compare_lent(job: &Job, lent: &Lent) -> Result<(), String> {
-    let got = output(&job.lend, &lent.tape.bytes)?;
-    match lent.tape.difference(&got) {
+/// Compares what a program of this name prints for steps that hang on none before them.
+fn compare_tape(name: &str, program: &[String], tape: &Tape) -> Result<(), String> {
+    let got = output(program, &tape.bytes)?;
+    match tape.difference(&got) {
         Some((index, answers)) => {
-            Err(format!("difference in `lend`\nstep: {}\n{answers}", hex(lent.tape.step(index))))
+            Err(format!("difference in `{name}`\nstep: {}\n{answers}", hex(tape.step(index))))
         }
         None => Ok(()),
     }

@@ -21,6 +21,8 @@ pub struct Reach {
     pub steps: usize,
     /// Steps of `lend`.
     pub lent: usize,
+    /// Steps of `sheets`.
+    pub pairs: usize,
 }
 
 impl Reach {
@@ -36,6 +38,12 @@ impl Reach {
     /// Counts one answer of `lend`.
     pub fn count_lent(&mut self, printed: &Printed) {
         self.lent += 1;
+        self.count_answer(printed);
+    }
+
+    /// Counts one answer of `sheets`.
+    pub fn count_pair(&mut self, printed: &Printed) {
+        self.pairs += 1;
         self.count_answer(printed);
     }
 
@@ -60,6 +68,7 @@ impl Reach {
         self.configurations += other.configurations;
         self.steps += other.steps;
         self.lent += other.lent;
+        self.pairs += other.pairs;
     }
 }
 

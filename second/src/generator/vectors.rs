@@ -1,4 +1,4 @@
-//! The vectors: for each run of a program a folder with its `stdin` and its `stdout`.
+//! The vectors: for each run of a program a folder with its `stdin`, its files and its `stdout`.
 
 use std::fs;
 use std::path::Path;
@@ -6,6 +6,7 @@ use std::path::Path;
 use super::build::{case_a, microphone, telephone, Telephone};
 use super::configs::{self, desk};
 use super::lent::{self, lent_bytes, Lent};
+use super::pairs::{self, pair_bytes, Pairs};
 use super::random;
 use super::rng::Rng;
 use super::script::{step_bytes, Reach, Script};
@@ -14,6 +15,7 @@ use crate::lend;
 use crate::numbers::{CONFIGURATION_MOST, CONTROLS, LENT, STEP};
 use crate::relay::{self, LOAD, PLUG_IN, PUT, REQUEST, SHOW};
 use crate::sheet;
+use crate::sheets::{self, PAIR};
 use crate::ways::Way;
 
 /// The seed of all that is random in the vectors.
@@ -33,8 +35,17 @@ pub struct Run {
     pub name: String,
     /// What the program reads.
     pub stdin: Vec<u8>,
+    /// The files of the folder that it runs in.
+    pub files: Vec<(&'static str, Vec<u8>)>,
     /// What it has to print.
     pub stdout: String,
+}
+
+impl Run {
+    /// A run that reads standard input.
+    fn new(name: impl Into<String>, stdin: Vec<u8>, stdout: impl Into<String>) -> Run {
+        Run { name: name.into(), stdin, files: vec![], stdout: stdout.into() }
+    }
 }
 
 /// All runs, and what they reach.
@@ -45,6 +56,8 @@ pub struct Vectors {
     pub reach: Reach,
     /// The steps of `lend`.
     lent: Lent,
+    /// The steps of `sheets`.
+    pairs: Pairs,
     /// What is reached on purpose, before anything at random.
     pub named: Reach,
 }
@@ -58,25 +71,27 @@ pub fn make() -> Vectors {
     assert_eq!(lend::program(&lent.tape.bytes), lent.tape.printed);
     reach.add(&lent.reach);
     named.add(&lent.named);
-    runs.push(Run {
-        name: "lend_steps".to_string(),
-        stdin: lent.tape.bytes.clone(),
-        stdout: lent.tape.printed.clone(),
-    });
+    runs.push(Run::new("lend_steps", lent.tape.bytes.clone(), &lent.tape.printed));
+    let pairs = pairs::all(SEED + 4);
+    assert_eq!(sheets::program(&pairs.tape.bytes), pairs.tape.printed);
+    reach.add(&pairs.reach);
+    named.add(&pairs.named);
+    runs.push(Run::new("sheets_pairs", pairs.tape.bytes.clone(), &pairs.tape.printed));
     for (name, (script, on_purpose)) in
         [("relay_configs", configuration_script()), ("relay_steps", step_script())]
     {
         assert_eq!(relay::program(&script.tape.bytes), script.tape.printed, "{name}");
         reach.add(&script.reach);
         named.add(&on_purpose);
-        let name = name.to_string();
-        runs.push(Run { name, stdin: script.tape.bytes, stdout: script.tape.printed });
+        runs.push(Run::new(name, script.tape.bytes, script.tape.printed));
     }
     runs.extend(quiet_ends());
     runs.extend(kept_steps());
     runs.extend(bad_steps());
     runs.extend(bad_lent_steps());
-    Vectors { runs, reach, named, lent }
+    runs.extend(bad_pairs());
+    runs.extend(compared_files());
+    Vectors { runs, reach, named, lent, pairs }
 }
 
 /// Every configuration made on purpose, with its answer held to what is written there, and more at
@@ -112,10 +127,9 @@ fn step_script() -> (Script, Reach) {
 
 /// Runs of `sheet`: the papers' examples, some made on purpose by name, some at random.
 fn sheets() -> Vec<Run> {
-    let run = |name: &str, config: Vec<u8>| Run {
-        name: name.to_string(),
-        stdout: sheet::program(&config),
-        stdin: config,
+    let run = |name: &str, config: Vec<u8>| {
+        let stdout = sheet::program(&config);
+        Run::new(name, config, stdout)
     };
     let mut runs = vec![
         run("sheet", case_a()),
@@ -169,15 +183,21 @@ fn no_configuration() -> Vec<u8> {
 /// Runs that end where a step could begin, and say nothing of it.
 fn quiet_ends() -> Vec<Run> {
     let run = |name: &str, stdin: Vec<u8>, stdout: &str| {
-        let printed = if name.starts_with("lend") { lend::program } else { relay::program };
+        let printed = match name.split_once('_') {
+            Some(("lend", _)) => lend::program,
+            Some(("sheets", _)) => sheets::program,
+            _ => relay::program,
+        };
         assert_eq!(printed(&stdin), stdout, "{name}");
-        Run { name: name.to_string(), stdin, stdout: stdout.to_string() }
+        Run::new(name, stdin, stdout)
     };
     vec![
         run("lend_empty", vec![], ""),
         run("lend_quiet", no_configuration(), "refused 1 at 0\nrest 49\n"),
         run("relay_empty", vec![], ""),
         run("relay_quiet", emptied(), "put\ntable 0\n"),
+        run("sheets_empty", vec![], ""),
+        run("sheets_quiet", pair_bytes(&[1; 16], &[]), "left 01\nend\n"),
     ]
 }
 
@@ -199,7 +219,7 @@ fn kept_steps() -> Vec<Run> {
         let stdin = [emptied(), edge, step_bytes(SHOW, &[])].concat();
         let stdout = relay::program(&stdin);
         assert_eq!(stdout, format!("put\ntable 0\n{answer}table 0\n"), "{name}");
-        Run { name: format!("relay_kept_{name}"), stdin, stdout }
+        Run::new(format!("relay_kept_{name}"), stdin, stdout)
     };
     edges.into_iter().map(run).collect()
 }
@@ -229,7 +249,7 @@ fn bad_steps() -> Vec<Run> {
         let stdin = [emptied(), end, after].concat();
         let stdout = relay::program(&stdin);
         assert_eq!(stdout, "put\ntable 0\nbad step\n", "{name}");
-        Run { name: format!("relay_bad_{name}"), stdin, stdout }
+        Run::new(format!("relay_bad_{name}"), stdin, stdout)
     };
     ends.into_iter().map(run).collect()
 }
@@ -252,9 +272,59 @@ fn bad_lent_steps() -> Vec<Run> {
         let stdin = [&good, &end, after].concat();
         let stdout = lend::program(&stdin);
         assert_eq!(stdout, "refused 1 at 0\nrest 49\nbad step\n", "{name}");
-        Run { name: format!("lend_bad_{name}"), stdin, stdout }
+        Run::new(format!("lend_bad_{name}"), stdin, stdout)
     };
     ends.into_iter().map(run).collect()
+}
+
+/// Runs of `sheets` that end in what is no step: each way of it once, after a good step.
+fn bad_pairs() -> Vec<Run> {
+    let good = pair_bytes(&[2; 16], &[3; 16]);
+    let ends = [
+        ("kind_0", step_bytes(0, &[0; 2])),
+        ("kind_2", step_bytes(2, &[0; 2])),
+        ("kind_255", step_bytes(255, &[0; 34])),
+        ("body_0", step_bytes(PAIR, &[])),
+        ("body_1", step_bytes(PAIR, &[0])),
+        ("left", step_bytes(PAIR, &[17; 18])),
+        ("longest_left", step_bytes(PAIR, &[0xFF; 34])),
+        ("long", pair_bytes(&[1; 16], &[0; STEP - 17])),
+        ("ends_in_kind", good[..1].to_vec()),
+        ("ends_in_length", good[..2].to_vec()),
+        ("ends_before_body", good[..3].to_vec()),
+        ("ends_in_body", good[..good.len() - 1].to_vec()),
+    ];
+    let run = |(name, end): (&str, Vec<u8>)| {
+        let after: &[u8] = if name.starts_with("ends") { &[] } else { &good };
+        let stdin = [&good, &end, after].concat();
+        let stdout = sheets::program(&stdin);
+        assert_eq!(stdout, "left 02\nright 03\nend\nbad step\n", "{name}");
+        Run::new(format!("sheets_bad_{name}"), stdin, stdout)
+    };
+    ends.into_iter().map(run).collect()
+}
+
+/// Runs of `compare`: a pair with every kind of line, pairs at the edges, files that are not there.
+fn compared_files() -> Vec<Run> {
+    let (left, right) = pairs::example();
+    let run = |name: &str, left: &[u8], right: &[u8]| Run {
+        files: vec![("left", left.to_vec()), ("right", right.to_vec())],
+        ..Run::new(name, vec![], sheets::compared(left, right).lines)
+    };
+    let lone = |name: &str, files, stdout: &str| Run { files, ..Run::new(name, vec![], stdout) };
+    vec![
+        run("compare", &left, &right),
+        run("compare_same", &left, &left),
+        run("compare_nothing", &[], &[]),
+        run("compare_513", &[1; 513], &right),
+        run("compare_528", &left, &[1; 528]),
+        run("compare_20000", &left, &[1; 20000]),
+        run("compare_uneven", &left[1..], &right),
+        run("compare_twice", &left, &[right.clone(), right[..16].to_vec()].concat()),
+        lone("compare_no_left", vec![("right", right.clone())], "cannot read left\n"),
+        lone("compare_no_right", vec![("left", left[1..].to_vec())], "cannot read right\n"),
+        lone("compare_no_file", vec![], "cannot read left\n"),
+    ]
 }
 
 impl Vectors {
@@ -278,6 +348,7 @@ impl Vectors {
             missing.push(format!("{} steps at least", LEAST.1));
         }
         missing.extend(self.lent.missing());
+        missing.extend(self.pairs.missing());
         missing
     }
 
@@ -301,6 +372,7 @@ impl Vectors {
             "{} configurations with sheets of many lengths ({} on purpose)\n",
             reach.lent, named.lent
         );
+        lines += &format!("{} pairs of sheets ({} on purpose)\n", reach.pairs, named.pairs);
         lines += &format!("{} runs, {bytes} bytes\n", self.runs.len());
         lines
     }
@@ -312,6 +384,10 @@ impl Vectors {
             fs::create_dir_all(&folder)?;
             fs::write(folder.join("stdin"), &run.stdin)?;
             fs::write(folder.join("stdout"), &run.stdout)?;
+            for (file, bytes) in &run.files {
+                fs::create_dir_all(folder.join("data"))?;
+                fs::write(folder.join("data").join(file), bytes)?;
+            }
         }
         Ok(())
     }

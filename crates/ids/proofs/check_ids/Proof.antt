@@ -1,90 +1,48 @@
--- A search for the first entity that breaks rule 10. No entity before the one come to does, and the IDs that are marked are those that
--- these bear.
+-- A search for the first entity that breaks rule 10, by the laws of such a search over any IDs.
 use borrow.Author.Needs.{needs}
 use Prim.Native.Nat.{ℕ, _+_, _-_, _≤_, _<_}
-use mathlib.Core.Path.{_≡_, refl, sym, ap, _∙_}
+use mathlib.Core.Path.{_≡_}
 use mathlib.Core.Bool.{Bool, true, false}
 use mathlib.Core.List.{List}
-use mathlib.Core.Logic.{⊎-elim}
 use native.Mathlib.Omega.{arith}
-use lib.Dec.{eqb}
-use lib.ListN.{length, getD, set, replicate, length-set, length-replicate, getD-replicate}
-use lib.Seq.{getD-set-same, getD-set-other}
-use borrow.Author.Tests.{eq-eqb, ne-eqb}
+use lib.ListN.{getD, set, replicate}
 use Rattle.ground.specs.declared.Place.the-variants.{Nowhere, At}
-use Rattle.ground.specs.Pick.{no, shows, reads-true, reads-eq, decided}
-use Rattle.ground.specs.Places.{firstIn, first-more, somewhere, reads-somewhere, Come, come-none, come-here, come-more, come-over}
+use Rattle.graph.specs.Borne.{Passed, passed-none, passed-over, passed-zero, passed-twice, passed-on}
 use Rattle.entities.specs.declared.Run.{Run}
 use Rattle.entities.specs.Run.{blankNode, held, idAt, placeAt}
-use Rattle.ids.specs.Breach.{bears, wrongId, breach10}
+use Rattle.ids.specs.Breach.{breach10}
 use Rattle.ids.proofs.check_ids.Statement.{statement}
 use Rattle.ids.proofs.check_ids.Tie as tie
 
 module _ (run : Run) where
-  record Passed (borne : List Bool) (i : ℕ) : Type 0 where
-    come : Come (wrongId run) (λ j. At (placeAt run j)) Nowhere (held run) i
-    long : length borne ≡ 256
-    marked : (x : ℕ) → x < 256 → getD borne x false ≡ somewhere (bears run x) i
+  abbrev Come : List Bool → ℕ → Type 0
+  Come = Passed (idAt run) (λ j. At (placeAt run j)) Nowhere (held run)
 
-  start : Passed (replicate 256 false) 0
-  unfolding somewhere firstIn
-  start = record {
-    come = come-none _ (λ j. At (placeAt run j)) Nowhere (held run);
-    long = length-replicate 256 false;
-    marked = λ x l. getD-replicate 256 x false false l;
-  }
+  start : Come (replicate 256 false) 0
+  start = passed-none (idAt run) (λ j. At (placeAt run j)) Nowhere (held run)
 
-  module _ (n : ℕ) (m : n ≡ held run) (borne : List Bool) (i : ℕ) (g : Passed borne i) where
+  module _ (n : ℕ) (m : n ≡ held run) (borne : List Bool) (i : ℕ) (g : Come borne i) where
     over : n ≤ i → Nowhere ≡ breach10 run
     unfolding breach10
-    over h = come-over _ (λ j. At (placeAt run j)) Nowhere (held run) i (g .come) (omega arith)
+    over h = passed-over (idAt run) (λ j. At (placeAt run j)) Nowhere (held run) borne i g (omega arith)
 
     module _ (h : i < n) (x : ℕ) (w : (x ≡ idAt run i) × (x < 256)) where
-      own : x ≡ idAt run i
-      own = w .0
-
-      here : wrongId run i ≡ true → At (placeAt run i) ≡ breach10 run
-      unfolding breach10
-      here y = come-here _ (λ j. At (placeAt run j)) Nowhere (held run) i (g .come) (omega arith) (wrongId run i) refl y
-
       zero-id : x ≡ 0 → At (placeAt run i) ≡ breach10 run
-      unfolding wrongId
-      zero-id z = here (rw (eq-eqb (idAt run i) 0 (sym own ∙ z)) refl)
+      unfolding breach10
+      zero-id z = passed-zero (idAt run) (λ j. At (placeAt run j)) Nowhere (held run) borne i g (omega arith) x (w .0) (w .1) z
 
       module _ (z : x ≡ 0 → ⊥) where
-        by-mark : getD borne x false ≡ wrongId run i
-        unfolding wrongId
-        by-mark =
-            g .marked x (w .1) ∙ ap (λ (y : ℕ). somewhere (bears run y) i) own
-            ∙ sym (rw (ne-eqb (idAt run i) 0 (λ e. z (own ∙ e))) refl)
-
         twice : getD borne x false ≡ true → At (placeAt run i) ≡ breach10 run
-        twice y = here (sym by-mark ∙ y)
+        unfolding breach10
+        twice y = passed-twice (idAt run) (λ j. At (placeAt run j)) Nowhere (held run) borne i g (omega arith) x (w .0) (w .1) z y
 
-        on : getD borne x false ≡ false → Passed (set borne x true) (i + 1)
-        unfolding somewhere
-        on y = record {
-          come = come-more _ (λ j. At (placeAt run j)) Nowhere (held run) i (g .come) (omega arith) (getD borne x false) by-mark y;
-          long = length-set borne x true ∙ g .long;
-          marked = λ k l. ⊎-elim (λ e. same k e) (λ f. other k l f) (decided (eqb k x) (reads-eq k x));
-        }
-          where
-            same : (k : ℕ) → k ≡ x → getD (set borne x true) k false ≡ somewhere (bears run k) (i + 1)
-            same k e =
-                let a = g .long in
-                let b = w .1 in
-                rw e (getD-set-same borne x true false (omega arith))
-                ∙ sym (shows (reads-somewhere (bears run k) (λ j. bears run k j ≡ true) (i + 1) (λ j l. reads-true (bears run k j))) (i, omega arith, eq-eqb (idAt run i) k (sym (e ∙ own))))
-
-            other : (k : ℕ) → k < 256 → (k ≡ x → ⊥) → getD (set borne x true) k false ≡ somewhere (bears run k) (i + 1)
-            other k l f =
-                getD-set-other borne x k true false f ∙ g .marked k l
-                ∙ sym (first-more (bears run k) (λ j. true) false i ∙ ap (λ (r : Bool). firstIn (bears run k) (λ j. true) r 0 i) (no _ _ (ne-eqb (idAt run i) k (λ e. f (sym (own ∙ e))))))
+        on : getD borne x false ≡ false → Come (set borne x true) (i + 1)
+        on y = passed-on (idAt run) (λ j. At (placeAt run j)) Nowhere (held run) borne i g (omega arith) x (w .0) (w .1) z y
 
 ruleset laws = (start, over, zero-id, twice, on, needs)
 
 abbrev Inv-loop : tie.InvT-loop
-Inv-loop run n borne₀ i₀ borne i = Passed run borne i
+Inv-loop run n borne₀ i₀ borne i = Come run borne i
 
 abbrev μ-loop : tie.MeasureT-loop
 μ-loop run n borne₀ i₀ borne i = n - i

@@ -1,0 +1,5 @@
+pub mod Records
+pub mod Exactly
+pub mod Calls
+pub mod Rebuilding
+pub mod WhatChanged
