@@ -27,8 +27,7 @@ pub fn read<'a>(run: &[Descriptor<'a>]) -> Result<Topology<'a>, Refusal> {
     check_ids(&entities)?;
     check_sources(&entities)?;
     check_chains(&entities)?;
-    let clusters: Vec<Cluster> =
-        (0..entities.len()).map(|index| cluster_of(&entities, index)).collect();
+    let clusters = clusters_of(&entities);
     for (index, entity) in entities.iter().enumerate() {
         if let Some(way) = cluster_breach(&entities, &clusters, index) {
             return Err(Refusal::at(way, entity.place));
@@ -130,23 +129,49 @@ fn reaches(entities: &[Entity], from: usize, to: usize) -> bool {
     false
 }
 
-/// "An Input Terminal and a Mixer declare theirs"; "A Feature Unit gives out its source's
-/// cluster"; "A Selector gives out pin 1's"; an Output Terminal shows what enters.
-fn cluster_of(entities: &[Entity], index: usize) -> Cluster {
-    match entities[index].kind {
-        Kind::InputTerminal { cluster, .. } | Kind::Mixer { cluster } => cluster,
-        _ => cluster_of(entities, sources_of(entities, index)[0]),
+/// The cluster that each entity gives out.
+fn clusters_of(entities: &[Entity]) -> Vec<Cluster> {
+    let mut given = vec![None; entities.len()];
+    (0..entities.len()).map(|index| give(entities, &mut given, index)).collect()
+}
+
+/// The cluster of one entity, found once: a ladder of Selectors has two to the 31 routes.
+fn give(entities: &[Entity], given: &mut [Option<Cluster>], index: usize) -> Cluster {
+    if let Some(found) = given[index] {
+        return found;
     }
+    let sources = sources_of(entities, index);
+    let entering: Vec<Cluster> =
+        sources.into_iter().map(|source| give(entities, given, source)).collect();
+    let cluster = given_out(&entities[index].kind, &entering);
+    given[index] = Some(cluster);
+    cluster
+}
+
+/// "An Input Terminal and a Mixer declare theirs"; "A Feature Unit gives out its source's
+/// cluster"; an Output Terminal shows what enters.
+fn given_out(kind: &Kind, entering: &[Cluster]) -> Cluster {
+    match *kind {
+        Kind::InputTerminal { cluster, .. } | Kind::Mixer { cluster } => cluster,
+        Kind::Selector { .. } => selected(entering),
+        Kind::OutputTerminal { .. } | Kind::FeatureUnit { .. } => entering[0],
+    }
+}
+
+/// What a Selector gives out: "If their name indices differ, the Selector gives out index 0." Where
+/// pins are unlike in c or bitmap, which 13 refuses, the rules of others read pin 1's.
+fn selected(pins: &[Cluster]) -> Cluster {
+    let same = pins.iter().all(|pin| pin.name == pins[0].name);
+    Cluster { name: if same { pins[0].name } else { 0 }, ..pins[0] }
 }
 
 /// Refusal 13 for one entity. "Each rule reads the declared bytes, even where those break a rule
 /// themselves."
 fn cluster_breach(entities: &[Entity], clusters: &[Cluster], index: usize) -> Option<Way> {
     let entity = &entities[index];
-    let entering: Vec<usize> = sources_of(entities, index)
-        .into_iter()
-        .map(|source| usize::from(clusters[source].channels))
-        .collect();
+    let pins: Vec<Cluster> =
+        sources_of(entities, index).into_iter().map(|source| clusters[source]).collect();
+    let entering: Vec<usize> = pins.iter().map(|pin| usize::from(pin.channels)).collect();
     let length = entity.bytes.len();
     match entity.kind {
         Kind::InputTerminal { cluster, .. } => declared_breach(cluster, &INPUT_TERMINAL),
@@ -156,13 +181,19 @@ fn cluster_breach(entities: &[Entity], clusters: &[Cluster], index: usize) -> Op
             let wanted = 10 + entering.len() + bits.div_ceil(8);
             (length != wanted).then_some(Way::MixerControls)
         }),
-        Kind::Selector { .. } => {
-            entering.iter().any(|&c| c != entering[0]).then_some(Way::SelectorChannels)
-        }
+        Kind::Selector { .. } => unlike(&pins),
         Kind::FeatureUnit { size } => {
             (length != 7 + (entering[0] + 1) * size).then_some(Way::FeatureMasks)
         }
     }
+}
+
+/// Refusal 13 for a Selector: "all pins must have the same c and the same bitmap".
+fn unlike(pins: &[Cluster]) -> Option<Way> {
+    if pins.iter().any(|pin| pin.channels != pins[0].channels) {
+        return Some(Way::SelectorChannels);
+    }
+    pins.iter().any(|pin| pin.bitmap != pins[0].bitmap).then_some(Way::SelectorBitmap)
 }
 
 /// The names of the clauses for one of the two kinds that declare a cluster.
@@ -235,6 +266,19 @@ mod tests {
         assert_eq!(declared(5, 0x0051, 255), Some(Way::InputIndexHigh));
         assert_eq!(declared(4, 0x0107, 0), None);
         assert_eq!(declared(4, 0x0107, 1), Some(Way::InputIndexEqual));
+    }
+
+    #[test]
+    fn pins_are_alike_in_c_and_bitmap() {
+        let pin = |channels, bitmap, name| Cluster { channels, bitmap, name };
+        let (left, centre) = (pin(1, 0x0001, 0), pin(1, 0x0004, 0));
+        assert_eq!(unlike(&[left, centre]), Some(Way::SelectorBitmap));
+        assert_eq!(unlike(&[left, left, pin(2, 0x0001, 0)]), Some(Way::SelectorChannels));
+        assert_eq!(unlike(&[pin(2, 1, 5), pin(2, 1, 6)]), None);
+        assert_eq!(selected(&[left, centre]), left);
+        assert_eq!(selected(&[pin(2, 1, 5), pin(3, 2, 5)]), pin(2, 1, 5));
+        assert_eq!(selected(&[pin(2, 1, 5), pin(2, 1, 5), pin(2, 1, 6)]), pin(2, 1, 0));
+        assert_eq!(selected(&[pin(2, 1, 5)]), pin(2, 1, 5));
     }
 
     #[test]

@@ -84,6 +84,7 @@ ways! {
     MixerControls = 13, "Mixer: length is not 10+p+N";
     FeatureMasks = 13, "Feature Unit: length is not 7+(c+1)n";
     SelectorChannels = 13, "Selector: pins differ in c";
+    SelectorBitmap = 13, "Selector: pins have the same c and differ in the bitmap";
     IdleClass = 14, "no endpoints, and a type 24 in the group";
     GeneralAbsent = 14, "GENERAL absent: the group ends";
     GeneralOpening = 14, "GENERAL is not 24 01";

@@ -20,7 +20,4 @@ module _ (run : Run) (f g : ℕ → Cluster) (same : (x : ℕ) → f x ≡ g x) 
   unfolding breach13 keepsBy
   breach13-same s =
       first-same _ _ (λ i. At (placeAt run i)) Nowhere (held run)
-      (λ i l. ap not (keeps-same f g alike-on (entityOf (descriptorAt s run i)) (length (descriptorAt s run i)) (sourcesAt s run i)))
-    where
-      alike-on : (x : ℕ) → f x .channels ≡ g x .channels
-      alike-on x = ap (λ (c : Cluster). c .channels) (same x)
+      (λ i l. ap not (keeps-same f g (λ x. ap (λ (c : Cluster). c .channels) (same x)) (λ x. ap (λ (c : Cluster). c .locations) (same x)) (entityOf (descriptorAt s run i)) (length (descriptorAt s run i)) (sourcesAt s run i)))

@@ -14,10 +14,11 @@ pub fn check_clusters(config: &[u8], run: Run, given: Given) -> Place
 {
     let n = entities::count(run);
     let counts = given.channels;
+    let bitmaps = given.locations;
     let mut i: usize = 0;
     while i < n {
         let node = run.nodes[i];
-        if !keeping::kept(config, node, &counts) {
+        if !keeping::kept(config, node, &counts, &bitmaps) {
             return Place::At(node.place);
         }
         i += 1;

@@ -38,7 +38,8 @@ use Rattle.ranks.specs.Breach.{breach12}
 use Rattle.sweep.specs.Sweep.{givesBy, givenIn, clustersOf}
 use Rattle.keeping.specs.Keeping.{keepsBy}
 use Rattle.clusters.specs.Breach.{breach13}
-use Rattle.edition.specs.Audio.{firstOf, channelsIn, giveOut, mixerLength, featureLength, alike, alikeIn, mixerKept, featureKept, keeps}
+use Rattle.pins.specs.Same.{allSame}
+use Rattle.edition.specs.Audio.{firstOf, channelsIn, giveOut, mixerLength, featureLength, alike, named, mixerKept, featureKept, keeps}
 use Rattle.channels.specs.Declared.{clusterKept, namesKept}
 use Rattle.connections.specs.Judgement.{judged}
 use Rattle.terminals.specs.Terminals.{terminalOf, terminalsFrom, terminalsOf, bearerIn, terminalNumber, channelsOf}
@@ -59,7 +60,7 @@ record Computed : Type 0 where
   other : AnswerB
 
 computed : Computed
-unfolding caseA caseB refuse placeOr firstFrom isBefore total any pad endAt restFrom rest reach breach3 searched isInterface isClass isAudio isSetting isMember wants foundFrom entityOf kindOf isUnknown pinsOf sourcesFrom feedsOf nodeOf nodesFrom blankNode runIn breach1 breach2 wrongInterface breach4 interfacesJudged runEnd frameFrom frameOf opens isHeader breach5 straysFrom breach6 isDistinct allKnown unlisted collects breach7 groupJudged groups.judged runOf breach8 breach9 verdictThen verdict cutting.runJudged refusedSurvey surveyed surveyOf all mem joins step passFrom passes put given tabulateFrom firstIn somewhere lookupBelow sourceNumber wrongId breach10 wrongSource breach11 ordered breach12 givesBy givenIn keepsBy breach13 clustersOf firstOf channelsIn giveOut mixerLength featureLength alike alikeIn mixerKept featureKept keeps clusterKept namesKept ones onesIn judged terminalOf terminalsFrom terminalsOf bearerIn terminalNumber channelsOf opensAs isGeneral isFormat samplesRight ratesRight isTypeOne formatRight bearerRight describedBy holdsClass broken wrongStream firstBroken breach14 bitSet bitControls bitsFrom maskControls channelsFrom featureControls entityControls controlsTo controlsOfRun breach15 tableOf headOf recordOf recordsTo roomFor shownIn restJudged surveyJudged judgedThen roomJudged verdictOf refusedReading takenReading readingOf sheetOf bitCarries
+unfolding caseA caseB refuse placeOr firstFrom isBefore total any pad endAt restFrom rest reach breach3 searched isInterface isClass isAudio isSetting isMember wants foundFrom entityOf kindOf isUnknown pinsOf sourcesFrom feedsOf nodeOf nodesFrom blankNode runIn breach1 breach2 wrongInterface breach4 interfacesJudged runEnd frameFrom frameOf opens isHeader breach5 straysFrom breach6 isDistinct allKnown unlisted collects breach7 groupJudged groups.judged runOf breach8 breach9 verdictThen verdict cutting.runJudged refusedSurvey surveyed surveyOf all mem joins step passFrom passes put given tabulateFrom firstIn somewhere lookupBelow sourceNumber wrongId breach10 wrongSource breach11 ordered breach12 givesBy givenIn keepsBy breach13 clustersOf firstOf channelsIn giveOut mixerLength featureLength alike named allSame mixerKept featureKept keeps clusterKept namesKept ones onesIn judged terminalOf terminalsFrom terminalsOf bearerIn terminalNumber channelsOf opensAs isGeneral isFormat samplesRight ratesRight isTypeOne formatRight bearerRight describedBy holdsClass broken wrongStream firstBroken breach14 bitSet bitControls bitsFrom maskControls channelsFrom featureControls entityControls controlsTo controlsOfRun breach15 tableOf headOf recordOf recordsTo roomFor shownIn restJudged surveyJudged judgedThen roomJudged verdictOf refusedReading takenReading readingOf sheetOf bitCarries
 computed = record {
   configurations = record { accepted = refl; length-wrong = refl; eight-bytes = refl; sources-itself = refl; same-id = refl; sources-output = refl };
   printed = record { answer = refl; sheet = refl };

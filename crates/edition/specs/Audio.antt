@@ -1,10 +1,13 @@
 -- The Audio 1.0 edition. Document 01, "Clusters": an Input Terminal and a Mixer declare theirs; "A Feature Unit gives out its source's cluster;
--- its length is 7+(c+1)n. A Selector gives out pin 1's; all pins have the same c. A Mixer with i channels entering in all has N = i·c/8
--- rounded up, and length 10+p+N. For an Output Terminal the entering cluster is shown. Each rule reads the declared bytes, even
--- where those break a rule themselves."
+-- its length is 7+(c+1)n. .. A Mixer with i channels entering in all has N = i·c/8 rounded up, and length 10+p+N. For an Output
+-- Terminal the entering cluster is shown. Each rule reads the declared bytes, even where those break a rule themselves." Of a Selector
+-- document 02, No. 5: "all pins must have the same c and the same bitmap. If their name indices differ, the Selector gives out index 0."
+-- Where its pins are not alike, what it gives out, for the rules of others, is pin 1's c and bitmap.
 --   firstOf cs       ==  pin 1's cluster
 --   channelsIn cs    ==  i, the channels entering in all
---   Alike cs         ==  all of cs have the same c; alike c cs, alikeIn cs: as tests
+--   channelsEach cs, locationsEach cs, namesEach cs  ==  c, bitmap and first name index of each
+--   named k ns       ==  the cluster k with its own index where the indices ns do not differ, and with index 0 where they do
+--   Alike cs         ==  all of cs have the same c and the same bitmap; alike cs: the test
 --   giveOut e cs     ==  what the entity e gives out where cs enter, pin by pin
 --   controlBytes m   ==  m/8 rounded up; rounded-up: it is enough, and no more than is needed
 --   mixerLength p c i, featureLength c n  ==  the lengths
@@ -15,19 +18,19 @@
 use Prim.Native.Nat.{ℕ, _+_, _*_, _/_, _≤_, _<_}
 use mathlib.Core.Path.{_≡_}
 use mathlib.Core.Bool.{Bool, true, _&&_}
-use mathlib.Core.List.{List, [], _∷_}
+use mathlib.Core.List.{List, [], _∷_, map}
 use native.Mathlib.Nat.{div-mul-le-self, lt-div-mul-add}
 use native.Mathlib.Omega.{arith}
 use lib.Dec.{eqb, lit<}
 use lib.ListN.{length, getD}
-use Rattle.ground.specs.Pick.{Reads, reads-eq, reads-and, true≠false}
+use Rattle.ground.specs.Pick.{pick, Reads, reads-eq, reads-and, true≠false}
 use Rattle.layout.specs.declared.Cluster.{Cluster}
 use Rattle.layout.specs.declared.Entity.{Entity}
 use Rattle.layout.specs.declared.Entity.the-variants.{Unknown, Input, Output, Mixer, Selector, Printed, Feature}
 use Rattle.layout.specs.Layout.{LaidOut, entityOf, noCluster}
 use Rattle.kinds.specs.Sources.{sourcesFrom, pinsOf, feedsOf}
 use Rattle.kinds.specs.SourcesLaws.{sources-within}
-use Rattle.graph.specs.Members.{_∈_, all, reads-all}
+use Rattle.pins.specs.Same.{AllSame, allSame, reads-same}
 use Rattle.channels.specs.Declared.{ClusterKept, clusterKept, reads-cluster}
 use Rattle.edition.specs.Edition.{Edition}
 
@@ -38,13 +41,25 @@ unfoldable pub channelsIn : List Cluster → ℕ
 channelsIn [] = 0
 channelsIn (k ∷ cs) = k .channels + channelsIn cs
 
+abbrev pub channelsEach : List Cluster → List ℕ
+channelsEach cs = map (λ k. k .channels) cs
+
+abbrev pub locationsEach : List Cluster → List ℕ
+locationsEach cs = map (λ k. k .locations) cs
+
+abbrev pub namesEach : List Cluster → List ℕ
+namesEach cs = map (λ k. k .names) cs
+
+unfoldable pub named : Cluster → List ℕ → Cluster
+named k ns = record { channels = k .channels; locations = k .locations; names = pick (allSame ns) (k .names) 0 }
+
 unfoldable pub giveOut : Entity → List Cluster → Cluster
 giveOut Unknown cs = firstOf cs
 giveOut (Input i t c) cs = c
 giveOut (Output i t s) cs = firstOf cs
 giveOut (Mixer i p c) cs = c
-giveOut (Selector i p) cs = firstOf cs
-giveOut (Printed i p) cs = firstOf cs
+giveOut (Selector i p) cs = named (firstOf cs) (namesEach cs)
+giveOut (Printed i p) cs = named (firstOf cs) (namesEach cs)
 giveOut (Feature i s n) cs = firstOf cs
 
 abbrev pub controlBytes : ℕ → ℕ
@@ -62,9 +77,8 @@ mixerLength p c i = 10 + p + controlBytes (i * c)
 unfoldable pub featureLength : ℕ → ℕ → ℕ
 featureLength c n = 7 + (c + 1) * n
 
--- all pins have the same c
 abbrev pub Alike : List Cluster → Type 0
-Alike cs = (k : Cluster) → k ∈ cs → k .channels ≡ firstOf cs .channels
+Alike cs = AllSame (channelsEach cs) × AllSame (locationsEach cs)
 
 unfoldable pub Keeps : Entity → ℕ → List Cluster → Type 0
 Keeps Unknown l cs = Unit {0}
@@ -76,11 +90,8 @@ Keeps (Printed i p) l cs = Alike cs
 Keeps (Feature i s n) l cs = l ≡ featureLength (firstOf cs .channels) n
 
 -- what the reader computes
-unfoldable pub alike : ℕ → List Cluster → Bool
-alike c cs = all (λ k. eqb (k .channels) c) cs
-
-unfoldable pub alikeIn : List Cluster → Bool
-alikeIn cs = alike (firstOf cs .channels) cs
+unfoldable pub alike : List Cluster → Bool
+alike cs = allSame (channelsEach cs) && allSame (locationsEach cs)
 
 unfoldable pub mixerKept : ℕ → Cluster → ℕ → List Cluster → Bool
 mixerKept p c l cs = clusterKept c && eqb l (mixerLength p (c .channels) (channelsIn cs))
@@ -93,13 +104,13 @@ keeps Unknown l cs = true
 keeps (Input i t c) l cs = clusterKept c
 keeps (Output i t s) l cs = true
 keeps (Mixer i p c) l cs = mixerKept p c l cs
-keeps (Selector i p) l cs = alikeIn cs
-keeps (Printed i p) l cs = alikeIn cs
+keeps (Selector i p) l cs = alike cs
+keeps (Printed i p) l cs = alike cs
 keeps (Feature i s n) l cs = featureKept n l cs
 
-reads-alike : (cs : List Cluster) → Reads (alikeIn cs) (Alike cs)
-unfolding alikeIn alike
-reads-alike cs = reads-all (λ k. eqb (k .channels) (firstOf cs .channels)) (λ k. k .channels ≡ firstOf cs .channels) cs (λ k m. reads-eq (k .channels) (firstOf cs .channels))
+reads-alike : (cs : List Cluster) → Reads (alike cs) (Alike cs)
+unfolding alike
+reads-alike cs = reads-and _ _ (reads-same (channelsEach cs)) (reads-same (locationsEach cs))
 
 pub reads-keeps : (e : Entity) (l : ℕ) (cs : List Cluster) → Reads (keeps e l cs) (Keeps e l cs)
 unfolding keeps Keeps mixerKept featureKept

@@ -1,5 +1,6 @@
 -- What the reader computes of one entity: whether it keeps its kind's rule, where clusters are given out on IDs.
 --   channelsOn ch x      ==  the cluster on the ID x, by its channels alone
+--   contentOn ch lo x    ==  .. by its channels and its bitmap, all that the rules look at
 --   Entering cs r        ==  r is i, the channels entering in all, and small enough to reckon with
 --   keepsBy s n cl       ==  whether the entity n keeps its rule where the clusters cl are given out on IDs
 use Prim.Native.Nat.{ℕ, _≤_}
@@ -15,6 +16,9 @@ use Rattle.edition.specs.Audio.{channelsIn, keeps}
 
 abbrev pub channelsOn : List ℕ → ℕ → Cluster
 channelsOn channels x = record { channels = getD channels x 0; locations = 0; names = 0 }
+
+abbrev pub contentOn : List ℕ → List ℕ → ℕ → Cluster
+contentOn channels locations x = record { channels = getD channels x 0; locations = getD locations x 0; names = 0 }
 
 -- at most 255 pins of 255 channels each
 pub record Entering (cs : List Cluster) (r : ℕ) : Type 0 where

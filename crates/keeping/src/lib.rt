@@ -1,23 +1,16 @@
 // Whether one entity keeps its kind's rule (document 01, "Clusters"), where clusters are given out on IDs. To the layer above: the test of
-// rule 13, for every configuration, every entity and every counts of channels whatever. The rules are the edition's.
+// rule 13, for every configuration, every entity, every counts of channels and every bitmaps whatever. The rules are the edition's.
 ghost use mathlib.Core.Path.{_≡_};
 ghost use Prim.Native.Nat.{_≤_};
 ghost use mathlib.Core.List.{map};
-ghost use lib.ListN.{length, getD};
-ghost use Rattle.edition.specs.Audio.{alike, alikeIn, mixerLength, mixerKept, featureLength, featureKept};
+ghost use lib.ListN.{length};
+ghost use Rattle.edition.specs.Audio.{alike, mixerLength, mixerKept, featureLength, featureKept};
 ghost use Rattle.sweep.specs.Sweep.{firstBy};
-ghost use Rattle.keeping.specs.Keeping.{channelsOn, keepsBy, Entering};
+ghost use Rattle.keeping.specs.Keeping.{channelsOn, contentOn, keepsBy, Entering};
 use entities::Node;
 use ground::index_of;
 use layout::Cluster;
 use layout::Entity;
-
-// How many channels an ID gives out.
-fn count_of(counts: &[u8; 256], id: u8) -> u8
-    ensures { λ r. ⌜ r ≡ getD (now (counts .entry)) id 0 ⌝ }
-{
-    counts[index_of(id)]
-}
 
 // How many channels enter in all.
 fn channels_in(ids: &[u8], counts: &[u8; 256]) -> usize
@@ -27,24 +20,10 @@ fn channels_in(ids: &[u8], counts: &[u8; 256]) -> usize
     let mut sum: usize = 0;
     let mut k: usize = 0;
     while k < ids.len() {
-        sum += index_of(count_of(counts, ids[k]));
+        sum += index_of(pins::number_of(counts, ids[k]));
         k += 1;
     }
     sum
-}
-
-// Whether c channels enter by each pin.
-fn all_have(ids: &[u8], counts: &[u8; 256], c: u8) -> bool
-    ensures { λ r. ⌜ r ≡ alike c (map (channelsOn (now (counts .entry))) (now (ids .entry))) ⌝ }
-{
-    let mut k: usize = 0;
-    while k < ids.len() {
-        if count_of(counts, ids[k]) != c {
-            return false;
-        }
-        k += 1;
-    }
-    true
 }
 
 // The length of a Mixer with p pins and c channels, where i channels enter in all: N = i·c/8 rounded up.
@@ -70,14 +49,17 @@ fn first_count(ids: &[u8], counts: &[u8; 256]) -> u8
     if ids.len() == 0 {
         return 0;
     }
-    count_of(counts, ids[0])
+    pins::number_of(counts, ids[0])
 }
 
-// Whether as many channels enter by each pin of a Selector as by pin 1.
-fn selector_kept(ids: &[u8], counts: &[u8; 256]) -> bool
-    ensures { λ r. ⌜ r ≡ alikeIn (map (channelsOn (now (counts .entry))) (now (ids .entry))) ⌝ }
+// Whether by each pin of a Selector as many channels enter as by pin 1, with the same bitmap.
+fn selector_kept(ids: &[u8], counts: &[u8; 256], bitmaps: &[u16; 256]) -> bool
+    ensures { λ r. ⌜ r ≡ alike (map (contentOn (now (counts .entry)) (now (bitmaps .entry))) (now (ids .entry))) ⌝ }
 {
-    all_have(ids, counts, first_count(ids, counts))
+    if !pins::same(ids, counts) {
+        return false;
+    }
+    pins::same_wide(ids, bitmaps)
 }
 
 // Whether a Mixer of this length keeps its rule.
@@ -99,9 +81,9 @@ fn feature_kept(ids: &[u8], counts: &[u8; 256], n: u8, size: usize) -> bool
     size == feature_length(first_count(ids, counts), n)
 }
 
-// Whether an entity keeps its kind's rule, where so many channels are given out by each ID.
-pub fn kept(config: &[u8], node: Node, counts: &[u8; 256]) -> bool
-    ensures { λ r. ⌜ r ≡ keepsBy (now (config .entry)) node (channelsOn (now (counts .entry))) ⌝ }
+// Whether an entity keeps its kind's rule, where each ID gives out so many channels, with this bitmap.
+pub fn kept(config: &[u8], node: Node, counts: &[u8; 256], bitmaps: &[u16; 256]) -> bool
+    ensures { λ r. ⌜ r ≡ keepsBy (now (config .entry)) node (contentOn (now (counts .entry)) (now (bitmaps .entry))) ⌝ }
 {
     let d = scan::descriptor_at(config, node.place);
     let ids = entities::sources(config, node);
@@ -111,8 +93,8 @@ pub fn kept(config: &[u8], node: Node, counts: &[u8; 256]) -> bool
         Entity::Input { cluster, .. } => channels::cluster_kept(cluster),
         Entity::Output { .. } => true,
         Entity::Mixer { pins, cluster, .. } => mixer_kept(ids, counts, pins, cluster, d.len()),
-        Entity::Selector { .. } => selector_kept(ids, counts),
-        Entity::Printed { .. } => selector_kept(ids, counts),
+        Entity::Selector { .. } => selector_kept(ids, counts, bitmaps),
+        Entity::Printed { .. } => selector_kept(ids, counts, bitmaps),
         Entity::Feature { size, .. } => feature_kept(ids, counts, size, d.len()),
     }
 }

@@ -18,7 +18,7 @@ use Rattle.layout.specs.Layout.{entityOf}
 use Rattle.graph.specs.Members.{_∈_}
 use Rattle.channels.specs.Declared.{mostChannels}
 use Rattle.edition.specs.Edition.{ownId, sources}
-use Rattle.edition.specs.Audio.{firstOf, giveOut, Keeps, audio}
+use Rattle.edition.specs.Audio.{firstOf, named, giveOut, Keeps, audio}
 use Rattle.ids.specs.OwnIds.{distinct-ids}
 use Rattle.clusters.specs.Rule13.{entering, Connected}
 use Rattle.clusters.specs.Topology.{source-of}
@@ -32,7 +32,7 @@ use Rattle.reader.proofs.Exactly.{accepted-exactly}
 use Rattle.reader.proofs.Shows.{run, cluster, controls, answer-shows}
 
 few-out : (e : Entity) (l : ℕ) (cs : List Cluster) → Keeps e l cs → firstOf cs .channels ≤ mostChannels → giveOut e cs .channels ≤ mostChannels
-unfolding giveOut Keeps
+unfolding giveOut named Keeps
 few-out Unknown l cs k h = h
 few-out (Input i t own) l cs k h = k .channels .1
 few-out (Output i t s) l cs k h = h

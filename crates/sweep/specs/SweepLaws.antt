@@ -2,11 +2,12 @@
 --   Sweeping s run channels locations names i  ==  the loop along the run has come to the i-th entity: the arrays hold what was given out
 --   sweeping-start, sweeping-long, sweeping-more, sweeping-over  ==  its start, its arrays' lengths, its step and its end
 --   givenAfter s run i x  ==  what the ID x gives out after the first i entities of the run
+--   names-on         ==  the name indices of the clusters on some IDs are those IDs' name indices
 --   clusters-same    ==  clusters that agree on every ID are shown alike
 use Prim.Native.Nat.{ℕ, zero, suc, _+_, _≤_, _<_}
 use mathlib.Core.Path.{_≡_, refl, sym, ap, _∙_}
 use mathlib.Core.Bool.{false}
-use mathlib.Core.List.{List}
+use mathlib.Core.List.{List, [], _∷_, map}
 use mathlib.Core.Logic.{⊎-elim}
 use native.Mathlib.Omega.{arith}
 use native.Mathlib.Numerals.{add-one}
@@ -22,9 +23,15 @@ use Rattle.graph.specs.Along.{put, put-at, put-other, given, given-take}
 use Rattle.entities.specs.declared.Node.{Node}
 use Rattle.entities.specs.declared.Run.{Run}
 use Rattle.entities.specs.Run.{mostEntities, blankNode, held, nodeAt, idAt, sourcesAt, descriptorOf}
-use Rattle.edition.specs.Audio.{giveOut}
+use Rattle.pins.specs.Same.{numbersOf}
+use Rattle.edition.specs.Audio.{namesEach, giveOut}
 use Rattle.sweep.specs.declared.Given.{Given}
 use Rattle.sweep.specs.Sweep.{clusterBy, givesBy, givesAt, givenIn, swept, Sweeps, clustersOf}
+
+pub names-on : (channels locations names ids : List ℕ) → numbersOf names ids ≡ namesEach (map (clusterBy channels locations names) ids)
+unfolding numbersOf
+names-on channels locations names [] = refl
+names-on channels locations names (x ∷ ids) = ap (λ (l : List ℕ). getD names x 0 ∷ l) (names-on channels locations names ids)
 
 -- clusters that agree on every ID are shown alike
 module _ (run : Run) (f g : ℕ → Cluster) (same : (x : ℕ) → f x ≡ g x) where

@@ -1,6 +1,8 @@
 // What each entity gives out (document 01, "Clusters"), in one sweep along an order of the run. What this crate promises to the layer above:
 // each public function answers, for every configuration and every run whatever, as the definitions of specs/ say.
 ghost use mathlib.Core.Path.{_≡_};
+ghost use Rattle.pins.specs.Same.{numbersOf};
+ghost use Rattle.edition.specs.Audio.{named};
 ghost use Rattle.sweep.specs.Sweep.{clusterBy, clusterOn, firstBy, givesBy, Sweeps, clustersOf};
 use entities::MOST_ENTITIES;
 use entities::Node;
@@ -40,6 +42,21 @@ fn first_entering(
     }
 }
 
+// What a Selector gives out, where this cluster enters by pin 1.
+fn selected(ids: &[u8], first: Cluster, names: &[u8; 256]) -> Cluster
+    ensures { λ r. ⌜ r ≡ named first (numbersOf (now (names .entry)) (now (ids .entry))) ⌝ }
+{
+    let mut name = 0;
+    if pins::same(ids, names) {
+        name = first.names;
+    }
+    Cluster {
+        channels: first.channels,
+        locations: first.locations,
+        names: name,
+    }
+}
+
 // What an entity gives out, where these clusters enter by its pins.
 fn give_out(
     config: &[u8],
@@ -50,15 +67,16 @@ fn give_out(
 ) -> Cluster
     ensures { λ r. ⌜ r ≡ givesBy (now (config .entry)) node (clusterBy (now (channels .entry)) (now (locations .entry)) (now (names .entry))) ⌝ }
 {
-    let first = first_entering(entities::sources(config, node), channels, locations, names);
+    let ids = entities::sources(config, node);
+    let first = first_entering(ids, channels, locations, names);
     let entity = layout::read(scan::descriptor_at(config, node.place));
     match entity {
         Entity::Unknown => first,
         Entity::Input { cluster, .. } => cluster,
         Entity::Output { .. } => first,
         Entity::Mixer { cluster, .. } => cluster,
-        Entity::Selector { .. } => first,
-        Entity::Printed { .. } => first,
+        Entity::Selector { .. } => selected(ids, first, names),
+        Entity::Printed { .. } => selected(ids, first, names),
         Entity::Feature { .. } => first,
     }
 }

@@ -13,6 +13,7 @@ use crate::lend;
 use crate::numbers::{ENTITIES, LENT, MARK, PINS, RECORD, SHEET, STEP};
 use crate::reader;
 use crate::relay::Printed;
+use crate::sheet;
 use crate::ways::Way;
 
 /// Configurations at random for each count of entities.
@@ -146,7 +147,12 @@ fn named(lent: &mut Lent) {
     let mut lengths = ANY_LENGTH.iter().cycle();
     for case in configs::all() {
         let Some((way, place)) = case.expect else {
-            assert_eq!(lent.step(SHEET, &case.bytes).way, None, "{}", case.name);
+            let printed = lent.step(SHEET, &case.bytes);
+            assert_eq!(printed.way, None, "{}", case.name);
+            for opening in case.shows.iter().map(|opening| sheet::line(opening)) {
+                let shown = |line: &str| line.starts_with(opening.trim_end());
+                assert!(printed.lines.lines().any(shown), "{}: {opening}", case.name);
+            }
             continue;
         };
         let first = !lent.none.contains(&way) || !lent.full.contains(&way);

@@ -65,11 +65,15 @@ pub fn good(rng: &mut Rng) -> Plan {
     plan
 }
 
-/// A run while it is being made: what may be a source, and what may be streamed.
+/// c, bitmap and name index.
+type Given = (u8, u16, u8);
+
+/// A run while it is being made: what may be a source, with what it gives out, and what may be
+/// streamed, with its c.
 struct Run {
     ids: Vec<u8>,
     parts: Vec<Part>,
-    sources: Vec<(u8, u8)>,
+    sources: Vec<(u8, Given)>,
     streams: Vec<(u8, u8)>,
     most: usize,
 }
@@ -91,47 +95,64 @@ impl Run {
     fn inputs(&mut self, rng: &mut Rng) {
         for _ in 0..1 + rng.below(3) {
             let id = self.id();
-            let cluster = cluster(rng);
+            let cluster = self.cluster(rng);
             let terminal = terminal(rng);
             if terminal == 0x0101 {
                 self.streams.push((id, cluster.0));
             }
             self.parts.push(Part::Input { id, terminal, cluster });
-            self.sources.push((id, cluster.0));
+            self.sources.push((id, cluster));
         }
+    }
+
+    /// A cluster to declare: a new one, or that of a source with an index of its own, so that a
+    /// Selector may have them both.
+    fn cluster(&self, rng: &mut Rng) -> Given {
+        if self.sources.is_empty() || rng.one_in(2) {
+            return cluster(rng);
+        }
+        let (channels, bitmap, _) = rng.pick(&self.sources).1;
+        (channels, bitmap, name(rng, channels, bitmap))
     }
 
     fn units(&mut self, rng: &mut Rng) {
         let count = rng.below(self.most - 2);
         for _ in 0..count {
             let id = self.id();
-            let (source, channels) = *rng.pick(&self.sources);
             let (part, given) = match rng.below(3) {
                 0 => self.mixer(rng, id),
-                1 => {
-                    let same = self.sources.iter().filter(|one| one.1 == channels);
-                    let same: Vec<u8> = same.map(|one| one.0).collect();
-                    let pins = pins(rng);
-                    let sources = (0..pins).map(|_| *rng.pick(&same)).collect();
-                    let printed = rng.one_in(2);
-                    (Part::Selector { id, sources, printed }, channels)
+                1 => self.selector(rng, id),
+                _ => {
+                    let (source, given) = *rng.pick(&self.sources);
+                    (feature(rng, id, source, given.0), given)
                 }
-                _ => (feature(rng, id, source, channels), channels),
             };
             self.parts.push(part);
             self.sources.push((id, given));
         }
     }
 
+    /// A Selector among sources of one c and one bitmap.
+    fn selector(&self, rng: &mut Rng, id: u8) -> (Part, Given) {
+        let (channels, bitmap, _) = rng.pick(&self.sources).1;
+        let alike = |one: &&(u8, Given)| (one.1 .0, one.1 .1) == (channels, bitmap);
+        let alike: Vec<(u8, Given)> = self.sources.iter().filter(alike).copied().collect();
+        let pins: Vec<(u8, Given)> = (0..pins(rng)).map(|_| *rng.pick(&alike)).collect();
+        let first = pins[0].1 .2;
+        let name = if pins.iter().all(|pin| pin.1 .2 == first) { first } else { 0 };
+        let sources = pins.iter().map(|pin| pin.0).collect();
+        (Part::Selector { id, sources, printed: rng.one_in(2) }, (channels, bitmap, name))
+    }
+
     /// A Mixer whose control bytes have room in a descriptor.
-    fn mixer(&self, rng: &mut Rng, id: u8) -> (Part, u8) {
+    fn mixer(&self, rng: &mut Rng, id: u8) -> (Part, Given) {
         loop {
-            let cluster = cluster(rng);
-            let pins: Vec<(u8, u8)> = (0..pins(rng)).map(|_| *rng.pick(&self.sources)).collect();
-            let entering: usize = pins.iter().map(|pin| usize::from(pin.1)).sum();
+            let cluster = self.cluster(rng);
+            let pins: Vec<(u8, Given)> = (0..pins(rng)).map(|_| *rng.pick(&self.sources)).collect();
+            let entering: usize = pins.iter().map(|pin| usize::from(pin.1 .0)).sum();
             let sources: Vec<u8> = pins.iter().map(|pin| pin.0).collect();
             if 10 + pins.len() + (entering * usize::from(cluster.0)).div_ceil(8) < 256 {
-                return (mixer(id, &sources, entering, cluster), cluster.0);
+                return (mixer(id, &sources, entering, cluster), cluster);
             }
         }
     }
@@ -139,10 +160,10 @@ impl Run {
     fn outputs(&mut self, rng: &mut Rng) {
         while self.parts.len() < self.most && !rng.one_in(3) {
             let id = self.id();
-            let (source, channels) = *rng.pick(&self.sources);
+            let (source, given) = *rng.pick(&self.sources);
             let terminal = terminal(rng);
             if terminal == 0x0101 {
-                self.streams.push((id, channels));
+                self.streams.push((id, given.0));
             }
             self.parts.push(Part::Output { id, terminal, source });
         }
@@ -162,7 +183,7 @@ fn pins(rng: &mut Rng) -> usize {
 }
 
 /// A cluster that keeps the rules, often at their bounds.
-fn cluster(rng: &mut Rng) -> (u8, u16, u8) {
+fn cluster(rng: &mut Rng) -> Given {
     let channels = *rng.pick(&[1u8, 1, 1, 2, 2, 2, 3, 5, 6, 8, 12, 16]);
     let mut bitmap = rng.next() as u16 & 0x0FFF;
     while bitmap.count_ones() > u32::from(channels) {
@@ -171,14 +192,18 @@ fn cluster(rng: &mut Rng) -> (u8, u16, u8) {
     if rng.one_in(3) {
         bitmap = 0;
     }
+    (channels, bitmap, name(rng, channels, bitmap))
+}
+
+/// A name index that goes with these.
+fn name(rng: &mut Rng, channels: u8, bitmap: u16) -> u8 {
     let unnamed = channels - bitmap.count_ones() as u8;
-    let name = match unnamed {
+    match unnamed {
         0 => 0,
         _ if rng.one_in(2) => 0,
         _ if rng.one_in(2) => (256 - u16::from(unnamed)) as u8,
         _ => 1 + rng.below(256 - usize::from(unnamed)) as u8,
-    };
-    (channels, bitmap, name)
+    }
 }
 
 /// A Feature Unit whose masks carry little or much.
@@ -270,7 +295,7 @@ fn change_length(rng: &mut Rng, bytes: &mut Vec<u8>) {
 
 /// Damages one thing of a plan.
 fn damage(rng: &mut Rng, plan: &mut Plan) {
-    match rng.below(16) {
+    match rng.below(18) {
         0 | 1 => on_part(rng, plan, |rng, bytes| change_byte(rng, bytes, 2)),
         2 => on_part(rng, plan, change_length),
         3..=5 => rewire(rng, plan),
@@ -288,6 +313,7 @@ fn damage(rng: &mut Rng, plan: &mut Plan) {
         12 => damage_groups(rng, plan),
         13 => change_byte(rng, &mut plan.control, 2),
         14 => damage_header(rng, plan),
+        15 | 16 => turn_pin(rng, plan),
         _ => damage_edges(rng, plan),
     }
 }
@@ -383,6 +409,31 @@ fn damage_cluster(rng: &mut Rng, plan: &mut Plan) {
             2 => cluster.2 = name,
             _ => *cluster = (channels, bitmap, name),
         }
+    }
+}
+
+/// Gives a pin of some Selector with several another bitmap where that pin declares one: with as many
+/// ones, elsewhere, or with one where it had none.
+fn turn_pin(rng: &mut Rng, plan: &mut Plan) {
+    let chosen = |part: &Part| match part {
+        Part::Selector { sources, .. } if sources.iter().any(|id| *id != sources[0]) => {
+            sources.clone()
+        }
+        _ => Vec::new(),
+    };
+    let pins: Vec<u8> = plan.parts.iter().flat_map(chosen).collect();
+    let mut bitmaps: Vec<&mut u16> = Vec::new();
+    for part in &mut plan.parts {
+        if let Part::Input { id, cluster, .. } | Part::Mixer { id, cluster, .. } = part {
+            if pins.contains(id) {
+                bitmaps.push(&mut cluster.1);
+            }
+        }
+    }
+    if !bitmaps.is_empty() {
+        let at = rng.below(bitmaps.len());
+        let turned = *bitmaps[at] << 1;
+        *bitmaps[at] = (turned & 0x0FFF | turned >> 12).max(1);
     }
 }
 
@@ -785,6 +836,7 @@ pub fn fill(rng: &mut Rng, script: &mut Script, configurations: usize, steps: us
 #[cfg(test)]
 mod tests {
     use super::*;
+    use crate::numbers::RECORD;
     use crate::relay;
     use crate::requests::Reply;
     use crate::ways::Way;
@@ -798,6 +850,29 @@ mod tests {
             let way = refusal.map(|one| one.way);
             assert!(matches!(way, None | Some(Way::ManyControls)), "{way:?} {bytes:02X?}");
         }
+    }
+
+    /// Whether some Selector of these bytes shows index 0, and one of its pins another.
+    fn shows_no_name(bytes: &[u8]) -> bool {
+        let mut sheet = [0; SHEET];
+        let answer = reader::read(bytes, &mut sheet);
+        let records: Vec<&[u8]> = sheet.chunks(RECORD).take(answer.entities).collect();
+        let named = |id: &u8| records.iter().any(|one| one[0] == *id && one[5] != 0);
+        let shown = |one: &&[u8]| one[1] & 0x0F == 5 && one[5] == 0 && one[8..].iter().any(named);
+        records.iter().any(shown)
+    }
+
+    #[test]
+    fn pins_are_alike_and_not() {
+        let mut rng = Rng::new(5);
+        let (mut unlike, mut unnamed) = (0, 0);
+        for _ in 0..4000 {
+            let bytes = configuration(&mut rng);
+            let way = reader::read(&bytes, &mut [0; SHEET]).way();
+            unlike += usize::from(way == Some(Way::SelectorBitmap));
+            unnamed += usize::from(shows_no_name(&bytes));
+        }
+        assert!(unlike > 40 && unnamed > 100, "{unlike} {unnamed}");
     }
 
     /// A request for one unit and selector, with the bytes that it answers.

@@ -1,4 +1,4 @@
--- A search for the first entity that breaks its rule: none before the one come to does. The rules look at channels alone.
+-- A search for the first entity that breaks its rule: none before the one come to does. The rules look at channels and bitmaps alone.
 use borrow.Author.Needs.{needs}
 use Prim.Native.Nat.{ℕ, _+_, _-_, _≤_, _<_}
 use mathlib.Core.Path.{_≡_, ap, _∙_}
@@ -13,8 +13,8 @@ use Rattle.entities.specs.declared.Run.{Run}
 use Rattle.entities.specs.Run.{blankNode, held, nodeAt, placeAt}
 use Rattle.sweep.specs.declared.Given.{Given}
 use Rattle.sweep.specs.Sweep.{clusterOn}
-use Rattle.keeping.specs.Keeping.{channelsOn, keepsBy}
-use Rattle.keeping.specs.KeepingLaws.{keeps-channels}
+use Rattle.keeping.specs.Keeping.{contentOn, keepsBy}
+use Rattle.keeping.specs.KeepingLaws.{keeps-content}
 use Rattle.clusters.specs.Breach.{breach13}
 use Rattle.clusters.proofs.check_clusters.Statement.{statement}
 use Rattle.clusters.proofs.check_clusters.Tie as tie
@@ -23,44 +23,44 @@ abbrev zeros : Node
 zeros = record { place = 0; first = 0; pins = 0; id = 0; feeds = false }
 
 module _ (s : List ℕ) (run : Run) where
-  abbrev wrong : List ℕ → ℕ → Bool
-  wrong counts j = not (keepsBy s (nodeAt run j) (channelsOn counts))
+  abbrev wrong : List ℕ → List ℕ → ℕ → Bool
+  wrong counts bitmaps j = not (keepsBy s (nodeAt run j) (contentOn counts bitmaps))
 
-  abbrev Passed : List ℕ → ℕ → Type 0
-  Passed counts i = Come (wrong counts) (λ j. At (placeAt run j)) Nowhere (held run) i
+  abbrev Passed : List ℕ → List ℕ → ℕ → Type 0
+  Passed counts bitmaps i = Come (wrong counts bitmaps) (λ j. At (placeAt run j)) Nowhere (held run) i
 
-  start : (counts : List ℕ) → Passed counts 0
-  start counts = come-none _ (λ j. At (placeAt run j)) Nowhere (held run)
+  start : (counts bitmaps : List ℕ) → Passed counts bitmaps 0
+  start counts bitmaps = come-none _ (λ j. At (placeAt run j)) Nowhere (held run)
 
-  by-channels : (given : Given)
-      → firstIn (wrong (given .channels)) (λ j. At (placeAt run j)) Nowhere 0 (held run) ≡ breach13 s run (clusterOn given)
+  by-content : (given : Given)
+      → firstIn (wrong (given .channels) (given .locations)) (λ j. At (placeAt run j)) Nowhere 0 (held run) ≡ breach13 s run (clusterOn given)
   unfolding breach13
-  by-channels given =
+  by-content given =
       first-same _ _ (λ j. At (placeAt run j)) Nowhere (held run)
-      (λ j l. ap not (keeps-channels s (nodeAt run j) (given .channels) (given .locations) (given .names)))
+      (λ j l. ap not (keeps-content s (nodeAt run j) (given .channels) (given .locations) (given .names)))
 
   module _ (n : ℕ) (m : n ≡ held run) (i : ℕ) where
-    over : (given : Given) → Passed (given .channels) i → n ≤ i → Nowhere ≡ breach13 s run (clusterOn given)
-    over given g h = come-over _ (λ j. At (placeAt run j)) Nowhere (held run) i g (omega arith) ∙ by-channels given
+    over : (given : Given) → Passed (given .channels) (given .locations) i → n ≤ i → Nowhere ≡ breach13 s run (clusterOn given)
+    over given g h = come-over _ (λ j. At (placeAt run j)) Nowhere (held run) i g (omega arith) ∙ by-content given
 
     module _ (h : i < n) (b : Bool) where
-      here : (given : Given) → Passed (given .channels) i → b ≡ keepsBy s (getD (run .nodes) i zeros) (channelsOn (given .channels))
+      here : (given : Given) → Passed (given .channels) (given .locations) i → b ≡ keepsBy s (getD (run .nodes) i zeros) (contentOn (given .channels) (given .locations))
           → not b ≡ true → At (getD (run .nodes) i zeros .place) ≡ breach13 s run (clusterOn given)
       unfolding blankNode
-      here given g f y = come-here _ (λ j. At (placeAt run j)) Nowhere (held run) i g (omega arith) (not b) (ap not f) y ∙ by-channels given
+      here given g f y = come-here _ (λ j. At (placeAt run j)) Nowhere (held run) i g (omega arith) (not b) (ap not f) y ∙ by-content given
 
-      on : (counts : List ℕ) → Passed counts i → b ≡ keepsBy s (getD (run .nodes) i zeros) (channelsOn counts) → not b ≡ false
-          → Passed counts (i + 1)
+      on : (counts bitmaps : List ℕ) → Passed counts bitmaps i → b ≡ keepsBy s (getD (run .nodes) i zeros) (contentOn counts bitmaps) → not b ≡ false
+          → Passed counts bitmaps (i + 1)
       unfolding blankNode
-      on counts g f y = come-more _ (λ j. At (placeAt run j)) Nowhere (held run) i g (omega arith) (not b) (ap not f) y
+      on counts bitmaps g f y = come-more _ (λ j. At (placeAt run j)) Nowhere (held run) i g (omega arith) (not b) (ap not f) y
 
 ruleset laws = (start, over, here, on, needs)
 
 abbrev Inv-loop : tie.InvT-loop
-Inv-loop config run n counts i₀ i = Passed config run counts i
+Inv-loop config run n counts bitmaps i₀ i = Passed config run counts bitmaps i
 
 abbrev μ-loop : tie.MeasureT-loop
-μ-loop config run n counts i₀ i = n - i
+μ-loop config run n counts bitmaps i₀ i = n - i
 
 count-requires : tie.Need-count-requires Inv-loop μ-loop
 count-requires c κs = search laws

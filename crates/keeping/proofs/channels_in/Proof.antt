@@ -62,11 +62,11 @@ abbrev μ-loop : tie.MeasureT-loop
 loop-holds : tie.Need-loop-holds Inv-loop μ-loop
 loop-holds c = search laws
 
-shared-slice-read-count-of : tie.Need-shared-slice-read-count-of Inv-loop μ-loop
-shared-slice-read-count-of c = search laws
+shared-slice-read-number-of : tie.Need-shared-slice-read-number-of Inv-loop μ-loop
+shared-slice-read-number-of c = search laws
 
-count-of-requires : tie.Need-count-of-requires Inv-loop μ-loop
-count-of-requires c κs = search laws
+number-of-requires : tie.Need-number-of-requires Inv-loop μ-loop
+number-of-requires c κs = search laws
 
 index-of-requires : tie.Need-index-of-requires Inv-loop μ-loop
 index-of-requires c κs = search laws
@@ -93,8 +93,8 @@ channels-in-spec =
     Inv-loop
     μ-loop
     loop-holds
-    shared-slice-read-count-of
-    count-of-requires
+    shared-slice-read-number-of
+    number-of-requires
     index-of-requires
     add-sum
     add-k

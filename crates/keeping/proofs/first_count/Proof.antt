@@ -27,15 +27,15 @@ ruleset laws = (no-pin, pin-1, needs)
 returns : tie.Need-returns
 returns c = search laws
 
-shared-slice-read-count-of : tie.Need-shared-slice-read-count-of
-shared-slice-read-count-of c = search laws
+shared-slice-read-number-of : tie.Need-shared-slice-read-number-of
+shared-slice-read-number-of c = search laws
 
-count-of-requires : tie.Need-count-of-requires
-count-of-requires c κs = search laws
+number-of-requires : tie.Need-number-of-requires
+number-of-requires c κs = search laws
 
 returns-2 : tie.Need-returns-2
 returns-2 c = search laws
 
 pub first-count-spec : {M : Type 1} → statement M
 first-count-spec =
-    tie.close (tie.spec returns shared-slice-read-count-of count-of-requires returns-2)
+    tie.close (tie.spec returns shared-slice-read-number-of number-of-requires returns-2)

@@ -1,7 +1,7 @@
 -- One law for each kind, from what its own test answers.
 use borrow.Author.Needs.{needs}
 use Prim.Native.Nat.{ℕ, _<_, _≤_}
-use mathlib.Core.Path.{_≡_, sym, ap, _∙_}
+use mathlib.Core.Path.{_≡_, refl, sym, ap, _∙_}
 use mathlib.Core.Bool.{Bool, true}
 use mathlib.Core.List.{List, map}
 use native.Mathlib.Omega.{arith}
@@ -13,8 +13,9 @@ use Rattle.layout.specs.Layout.{entityOf}
 use Rattle.channels.specs.Declared.{clusterKept}
 use Rattle.entities.specs.declared.Node.{Node}
 use Rattle.entities.specs.Run.{sourcesOf, descriptorOf}
-use Rattle.edition.specs.Audio.{alikeIn, mixerKept, featureKept, keeps}
-use Rattle.keeping.specs.Keeping.{channelsOn, keepsBy}
+use Rattle.edition.specs.Audio.{alike, mixerKept, featureKept, keeps}
+use Rattle.keeping.specs.Keeping.{channelsOn, contentOn, keepsBy}
+use Rattle.keeping.specs.KeepingLaws.{mixer-same, feature-same}
 use Rattle.keeping.proofs.kept.Statement.{statement}
 use Rattle.keeping.proofs.kept.Tie as tie
 
@@ -22,44 +23,44 @@ use Rattle.keeping.proofs.kept.Tie as tie
 few : (s : List ℕ) (n : Node) → n .pins < 256 → (ids : List ℕ) → ids ≡ sourcesOf s n → length ids ≤ 255
 few s n h ids e = rw e (simp length-take (omega arith))
 
-module _ (s : List ℕ) (n : Node) (counts d : List ℕ) (p : d ≡ descriptorOf s n)
+module _ (s : List ℕ) (n : Node) (counts bitmaps d : List ℕ) (p : d ≡ descriptorOf s n)
     (ids : List ℕ) (t : ids ≡ sourcesOf s n) (e : Entity) (q : e ≡ entityOf d) where
-  of : {x : Entity} → e ≡ x → keeps x (length d) (map (channelsOn counts) ids) ≡ keepsBy s n (channelsOn counts)
+  of : {x : Entity} → e ≡ x → keeps x (length d) (map (contentOn counts bitmaps) ids) ≡ keepsBy s n (contentOn counts bitmaps)
   unfolding keepsBy
   of h =
-      ap (λ (y : Entity). keeps y (length d) (map (channelsOn counts) ids)) (sym h ∙ q)
-      ∙ ap (λ (b : List ℕ). keeps (entityOf b) (length b) (map (channelsOn counts) ids)) p
-      ∙ ap (λ (l : List ℕ). keeps (entityOf (descriptorOf s n)) (length (descriptorOf s n)) (map (channelsOn counts) l)) t
+      ap (λ (y : Entity). keeps y (length d) (map (contentOn counts bitmaps) ids)) (sym h ∙ q)
+      ∙ ap (λ (b : List ℕ). keeps (entityOf b) (length b) (map (contentOn counts bitmaps) ids)) p
+      ∙ ap (λ (l : List ℕ). keeps (entityOf (descriptorOf s n)) (length (descriptorOf s n)) (map (contentOn counts bitmaps) l)) t
 
-  unknown : e ≡ Unknown → true ≡ keepsBy s n (channelsOn counts)
+  unknown : e ≡ Unknown → true ≡ keepsBy s n (contentOn counts bitmaps)
   unfolding keeps
   unknown h = of h
 
-  input : {i t : ℕ} {c : Cluster} → e ≡ Input i t c → (b : Bool) → b ≡ clusterKept c → b ≡ keepsBy s n (channelsOn counts)
+  input : {i t : ℕ} {c : Cluster} → e ≡ Input i t c → (b : Bool) → b ≡ clusterKept c → b ≡ keepsBy s n (contentOn counts bitmaps)
   unfolding keeps
   input h b a = a ∙ of h
 
-  output : {i t s′ : ℕ} → e ≡ Output i t s′ → true ≡ keepsBy s n (channelsOn counts)
+  output : {i t s′ : ℕ} → e ≡ Output i t s′ → true ≡ keepsBy s n (contentOn counts bitmaps)
   unfolding keeps
   output h = of h
 
   mixer : {i p : ℕ} {c : Cluster} → e ≡ Mixer i p c → (b : Bool)
-      → b ≡ mixerKept p c (length d) (map (channelsOn counts) ids) → b ≡ keepsBy s n (channelsOn counts)
+      → b ≡ mixerKept p c (length d) (map (channelsOn counts) ids) → b ≡ keepsBy s n (contentOn counts bitmaps)
   unfolding keeps
-  mixer h b a = a ∙ of h
+  mixer {p = p} {c = c} h b a = a ∙ mixer-same (channelsOn counts) (contentOn counts bitmaps) (λ x. refl) p c (length d) ids ∙ of h
 
-  selector : {i p : ℕ} → e ≡ Selector i p → (b : Bool) → b ≡ alikeIn (map (channelsOn counts) ids) → b ≡ keepsBy s n (channelsOn counts)
+  selector : {i p : ℕ} → e ≡ Selector i p → (b : Bool) → b ≡ alike (map (contentOn counts bitmaps) ids) → b ≡ keepsBy s n (contentOn counts bitmaps)
   unfolding keeps
   selector h b a = a ∙ of h
 
-  printed : {i p : ℕ} → e ≡ Printed i p → (b : Bool) → b ≡ alikeIn (map (channelsOn counts) ids) → b ≡ keepsBy s n (channelsOn counts)
+  printed : {i p : ℕ} → e ≡ Printed i p → (b : Bool) → b ≡ alike (map (contentOn counts bitmaps) ids) → b ≡ keepsBy s n (contentOn counts bitmaps)
   unfolding keeps
   printed h b a = a ∙ of h
 
   feature : {i s′ k : ℕ} → e ≡ Feature i s′ k → (b : Bool)
-      → b ≡ featureKept k (length d) (map (channelsOn counts) ids) → b ≡ keepsBy s n (channelsOn counts)
+      → b ≡ featureKept k (length d) (map (channelsOn counts) ids) → b ≡ keepsBy s n (contentOn counts bitmaps)
   unfolding keeps
-  feature h b a = a ∙ of h
+  feature {k = k} h b a = a ∙ feature-same (channelsOn counts) (contentOn counts bitmaps) (λ x. refl) k (length d) ids ∙ of h
 
 ruleset laws = (few, unknown, input, output, mixer, selector, printed, feature, needs)
 

@@ -1,30 +1,55 @@
--- All pins have as many channels as pin 1.
+-- The channels first, then the bitmaps.
 use borrow.Author.Needs.{needs}
 use Prim.Native.Nat.{ℕ}
-use mathlib.Core.Path.{_≡_, ap, _∙_}
-use mathlib.Core.Bool.{Bool}
-use mathlib.Core.List.{List, map}
-use Rattle.edition.specs.Audio.{alike, alikeIn}
-use Rattle.keeping.specs.Keeping.{channelsOn}
-use Rattle.sweep.specs.Sweep.{firstBy}
+use mathlib.Core.Path.{_≡_, refl, sym, ap, _∙_}
+use mathlib.Core.Bool.{Bool, true, false, not, _&&_}
+use mathlib.Core.List.{List, [], _∷_, map}
+use lib.ListN.{getD}
+use borrow.Author.Tests.{not-true, not-false}
+use Rattle.pins.specs.Same.{numbersOf, allSame}
+use Rattle.edition.specs.Audio.{channelsEach, locationsEach, alike}
+use Rattle.keeping.specs.Keeping.{contentOn}
 use Rattle.keeping.proofs.selector_kept.Statement.{statement}
 use Rattle.keeping.proofs.selector_kept.Tie as tie
 
-as-first : (ids counts : List ℕ) (c : ℕ) (b : Bool) → c ≡ firstBy (channelsOn counts) ids .channels
-    → b ≡ alike c (map (channelsOn counts) ids) → b ≡ alikeIn (map (channelsOn counts) ids)
-unfolding alikeIn firstBy
-as-first ids counts c b e f = f ∙ ap (λ (k : ℕ). alike k (map (channelsOn counts) ids)) e
+module _ (counts bitmaps : List ℕ) where
+  channels-on : (ids : List ℕ) → numbersOf counts ids ≡ channelsEach (map (contentOn counts bitmaps) ids)
+  unfolding numbersOf
+  channels-on [] = refl
+  channels-on (x ∷ ids) = ap (λ (l : List ℕ). getD counts x 0 ∷ l) (channels-on ids)
 
-ruleset laws = (as-first, needs)
+  locations-on : (ids : List ℕ) → numbersOf bitmaps ids ≡ locationsEach (map (contentOn counts bitmaps) ids)
+  unfolding numbersOf
+  locations-on [] = refl
+  locations-on (x ∷ ids) = ap (λ (l : List ℕ). getD bitmaps x 0 ∷ l) (locations-on ids)
 
-first-count-requires : tie.Need-first-count-requires
-first-count-requires c κs = search laws
+  module _ (ids : List ℕ) (b : Bool) (e : b ≡ allSame (numbersOf counts ids)) where
+    same-channels : b ≡ allSame (channelsEach (map (contentOn counts bitmaps) ids))
+    same-channels = e ∙ ap allSame (channels-on ids)
 
-all-have-requires : tie.Need-all-have-requires
-all-have-requires c κs = search laws
+    other-channels : not b ≡ true → false ≡ alike (map (contentOn counts bitmaps) ids)
+    unfolding alike
+    other-channels h = sym (ap (λ (x : Bool). x && allSame (locationsEach (map (contentOn counts bitmaps) ids))) (sym same-channels ∙ not-true b h))
+
+    by-bitmaps : not b ≡ false → (d : Bool) → d ≡ allSame (numbersOf bitmaps ids) → d ≡ alike (map (contentOn counts bitmaps) ids)
+    unfolding alike
+    by-bitmaps h d f =
+        f ∙ ap allSame (locations-on ids)
+        ∙ sym (ap (λ (x : Bool). x && allSame (locationsEach (map (contentOn counts bitmaps) ids))) (sym same-channels ∙ not-false b h))
+
+ruleset laws = (other-channels, by-bitmaps, needs)
+
+same-requires : tie.Need-same-requires
+same-requires c κs = search needs
 
 returns : tie.Need-returns
 returns c = search laws
 
+same-wide-requires : tie.Need-same-wide-requires
+same-wide-requires c κs = search needs
+
+returns-2 : tie.Need-returns-2
+returns-2 c = search laws
+
 pub selector-kept-spec : {M : Type 1} → statement M
-selector-kept-spec = tie.close (tie.spec first-count-requires all-have-requires returns)
+selector-kept-spec = tie.close (tie.spec same-requires returns same-wide-requires returns-2)

@@ -1,4 +1,4 @@
--- One law for each kind: what enters by pin 1, or the cluster that it declares.
+-- One law for each kind: what enters by pin 1, as a Selector gives it out too, or the cluster that it declares.
 use borrow.Author.Needs.{needs}
 use Prim.Native.Nat.{ℕ}
 use mathlib.Core.Path.{_≡_, sym, ap, _∙_}
@@ -9,8 +9,10 @@ use Rattle.layout.specs.declared.Entity.the-variants.{Unknown, Input, Output, M
 use Rattle.layout.specs.Layout.{entityOf}
 use Rattle.entities.specs.declared.Node.{Node}
 use Rattle.entities.specs.Run.{sourcesOf, descriptorOf}
-use Rattle.edition.specs.Audio.{firstOf, giveOut}
-use Rattle.sweep.specs.Sweep.{firstBy, givesBy}
+use Rattle.pins.specs.Same.{numbersOf}
+use Rattle.edition.specs.Audio.{firstOf, namesEach, named, giveOut}
+use Rattle.sweep.specs.Sweep.{clusterBy, firstBy, givesBy}
+use Rattle.sweep.specs.SweepLaws.{names-on}
 use Rattle.sweep.proofs.give_out.Statement.{statement}
 use Rattle.sweep.proofs.give_out.Tie as tie
 
@@ -40,52 +42,69 @@ module _ (s : List ℕ) (n : Node) (cl : ℕ → Cluster) (d : List ℕ) (p : d 
     unfolding giveOut
     output h = first ∙ of h
 
-    selector : {i p : ℕ} → e ≡ Selector i p → f ≡ givesBy s n cl
-    unfolding giveOut
-    selector h = first ∙ of h
-
-    printed : {i p : ℕ} → e ≡ Printed i p → f ≡ givesBy s n cl
-    unfolding giveOut
-    printed h = first ∙ of h
-
     feature : {i s′ k : ℕ} → e ≡ Feature i s′ k → f ≡ givesBy s n cl
     unfolding giveOut
     feature h = first ∙ of h
 
+module _ (s : List ℕ) (n : Node) (channels locations names : List ℕ) (d : List ℕ) (p : d ≡ descriptorOf s n) (e : Entity) (q : e ≡ entityOf d)
+    (ids : List ℕ) (t : ids ≡ sourcesOf s n) (f : Cluster) (g : f ≡ firstBy (clusterBy channels locations names) ids) (r : Cluster) (h : r ≡ named f (numbersOf names ids)) where
+  abbrev cl : ℕ → Cluster
+  cl = clusterBy channels locations names
+
+  gives : r ≡ named (firstOf (map cl (sourcesOf s n))) (namesEach (map cl (sourcesOf s n)))
+  gives =
+      h
+      ∙ ap (λ (k : Cluster). named k (numbersOf names ids)) (first s n cl d p e q ids t f g)
+      ∙ ap (named (firstOf (map cl (sourcesOf s n)))) (names-on channels locations names ids ∙ ap (λ (l : List ℕ). namesEach (map cl l)) t)
+
+  selector : {i k : ℕ} → e ≡ Selector i k → r ≡ givesBy s n cl
+  unfolding giveOut
+  selector x = gives ∙ of s n cl d p e q x
+
+  printed : {i k : ℕ} → e ≡ Printed i k → r ≡ givesBy s n cl
+  unfolding giveOut
+  printed x = gives ∙ of s n cl d p e q x
+
 ruleset laws = (unknown, input, output, mixer, selector, printed, feature, needs)
 
 sources-requires : tie.Need-sources-requires
-sources-requires c κs = search laws
+sources-requires c κs = search needs
 
 first-entering-requires : tie.Need-first-entering-requires
-first-entering-requires c κs = search laws
+first-entering-requires c κs = search needs
 
 descriptor-at-requires : tie.Need-descriptor-at-requires
-descriptor-at-requires c κs = search laws
+descriptor-at-requires c κs = search needs
 
 read-requires : tie.Need-read-requires
-read-requires c κs = search laws
+read-requires c κs = search needs
 
 enum-told : tie.Need-enum-told
-enum-told c = search laws
+enum-told c = search needs
 
 enum-known-entity : tie.Need-enum-known-entity
-enum-known-entity c = search laws
+enum-known-entity c = search needs
 
 enum-told-2 : tie.Need-enum-told-2
-enum-told-2 c = search laws
+enum-told-2 c = search needs
 
 enum-known-entity-2 : tie.Need-enum-known-entity-2
-enum-known-entity-2 c = search laws
+enum-known-entity-2 c = search needs
 
 enum-told-3 : tie.Need-enum-told-3
-enum-told-3 c = search laws
+enum-told-3 c = search needs
+
+selected-requires : tie.Need-selected-requires
+selected-requires c κs = search needs
 
 enum-told-4 : tie.Need-enum-told-4
-enum-told-4 c = search laws
+enum-told-4 c = search needs
+
+selected-requires-2 : tie.Need-selected-requires-2
+selected-requires-2 c κs = search needs
 
 enum-told-5 : tie.Need-enum-told-5
-enum-told-5 c = search laws
+enum-told-5 c = search needs
 
 returns : tie.Need-returns
 returns c = search laws
@@ -121,7 +140,9 @@ give-out-spec =
     enum-told-2
     enum-known-entity-2
     enum-told-3
+    selected-requires
     enum-told-4
+    selected-requires-2
     enum-told-5
     returns
     returns-2

@@ -2,6 +2,7 @@
 //! document 01 gives, written down here by hand and not taken from the reader.
 
 mod cutting;
+mod selectors;
 mod streaming;
 mod topology;
 
@@ -21,7 +22,12 @@ pub struct Case {
     pub bytes: Vec<u8>,
     /// The clause and place of its refusal; none if it is to be accepted.
     pub expect: Option<(Way, usize)>,
+    /// Openings of records that its sheet has to show, if it is accepted.
+    pub shows: Vec<Opening>,
 }
+
+/// The first six bytes of a record: ID, kind, c, bitmap (2), name index.
+pub type Opening = [u8; 6];
 
 /// The list of cases while it is being made.
 #[derive(Default)]
@@ -30,12 +36,13 @@ pub struct Cases(Vec<Case>);
 impl Cases {
     /// Bytes that are refused.
     fn refuse_bytes(&mut self, name: &str, bytes: Vec<u8>, way: Way, place: usize) {
-        self.0.push(Case { name: name.to_string(), bytes, expect: Some((way, place)) });
+        let expect = Some((way, place));
+        self.0.push(Case { name: name.to_string(), bytes, expect, shows: vec![] });
     }
 
     /// Bytes that are accepted.
     fn keep_bytes(&mut self, name: &str, bytes: Vec<u8>) {
-        self.0.push(Case { name: name.to_string(), bytes, expect: None });
+        self.0.push(Case { name: name.to_string(), bytes, expect: None, shows: vec![] });
     }
 
     /// The desk after a change that breaks a rule; the change answers the place.
@@ -60,6 +67,12 @@ impl Cases {
     /// Another plan, accepted.
     fn keep_plan(&mut self, name: &str, plan: &Plan) {
         self.keep_bytes(name, plan.bytes());
+    }
+
+    /// Another plan, accepted, with a sheet that has records that open so.
+    fn keep_shown(&mut self, name: &str, plan: &Plan, shows: &[Opening]) {
+        let (name, bytes) = (name.to_string(), plan.bytes());
+        self.0.push(Case { name, bytes, expect: None, shows: shows.to_vec() });
     }
 }
 
@@ -149,6 +162,7 @@ pub fn all() -> Vec<Case> {
     examples(&mut cases);
     cutting::all(&mut cases);
     topology::all(&mut cases);
+    selectors::all(&mut cases);
     streaming::all(&mut cases);
     shuffled(&mut cases);
     pairs(&mut cases);
@@ -193,7 +207,7 @@ type Breach = (Way, fn(&mut Plan), fn(&Plan) -> usize);
 
 /// Two rules broken in one configuration: "the lowest number that applies is given".
 fn pairs(cases: &mut Cases) {
-    let breaches: [Breach; 12] = [
+    let breaches: [Breach; 13] = [
         (
             Way::InterfacePair,
             |plan| plan.groups[VENDOR].interface[2] = 4,
@@ -237,6 +251,11 @@ fn pairs(cases: &mut Cases) {
             |plan| plan.part_place(MICROPHONE),
         ),
         (
+            Way::SelectorBitmap,
+            |plan| plan.parts[PLAYBACK] = plan.parts[PLAYBACK].with(8, 0x05),
+            |plan| plan.part_place(PRINTED),
+        ),
+        (
             Way::GeneralLength,
             |plan| plan.groups[RECORD].body[0] = class(&[1, 6]),
             |plan| plan.group_place(RECORD),
@@ -275,9 +294,17 @@ mod tests {
     #[test]
     fn every_case_gets_its_answer() {
         for case in all() {
-            let answer = reader::read(&case.bytes, &mut [0; SHEET]);
+            let mut sheet = [0; SHEET];
+            let answer = reader::read(&case.bytes, &mut sheet);
             let got = answer.refusal.map(|one| (one.way, one.place));
             assert_eq!(got, case.expect, "{}", case.name);
+            for opening in &case.shows {
+                assert!(
+                    sheet.chunks(16).any(|record| record.starts_with(opening)),
+                    "{}",
+                    case.name
+                );
+            }
         }
     }
 

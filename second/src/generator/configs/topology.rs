@@ -340,7 +340,7 @@ fn mixer_clusters(cases: &mut Cases) {
     cases.refuse_plan("Mixer takes a c of 200 as 16", &broken, Way::MixerControls, at);
 }
 
-/// Refusal 13 for a Feature Unit and a Selector.
+/// Refusal 13 for a Feature Unit; Selectors have a file of their own.
 fn unit_clusters(cases: &mut Cases) {
     for (c, size) in [(1u8, 1u8), (1, 4), (2, 2), (7, 3), (16, 1), (16, 4)] {
         let masks = vec![0; (usize::from(c) + 1) * usize::from(size)];
@@ -379,7 +379,7 @@ fn unit_clusters(cases: &mut Cases) {
             feature(4, 3, 3),
             selector(3, &[1, 2], true),
             input(1, (3, 0x0003, 9)),
-            input(2, (3, 0x0007, 0)),
+            input(2, (3, 0x0003, 0)),
             output(7, 6),
         ],
         vec![],
@@ -390,30 +390,6 @@ fn unit_clusters(cases: &mut Cases) {
         plan.parts[index] = wrong;
         let at = plan.part_place(index);
         cases.refuse_plan("a Feature Unit behind a Selector", &plan, Way::FeatureMasks, at);
-    }
-    for (one, two, three, kept) in [
-        (1, 1, 1, true),
-        (1, 2, 1, false),
-        (1, 1, 2, false),
-        (2, 1, 1, false),
-        (16, 16, 16, true),
-        (16, 16, 15, false),
-    ] {
-        for printed in [false, true] {
-            let parts = vec![
-                input(1, (one, 0, 1)),
-                input(2, (two, 1, 0)),
-                input(3, (three, 0, 0)),
-                selector(4, &[1, 2, 3], printed),
-            ];
-            let plan = Plan::new(parts, vec![]);
-            let name = format!("Selector over {one}, {two}, {three}");
-            if kept {
-                cases.keep_plan(&name, &plan);
-            } else {
-                cases.refuse_plan(&name, &plan, Way::SelectorChannels, plan.part_place(3));
-            }
-        }
     }
     cases.refuse("two cluster faults, the first by place", Way::InputIndexEqual, |plan| {
         plan.parts[PLAYBACK] = input(2, (2, 3, 1));
