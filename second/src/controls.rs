@@ -113,7 +113,7 @@ pub fn of_topology(topology: &Topology) -> Vec<Control> {
     let mut all = Vec::new();
     for (entity, cluster) in topology.entities.iter().zip(&topology.clusters) {
         match entity.kind {
-            Kind::Selector { .. } => all.push(of_selector(entity)),
+            Kind::Selector => all.push(of_selector(entity)),
             Kind::FeatureUnit { size } => {
                 all.extend(of_feature_unit(entity, size, usize::from(cluster.channels)));
             }

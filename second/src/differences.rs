@@ -1,10 +1,13 @@
-//! What changed between two sheets (document 02, No. 4).
+//! What changed between two sheets (document 02, Nos. 4 and 6).
 
 use std::collections::BTreeMap;
 use std::fmt;
 
-use crate::numbers::{RECORD, SHEET};
+use crate::numbers::{RECORD, SELECTORS, SHEET};
 use crate::ways::Way;
+
+/// Where a record has its kind.
+const KIND: usize = 1;
 
 /// One difference: an ID, and on which side it stands or which bytes differ.
 #[derive(Clone, Debug, PartialEq, Eq)]
@@ -40,13 +43,20 @@ pub fn differences(left: &[u8], right: &[u8]) -> Result<Vec<Difference>, Way> {
     ids.dedup();
     let one = |id: u8| match (left.get(&id), right.get(&id)) {
         (Some(before), Some(after)) => {
-            let bytes: Vec<usize> = (0..RECORD).filter(|&n| before[n] != after[n]).collect();
+            let bytes: Vec<usize> =
+                (0..RECORD).filter(|&n| !same(n, before[n], after[n])).collect();
             (!bytes.is_empty()).then_some(Difference::Changed(id, bytes))
         }
         (Some(_), None) => Some(Difference::Left(id)),
         _ => Some(Difference::Right(id)),
     };
     Ok(ids.into_iter().filter_map(one).collect())
+}
+
+/// Whether byte n of two records counts as the same: "counts kinds 05 and 15 as the same byte".
+fn same(n: usize, before: u8, after: u8) -> bool {
+    let selector = |kind| n == KIND && SELECTORS.contains(&kind);
+    before == after || selector(before) && selector(after)
 }
 
 /// The records of a sheet by their IDs: "41 length over 512 or not a multiple of 16; 42 an ID of
@@ -94,6 +104,21 @@ mod tests {
             assert_eq!(told(&sheet(&[0xAB, 3]), &right), [format!("changed AB {n}")]);
         }
         assert_eq!(told(&[[5; 16], [4; 16]].concat(), &sheet(&[4, 5])).len(), 2);
+    }
+
+    #[test]
+    fn kinds_05_and_15_are_the_same_byte() {
+        let with = |n: usize, byte: u8| {
+            let mut one = sheet(&[9]);
+            one[n] = byte;
+            one
+        };
+        assert_eq!(told(&with(1, 0x05), &with(1, 0x15)), Vec::<String>::new());
+        assert_eq!(told(&with(1, 0x15), &with(1, 0x05)), Vec::<String>::new());
+        assert_eq!(told(&with(1, 0x15), &with(1, 0x04)), ["changed 09 1"]);
+        assert_eq!(told(&with(1, 0x05), &with(1, 0x25)), ["changed 09 1"]);
+        assert_eq!(told(&with(2, 0x05), &with(2, 0x15)), ["changed 09 2"]);
+        assert_eq!(told(&with(0, 0x05), &with(0, 0x15)), ["left 05", "right 15"]);
     }
 
     #[test]

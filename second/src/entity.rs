@@ -1,7 +1,7 @@
-//! Entities: the five kinds, each with its own fields (refusal 9).
+//! Entities: the five kinds, each with its own fields (refusals 9 and 17).
 
 use crate::cut::{two_bytes, Descriptor};
-use crate::numbers::{PINS, PRINTED_SELECTOR};
+use crate::numbers::PINS;
 use crate::ways::Way;
 
 /// "A cluster is channels c, a bitmap of locations, and a first name index."
@@ -46,11 +46,8 @@ pub enum Kind {
         /// What it declares.
         cluster: Cluster,
     },
-    /// 05: "p at 4, sources from 5, length 6+p", or the printed one.
-    Selector {
-        /// Whether it is the printed Selector.
-        printed: bool,
-    },
+    /// 05: "p at 4, sources from 5, length 6+p".
+    Selector,
     /// 06: "source at 4, control size n at 5 (1 to 4), masks of n bytes from 6".
     FeatureUnit {
         /// n.
@@ -76,10 +73,7 @@ pub struct Entity<'a> {
 impl Entity<'_> {
     /// The kind as the sheet shows it.
     pub fn kind_byte(&self) -> u8 {
-        match self.kind {
-            Kind::Selector { printed: true } => PRINTED_SELECTOR,
-            _ => self.bytes[2],
-        }
+        self.bytes[2]
     }
 
     /// The terminal type, of a Terminal.
@@ -94,7 +88,7 @@ impl Entity<'_> {
 }
 
 /// Reads the layout of one entity. "any other kind, or too few bytes to hold those fields, is a
-/// wrong layout."
+/// wrong layout." The clause is of 9, or 17's.
 pub fn read<'a>(descriptor: &Descriptor<'a>) -> Result<Entity<'a>, Way> {
     let bytes = descriptor.bytes;
     if bytes.len() < 4 {
@@ -146,8 +140,8 @@ fn mixer(bytes: &[u8]) -> Result<Fields, Way> {
     Ok((Kind::Mixer { cluster: Cluster::read(bytes, 5 + p) }, bytes[5..5 + p].to_vec()))
 }
 
-/// "05 Selector: p at 4, sources from 5, length 6+p. ... length 7+p is accepted too if byte 5 is
-/// 0; sources then start at 6. This is the printed Selector."
+/// "05 Selector: p at 4, sources from 5, length 6+p." With "length 7+p ... if byte 5 is 0" it is the
+/// printed Selector, which "the reader no longer accepts".
 fn selector(bytes: &[u8]) -> Result<Fields, Way> {
     if bytes.len() < 5 {
         return Err(Way::SelectorLength);
@@ -157,15 +151,12 @@ fn selector(bytes: &[u8]) -> Result<Fields, Way> {
         return Err(Way::SelectorPins);
     }
     if bytes.len() == 6 + p {
-        return Ok((Kind::Selector { printed: false }, bytes[5..5 + p].to_vec()));
+        return Ok((Kind::Selector, bytes[5..5 + p].to_vec()));
     }
     if bytes.len() != 7 + p {
         return Err(Way::SelectorLength);
     }
-    if bytes[5] != 0 {
-        return Err(Way::SelectorPad);
-    }
-    Ok((Kind::Selector { printed: true }, bytes[6..6 + p].to_vec()))
+    Err(if bytes[5] == 0 { Way::SelectorPrinted } else { Way::SelectorPad })
 }
 
 /// "06 Feature Unit: ... Refusal 9 asks only a length of at least 7."
@@ -194,8 +185,9 @@ mod tests {
     }
 
     #[test]
-    fn the_printed_selector_has_its_sources_from_6() {
-        assert_eq!(layout(&[9, 0x24, 5, 7, 2, 0, 1, 3, 0]), Ok((0x15, vec![1, 3])));
+    fn the_printed_selector_is_withdrawn() {
+        assert_eq!(layout(&[9, 0x24, 5, 7, 2, 0, 1, 3, 0]), Err(Way::SelectorPrinted));
+        assert_eq!(layout(&[8, 0x24, 5, 7, 1, 0, 1, 0]), Err(Way::SelectorPrinted));
         assert_eq!(layout(&[9, 0x24, 5, 7, 2, 4, 1, 3, 0]), Err(Way::SelectorPad));
     }
 

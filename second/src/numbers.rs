@@ -16,8 +16,8 @@ pub const CONTROLS: usize = 128;
 pub const RECORD: usize = 8 + PINS;
 /// The program `sheet` "lends 512 bytes", and so does `relay`.
 pub const SHEET: usize = RECORD * ENTITIES;
-/// "kind (15 hex for a printed Selector)".
-pub const PRINTED_SELECTOR: u8 = 0x15;
+/// The kind of a Selector, and the one that old sheets show for a printed Selector.
+pub const SELECTORS: [u8; 2] = [0x05, 0x15];
 /// The most bytes that a step of a `relay` script, or the configuration of a `lend` step, may have.
 pub const STEP: usize = 8192;
 /// The most room that a reply buffer of a `relay` script may have.

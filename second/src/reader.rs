@@ -1,4 +1,4 @@
-//! The reader: one configuration in, the whole answer out (refusals 1 to 16).
+//! The reader: one configuration in, the whole answer out (refusals 1 to 17).
 
 use crate::controls::{self, Table};
 use crate::cut;
@@ -65,9 +65,8 @@ fn accept(config: &[u8], sheet: &mut [u8]) -> Result<Answer, Refusal> {
     Ok(Answer { refusal: None, state: State { number: cut.control_number, table }, entities })
 }
 
-/// "Records of 16 bytes, no header, in entity order: ID; kind (15 hex for a printed Selector); c;
-/// bitmap (2); name index; pins; 00; then eight source IDs, unused ones 00. Bytes past the last
-/// record stay."
+/// "Records of 16 bytes, no header, in entity order: ID; kind ...; c; bitmap (2); name index;
+/// pins; 00; then eight source IDs, unused ones 00. Bytes past the last record stay."
 fn write_sheet(topology: &Topology, sheet: &mut [u8]) {
     let rows = sheet.chunks_exact_mut(RECORD);
     for ((entity, cluster), row) in topology.entities.iter().zip(&topology.clusters).zip(rows) {

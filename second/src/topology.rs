@@ -1,4 +1,4 @@
-//! Topology: entities and their sources, ranks and clusters (refusals 9 to 13).
+//! Topology: entities and their sources, ranks and clusters (refusals 9, 17 and 10 to 13).
 
 use crate::cut::Descriptor;
 use crate::entity::{self, Cluster, Entity, Kind};
@@ -21,7 +21,7 @@ impl Topology<'_> {
     }
 }
 
-/// Reads the run as entities, refusing with 9 to 13.
+/// Reads the run as entities, refusing with 9, 17 and 10 to 13.
 pub fn read<'a>(run: &[Descriptor<'a>]) -> Result<Topology<'a>, Refusal> {
     let entities = read_layouts(run)?;
     check_ids(&entities)?;
@@ -36,10 +36,16 @@ pub fn read<'a>(run: &[Descriptor<'a>]) -> Result<Topology<'a>, Refusal> {
     Ok(Topology { entities, clusters })
 }
 
-/// Refusal 9: "an entity's layout is wrong", at the "first such entity".
+/// Refusal 9, "an entity's layout is wrong", at the "first such entity", and then 17, "at the first
+/// such entity, after 9 and before 10": a wrong layout behind a printed Selector comes first.
 fn read_layouts<'a>(run: &[Descriptor<'a>]) -> Result<Vec<Entity<'a>>, Refusal> {
     let layout = |one| entity::read(one).map_err(|way| Refusal::at(way, one.place));
-    run.iter().map(layout).collect()
+    let refused = run.iter().filter_map(|one| layout(one).err());
+    // Of several with the same number this is the first.
+    match refused.min_by_key(|refusal| refusal.way.number()) {
+        Some(refusal) => Err(refusal),
+        None => run.iter().map(layout).collect(),
+    }
 }
 
 /// Refusal 10: "ID zero or borne by an earlier entity".
@@ -153,7 +159,7 @@ fn give(entities: &[Entity], given: &mut [Option<Cluster>], index: usize) -> Clu
 fn given_out(kind: &Kind, entering: &[Cluster]) -> Cluster {
     match *kind {
         Kind::InputTerminal { cluster, .. } | Kind::Mixer { cluster } => cluster,
-        Kind::Selector { .. } => selected(entering),
+        Kind::Selector => selected(entering),
         Kind::OutputTerminal { .. } | Kind::FeatureUnit { .. } => entering[0],
     }
 }
@@ -181,7 +187,7 @@ fn cluster_breach(entities: &[Entity], clusters: &[Cluster], index: usize) -> Op
             let wanted = 10 + entering.len() + bits.div_ceil(8);
             (length != wanted).then_some(Way::MixerControls)
         }),
-        Kind::Selector { .. } => unlike(&pins),
+        Kind::Selector => unlike(&pins),
         Kind::FeatureUnit { size } => {
             (length != 7 + (entering[0] + 1) * size).then_some(Way::FeatureMasks)
         }

@@ -62,6 +62,7 @@ ways! {
     SelectorPad = 9, "Selector: length 7+p and byte 5 is not 0";
     FeatureLength = 9, "Feature Unit: length below 7";
     FeatureSize = 9, "Feature Unit: control size is not 1 to 4";
+    SelectorPrinted = 17, "the printed Selector: length 7+p and byte 5 is 0";
     IdZero = 10, "ID zero";
     IdRepeated = 10, "ID borne by an earlier entity";
     SourceZero = 11, "a source ID is 0";
@@ -171,7 +172,7 @@ mod tests {
 
     #[test]
     fn every_number_of_the_papers_has_a_way() {
-        let wanted = (1..=16).chain([20, 21]).chain(30..=39).chain([41, 42]);
+        let wanted = (1..=17).chain([20, 21]).chain(30..=39).chain([41, 42]);
         for number in wanted {
             assert!(Way::ALL.iter().any(|way| way.number() == number), "{number}");
         }

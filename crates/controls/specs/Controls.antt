@@ -16,7 +16,7 @@ use Rattle.ground.specs.declared.Place.{Place}
 use Rattle.ground.specs.Refuse.{keptAt}
 use Rattle.layout.specs.declared.Cluster.{Cluster}
 use Rattle.layout.specs.declared.Entity.{Entity}
-use Rattle.layout.specs.declared.Entity.the-variants.{Unknown, Input, Output, Mixer, Selector, Printed, Feature}
+use Rattle.layout.specs.declared.Entity.the-variants.{Unknown, Input, Output, Mixer, Selector, Feature}
 use Rattle.layout.specs.Layout.{noCluster, entityOf}
 use Rattle.edition.specs.Edition.{ownId}
 use Rattle.entities.specs.declared.Node.{Node}
@@ -35,7 +35,6 @@ entityControls (Input i t own) d c = []
 entityControls (Output i t s) d c = []
 entityControls (Mixer i p own) d c = []
 entityControls (Selector i p) d c = selectorControl i p ∷ []
-entityControls (Printed i p) d c = selectorControl i p ∷ []
 entityControls (Feature i s n) d c = featureControls i n c d
 
 unfoldable pub controlsOf : List (List ℕ) → (ℕ → Cluster) → List Control

@@ -5,7 +5,7 @@ use mathlib.Core.List.{List}
 use native.Mathlib.Omega.{arith}
 use lib.ListN.{length}
 use Rattle.layout.specs.declared.Entity.{Entity}
-use Rattle.layout.specs.declared.Entity.the-variants.{Unknown, Input, Output, Mixer, Selector, Printed, Feature}
+use Rattle.layout.specs.declared.Entity.the-variants.{Unknown, Input, Output, Mixer, Selector, Feature}
 use Rattle.masks.specs.Counts.{feature-few}
 use Rattle.controls.specs.Controls.{entityControls}
 
@@ -16,5 +16,4 @@ entity-few (Input i t own) d c = omega arith
 entity-few (Output i t s) d c = omega arith
 entity-few (Mixer i p own) d c = omega arith
 entity-few (Selector i p) d c = omega arith
-entity-few (Printed i p) d c = omega arith
 entity-few (Feature i s n) d c = feature-few i n c d

@@ -10,7 +10,7 @@ use Rattle.ground.specs.Numbers.{byte}
 use Rattle.graph.specs.Members.{_∈_}
 use Rattle.layout.specs.declared.Cluster.{Cluster}
 use Rattle.layout.specs.declared.Entity.{Entity}
-use Rattle.layout.specs.declared.Entity.the-variants.{Unknown, Input, Output, Mixer, Selector, Printed, Feature}
+use Rattle.layout.specs.declared.Entity.the-variants.{Unknown, Input, Output, Mixer, Selector, Feature}
 use Rattle.layout.specs.Layout.{entityOf}
 use Rattle.layout.specs.LayoutLaws.{told}
 use Rattle.edition.specs.Edition.{ownId}
@@ -40,7 +40,6 @@ entity-pairs (Input i t own) d c = none
 entity-pairs (Output i t s) d c = none
 entity-pairs (Mixer i p own) d c = none
 entity-pairs (Selector i p) d c = more (λ x m. absurd (List·Memᴰ·not-nil m)) none
-entity-pairs (Printed i p) d c = more (λ x m. absurd (List·Memᴰ·not-nil m)) none
 entity-pairs (Feature i s n) d c = channels-pairs i n d (suc c) 0
 
 -- the unit is the entity's ID

@@ -118,7 +118,6 @@ selector-pins d o e = of (told d)
     of (laid.output k l) = absurd (omega arith)
     of (laid.mixer k q l) = absurd (omega arith)
     of (laid.selector k q l) = q
-    of (laid.printed k q l z) = q
     of (laid.feature k q l) = absurd (omega arith)
 
 carried-fresh : {d : List ℕ} {c : ℕ} {x : Control} → LaidOut d → c ≤ 16 → Carries d c x → FreshAs (senseOf (x .selector)) x

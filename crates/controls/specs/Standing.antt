@@ -41,7 +41,6 @@ module _ (d : List ℕ) (c : ℕ) where
   carried (laid.output k l) x m = absurd (List·Memᴰ·not-nil m)
   carried (laid.mixer k q l) x m = absurd (List·Memᴰ·not-nil m)
   carried (laid.selector k q l) x m = rw (List·Memᴰ·eq-of-singleton m) (selector k)
-  carried (laid.printed k q l z) x m = rw (List·Memᴰ·eq-of-singleton m) (selector k)
   carried (laid.feature k q l) x m =
       let r = channels-of (byte d 3) (byte d 5) d (suc c) 0 x m in
       let f = r .carried in
@@ -58,8 +57,6 @@ module _ (d : List ℕ) (c : ℕ) where
   carries (laid.mixer k q l) o x (selector i) = absurd (omega arith)
   carries (laid.selector k q l) o x (feature a b i p r f g) = absurd (omega arith)
   carries (laid.selector k q l) o x (selector i) = List·Memᴰ·head refl
-  carries (laid.printed k q l z) o x (feature a b i p r f g) = absurd (omega arith)
-  carries (laid.printed k q l z) o x (selector i) = List·Memᴰ·head refl
   carries (laid.feature k q l) o x (feature a b i p r f g) = of-channels (byte d 3) (byte d 5) d (suc c) 0 a b (omega arith) (omega arith) r f g
   carries (laid.feature k q l) o x (selector i) = absurd (omega arith)
 

@@ -111,7 +111,6 @@ fn add_entity(notes: &mut [u64; table::CONTROLS], count: usize, d: &[u8], channe
         Entity::Output { .. } => count,
         Entity::Mixer { .. } => count,
         Entity::Selector { id, pins } => add(notes, count, note_of(id, 0, 0, pins, 1)),
-        Entity::Printed { id, pins } => add(notes, count, note_of(id, 0, 0, pins, 1)),
         Entity::Feature { id, size, .. } => add_unit(notes, count, d, id, size, channels),
     }
 }

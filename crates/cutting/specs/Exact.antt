@@ -1,5 +1,5 @@
 -- What the verdict says, exactly: it refuses nothing exactly where the nine rules are kept, and gives number n at place p exactly
--- where every rule before n is kept, n is not, and p is its place. What keeps the rules is unique: the cutting, the header, the run.
+-- where every row before n is kept, n is not, and p is its place; rule 9 is two rows, 9 and 17. What keeps the rules is unique: the cutting, the header, the run.
 --   verdict-kept     ==  nothing is refused exactly where the nine rules are kept
 --   verdict-refused  ==  number n is given at place p exactly where that is the refusal that document 01 gives
 --   cutting-answers  ==  the verdict, with whatever is judged behind the nine, is put together by their rows; cutting-numbered: none is number 0
@@ -8,11 +8,11 @@
 --                        with, so they are one
 use Prim.Native.Nat.{ℕ, _+_}
 use mathlib.Core.Path.{_≡_, refl, sym, ap, _∙_}
-use mathlib.Core.Bool.{_&&_}
+use mathlib.Core.Bool.{Bool, _&&_}
 use lib.Dec.{eqb}
 use mathlib.Core.List.{List, []}
 use mathlib.Core.Logic.{_⊎_, inl, inr, ⊎-elim, _↔_}
-use lib.ListN.{length}
+use lib.ListN.{length, take}
 use native.Mathlib.Omega.{arith}
 use Rattle.ground.specs.declared.Place.{Place}
 use Rattle.ground.specs.declared.Place.the-variants.{Nowhere, At}
@@ -25,8 +25,7 @@ use Rattle.ground.specs.Rows.{Rows, end, AllKept, FirstBroken, Numbered, Answer
 use Rattle.scan.specs.Cutting.{Cutting, rest, breach3}
 use Rattle.scan.specs.CuttingLaws.{cutting-exists, cutting-misfit, cutting-rest}
 use Rattle.scan.specs.Search.{searched}
-use Rattle.layout.specs.Layout.{LaidOut, entityOf, isUnknown}
-use Rattle.layout.specs.LayoutLaws.{reads-unknown, laid-out}
+use Rattle.layout.specs.Withdrawn.{Printed, isPrinted, reads-printed, printed-unlaid, isWrong, reads-wrong, layout-or}
 use Rattle.edition.specs.Audio.{audio}
 use Rattle.entities.specs.Run.{mostEntities}
 use Rattle.opening.specs.Rules1and2.{mostBytes, Rule1, Rule2}
@@ -38,8 +37,8 @@ use Rattle.collection.specs.Rule7.{Rule7}
 use Rattle.groups.specs.Rules5and6.{Rule5, listedOf, Rule6}
 use Rattle.groups.specs.Reading.{frameOf, breach5, breach6, breach7, groupJudged, judged, headerOf}
 use Rattle.groups.specs.FrameLaws.{Framed, framed}
-use Rattle.cutting.specs.Rules1to9.{Rule8, Rule9, Opened, headerPlace, Opening, opened, Kept, groupRows, cuttingRows}
-use Rattle.cutting.specs.Survey.{runOf, breach8, breach9, runJudged, verdictThen, verdict}
+use Rattle.cutting.specs.Rules1to9.{Rule8, WrongLayout, Recognised, NoneWithdrawn, laidOut, Opened, headerPlace, Opening, opened, Kept, groupRows, cuttingRows}
+use Rattle.cutting.specs.Survey.{runOf, breach8, breach9, breach17, runJudged, verdictThen, verdict}
 use Rattle.cutting.specs.Context.{cut-told, header-place, rule5-reads, header-is, run-place, rule6-reads, rule7-reads, run-is}
 
 reads-rule1 : (s : List ℕ) → Reads (within 9 (length s) mostBytes) (Rule1 s)
@@ -114,21 +113,45 @@ module _ (s : List ℕ) where
         unfolding breach8
         breaks8 p = rw (run-is s o h t, ← (header-place s o)) (kept-at (frameOf s .header) p reads-rule8)
 
-        breach9-is : breach9 s (frameOf s) ≡ firstFrom (λ b d. isUnknown (entityOf d)) (headerPlace o + length (h .header)) [] (t .run)
-        unfolding breach9 searched runOf
-        breach9-is = ap (firstFrom (λ b d. isUnknown (entityOf d)) (frameOf s .run) []) (run-is s o h t) ∙ ap (λ (i : ℕ). firstFrom (λ b d. isUnknown (entityOf d)) i [] (t .run)) (run-place s o h)
+        -- the first of the run's descriptors that a test holds of
+        abbrev firstOf : (List ℕ → Bool) → Place
+        firstOf p = firstFrom (λ b d. p d) (headerPlace o + length (h .header)) [] (t .run)
 
-        keeps9 : (breach9 s (frameOf s) ≡ Nowhere) ↔ Rule9 audio (t .run)
-        keeps9 = rw breach9-is (λ e. of (first .0 e), λ k. first .1 (sound-each (λ d. LaidOut d → ⊥) (t .run) .1 (λ d m n. n (k d m))))
+        run-first : (p : List ℕ → Bool) → searched (λ b d. p d) (take (frameOf s .end) s) (frameOf s .run) ≡ firstOf p
+        unfolding searched runOf
+        run-first p = ap (firstFrom (λ b d. p d) (frameOf s .run) []) (run-is s o h t) ∙ ap (λ (i : ℕ). firstFrom (λ b d. p d) i [] (t .run)) (run-place s o h)
+
+        breach9-is : breach9 s (frameOf s) ≡ firstOf isWrong
+        unfolding breach9
+        breach9-is = run-first isWrong
+
+        keeps9 : (breach9 s (frameOf s) ≡ Nowhere) ↔ Recognised audio (t .run)
+        keeps9 = rw breach9-is (
+          λ e d m. layout-or d (sound-each (WrongLayout audio) (t .run) .0 (first .0 e) d m),
+          λ k. first .1 (sound-each (WrongLayout audio) (t .run) .1 (λ d m n. ⊎-elim (n .0) (n .1) (k d m))),
+        )
           where
-            first : (firstFrom (λ b d. isUnknown (entityOf d)) (headerPlace o + length (h .header)) [] (t .run) ≡ Nowhere) ↔ Sound (λ b d. LaidOut d → ⊥) (t .run)
-            first = first-nowhere (λ b d. isUnknown (entityOf d)) (λ b d. LaidOut d → ⊥) (λ b d. reads-unknown d) (headerPlace o + length (h .header)) (t .run)
+            first : (firstOf isWrong ≡ Nowhere) ↔ Sound (λ b d. WrongLayout audio d) (t .run)
+            first = first-nowhere (λ b d. isWrong d) (λ b d. WrongLayout audio d) (λ b d. reads-wrong d) (headerPlace o + length (h .header)) (t .run)
 
-            of : Sound (λ b d. LaidOut d → ⊥) (t .run) → Rule9 audio (t .run)
-            of k d m = ⊎-elim (λ l. l) (λ n. absurd (sound-each (λ d. LaidOut d → ⊥) (t .run) .0 k d m n)) (laid-out d)
+        breaks9 : (p : ℕ) → (breach9 s (frameOf s) ≡ At p) ↔ Breaks (λ b d. WrongLayout audio d) (headerPlace o + length (h .header)) (t .run) p
+        breaks9 p = rw breach9-is (first-at (λ b d. isWrong d) (λ b d. WrongLayout audio d) (λ b d. reads-wrong d) (headerPlace o + length (h .header)) (t .run) p)
 
-        breaks9 : (p : ℕ) → (breach9 s (frameOf s) ≡ At p) ↔ Breaks (λ b d. LaidOut d → ⊥) (headerPlace o + length (h .header)) (t .run) p
-        breaks9 p = rw breach9-is (first-at (λ b d. isUnknown (entityOf d)) (λ b d. LaidOut d → ⊥) (λ b d. reads-unknown d) (headerPlace o + length (h .header)) (t .run) p)
+        breach17-is : breach17 s (frameOf s) ≡ firstOf isPrinted
+        unfolding breach17
+        breach17-is = run-first isPrinted
+
+        keeps17 : (breach17 s (frameOf s) ≡ Nowhere) ↔ NoneWithdrawn audio (t .run)
+        keeps17 = rw breach17-is (λ e. each .0 (first .0 e), λ k. first .1 (each .1 k))
+          where
+            first : (firstOf isPrinted ≡ Nowhere) ↔ Sound (λ b d. Printed d) (t .run)
+            first = first-nowhere (λ b d. isPrinted d) (λ b d. Printed d) (λ b d. reads-printed d) (headerPlace o + length (h .header)) (t .run)
+
+            each : Sound (λ b d. Printed d) (t .run) ↔ NoneWithdrawn audio (t .run)
+            each = sound-each Printed (t .run)
+
+        breaks17 : (p : ℕ) → (breach17 s (frameOf s) ≡ At p) ↔ Breaks (λ b d. Printed d) (headerPlace o + length (h .header)) (t .run) p
+        breaks17 p = rw breach17-is (first-at (λ b d. isPrinted d) (λ b d. Printed d) (λ b d. reads-printed d) (headerPlace o + length (h .header)) (t .run) p)
 
   opens : (ds : List (List ℕ)) → Cutting s ds → Rule4 ds → Opening ds
   opens ds c k = go (framed s (rw (cut-is ds c) k))
@@ -162,11 +185,16 @@ module _ (s : List ℕ) where
             record { kept = keeps8 o e t; broken = breaks8 o e t },
             λ m. (
               breach9 s (frameOf s),
-              r,
+              _,
               refl,
               record { kept = keeps9 o e t; broken = breaks9 o e t },
-              λ l.
-                  h (record { opened = o; rule5 = e; rule6 = t; rule7 = c; rule8 = m; rule9 = l }),
+              λ l. (
+                breach17 s (frameOf s),
+                r,
+                refl,
+                record { kept = keeps17 o e t; broken = breaks17 o e t },
+                λ w. h (record { opened = o; rule5 = e; rule6 = t; rule7 = c; rule8 = m; rule9 = laidOut audio (t .run) l w }),
+              ),
             ),
           ),
         ),
@@ -212,7 +240,7 @@ module _ (s : List ℕ) where
           λ e. omega arith,
           λ o. (
             λ e. omega arith,
-            λ d. (λ e. omega arith, λ t. (λ e. omega arith, λ k. (λ e. omega arith, λ m. (λ e. omega arith, λ l. h (record { opened = opened a b c o; rule5 = d; rule6 = t; rule7 = k; rule8 = m; rule9 = l }))))),
+            λ d. (λ e. omega arith, λ t. (λ e. omega arith, λ k. (λ e. omega arith, λ m. (λ e. omega arith, λ l. (λ e. omega arith, λ w. h (record { opened = opened a b c o; rule5 = d; rule6 = t; rule7 = k; rule8 = m; rule9 = laidOut audio (t .run) l w })))))),
           ),
         ),
       ),
@@ -220,13 +248,15 @@ module _ (s : List ℕ) where
   )
 
   pub nine-kept : (behind : Kept s → Rows) → AllKept (cuttingRows s behind) → (k : Kept s) × AllKept (behind k)
-  nine-kept behind (a, (b, (c, (o, (e, (t, (k, (m, (l, x))))))))) = (record { opened = opened a b c o; rule5 = e; rule6 = t; rule7 = k; rule8 = m; rule9 = l }, x)
+  nine-kept behind (a, (b, (c, (o, (e, (t, (k, (m, (l, (w, x)))))))))) = (record { opened = opened a b c o; rule5 = e; rule6 = t; rule7 = k; rule8 = m; rule9 = laidOut audio (t .run) l w }, x)
 
   pub all-nine : (behind : Kept s → Rows) (k : Kept s) → AllKept (behind k) → AllKept (cuttingRows s behind)
   all-nine behind k x =
       let o = k .opened in
       let q : Opening (o .descriptors) = record { rule4 = o .rule4; before = o .before; control = o .control; tail = o .tail; split = o .split; is-control = o .is-control } in
-      (o .rule1, (o .rule2, ((o .descriptors, o .rule3), (q, (k .rule5, (k .rule6, (k .rule7, (k .rule8, (k .rule9, x)))))))))
+      let l : Recognised audio (k .rule6 .run) = λ d m. inl (k .rule9 d m) in
+      let w : NoneWithdrawn audio (k .rule6 .run) = λ d m y. printed-unlaid d y (k .rule9 d m) in
+      (o .rule1, (o .rule2, ((o .descriptors, o .rule3), (q, (k .rule5, (k .rule6, (k .rule7, (k .rule8, (l, (w, x))))))))))
 
   answers : Answers (cuttingRows s (λ k. end)) (verdict s)
   unfolding verdict

@@ -1,15 +1,19 @@
 -- The rules 8 and 9, and all nine together: what a configuration is that the cutting layer does not refuse, and what each refusal says.
 --   Rule8 run     ==  there are 1 to 32 entities
---   Rule9 ed run  ==  each entity has one of the layouts of the edition ed
+--   Rule9 ed run  ==  each entity has one of the layouts of the edition ed. It is refused by two rows: 9 "an entity's layout is wrong", and 17, of a
+--                     layout that was withdrawn (document 02, No. 6), "after 9 and before 10"
+--   WrongLayout ed d, Recognised ed run  ==  row 9: d has none of the layouts, nor a withdrawn one; no entity is so
+--   NoneWithdrawn ed run  ==  row 17: none has a withdrawn layout; laidOut: the two rows kept are rule 9 kept
 --   Opened s      ==  the rules 1 to 4 are kept by a cutting of s, in which the AudioControl interface stands
 --   headerPlace o ==  where the header should stand: 9 bytes behind the place of the AudioControl interface
 --   Kept s        ==  besides, the header, the run, the group's other descriptors and the next group keep the rules 5 to 9, by the Audio 1.0
 --                     edition
 --   Opening ds    ==  rule 4 is kept by the cutting ds, and the AudioControl interface stands in it; opened: with the rules 1 to 3 before it
 --   BrokenAt q K p  ==  the rule K is broken, and p is its one place q
---   cuttingRows s behind  ==  the rows 1 to 9 of the papers' table, and behind them what may speak of all nine kept; groupRows: 5 to 9
+--   cuttingRows s behind  ==  the rows 1 to 9 and 17 of the papers' table, and behind them what may speak of them kept; groupRows: from 5 on
 use Prim.Native.Nat.{ℕ, _+_, _≤_}
 use mathlib.Core.Path.{_≡_}
+use mathlib.Core.Logic.{_⊎_, ⊎-elim}
 use mathlib.Core.List.{List, _∷_, _++_}
 use lib.ListN.{length}
 use Rattle.ground.specs.Lists.{total}
@@ -31,6 +35,18 @@ Rule8 run = (1 ≤ length run) × (length run ≤ mostEntities)
 
 abbrev pub Rule9 : Edition → List (List ℕ) → Type 0
 Rule9 ed run = (d : List ℕ) → d ∈ run → ed .LaidOut d
+
+abbrev pub WrongLayout : Edition → List ℕ → Type 0
+WrongLayout ed d = (ed .LaidOut d → ⊥) × (ed .Withdrawn d → ⊥)
+
+abbrev pub Recognised : Edition → List (List ℕ) → Type 0
+Recognised ed run = (d : List ℕ) → d ∈ run → ed .LaidOut d ⊎ ed .Withdrawn d
+
+abbrev pub NoneWithdrawn : Edition → List (List ℕ) → Type 0
+NoneWithdrawn ed run = (d : List ℕ) → d ∈ run → ed .Withdrawn d → ⊥
+
+abbrev pub laidOut : (ed : Edition) (run : List (List ℕ)) → Recognised ed run → NoneWithdrawn ed run → Rule9 ed run
+laidOut ed run l w d m = ⊎-elim (λ x. x) (λ x. absurd (w d m x)) (l d m)
 
 pub record Opened (s : List ℕ) : Type 0 where
   pub rule1 : Rule1 s
@@ -82,15 +98,16 @@ opened a b c o = record {
 abbrev pub BrokenAt : ℕ → Type 0 → ℕ → Type 0
 BrokenAt q K p = (p ≡ q) × (K → ⊥)
 
--- the rules 5 to 9, in the AudioControl group
+-- the rules from 5 on, in the AudioControl group
 abbrev pub groupRows : {s : List ℕ} (o : Opened s) → (Kept s → Rows) → Rows
 groupRows o behind =
     row 5 (Rule5 (o .tail)) (BrokenAt (headerPlace o) (Rule5 (o .tail))) (λ h.
     row 6 (Rule6 (h .header) (h .others)) (BrokenAt (headerPlace o) (Rule6 (h .header) (h .others))) (λ t.
     row 7 (Rule7 (o .descriptors) (listedOf (h .header))) (BrokenAt (headerPlace o) (Rule7 (o .descriptors) (listedOf (h .header)))) (λ c.
     row 8 (Rule8 (t .run)) (BrokenAt (headerPlace o) (Rule8 (t .run))) (λ m.
-    row 9 (Rule9 audio (t .run)) (Breaks (λ b d. audio .LaidOut d → ⊥) (headerPlace o + length (h .header)) (t .run)) (λ l.
-    behind (record { opened = o; rule5 = h; rule6 = t; rule7 = c; rule8 = m; rule9 = l }))))))
+    row 9 (Recognised audio (t .run)) (Breaks (λ b d. WrongLayout audio d) (headerPlace o + length (h .header)) (t .run)) (λ l.
+    row 17 (NoneWithdrawn audio (t .run)) (Breaks (λ b d. audio .Withdrawn d) (headerPlace o + length (h .header)) (t .run)) (λ w.
+    behind (record { opened = o; rule5 = h; rule6 = t; rule7 = c; rule8 = m; rule9 = laidOut audio (t .run) l w })))))))
 
 abbrev pub cuttingRows : (s : List ℕ) → (Kept s → Rows) → Rows
 cuttingRows s behind =

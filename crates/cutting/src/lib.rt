@@ -1,16 +1,18 @@
-// Layer 1, cutting. What it promises to the layer above: a configuration is refused by the rules 1 to 9 of document 01, with number
-// and place, exactly where it breaks one of them; or it is surveyed: the AudioControl number, where the header stands, how many
+// Layer 1, cutting. What it promises to the layer above: a configuration is refused by the rules 1 to 9 of document 01 and by 17 of document
+// 02, with number and place, exactly where it breaks one of them; or it is surveyed: the AudioControl number, where the header stands, how many
 // entities there are, where each stands, its ID, whether it may be a source, and where its own source IDs stand.
 ghost use mathlib.Core.Path.{_≡_};
 ghost use Prim.Native.Nat.{_+_};
 ghost use Rattle.ground.specs.Numbers.{byte};
-ghost use Rattle.cutting.specs.Survey.{runRefused, refusedSurvey, runSurvey, surveyOf};
+ghost use Rattle.scan.specs.Search.{searched};
+ghost use Rattle.layout.specs.Withdrawn.{isWrong};
+ghost use Rattle.cutting.specs.Survey.{unlaidRefused, runRefused, refusedSurvey, runSurvey, surveyOf};
 use entities::Run;
 use ground::Place;
 use ground::Refusal;
 use groups::Frame;
 
-// What stands in a configuration that the rules 1 to 9 do not refuse; where they do, the refusal and nothing else.
+// What stands in a configuration that these rules do not refuse; where they do, the refusal and nothing else.
 pub struct Survey {
     pub refusal: Refusal,
     pub control: u8,
@@ -18,9 +20,46 @@ pub struct Survey {
     pub run: Run,
 }
 
-// Rules 8 and 9 of a run that is count descriptors long, behind the header; wrong is the place of its first wrong layout.
-fn judge_run(count: usize, wrong: Place, header: usize) -> Refusal
-    ensures { λ r. ⌜ r ≡ runRefused count wrong header ⌝ }
+// The first descriptor from a place on whose layout is wrong.
+fn wrong_layout(s: &[u8], from: usize) -> Place
+    ensures { λ r. ⌜ r ≡ searched (λ b d. isWrong d) (now (s .entry)) from ⌝ }
+{
+    let mut at = from;
+    loop {
+        let e = scan::end_of(s, at);
+        if e == at {
+            return Place::Nowhere;
+        }
+        if layout::is_wrong(&s[at..e]) {
+            return Place::At(at);
+        }
+        at = e;
+    }
+}
+
+// Rules 9 and 17 of the descriptors from a place on, of which some have none of the layouts, if any: the first of them. Only then are the
+// two told apart, by another look at each.
+fn judge_layouts(s: &[u8], from: usize, unlaid: Place) -> Refusal
+    ensures { λ r. ⌜ r ≡ unlaidRefused (now (s .entry)) from unlaid ⌝ }
+{
+    let Place::At(first) = unlaid else {
+        return Refusal {
+            number: 0,
+            place: 0,
+        };
+    };
+    match wrong_layout(s, from) {
+        Place::At(place) => Refusal { number: 9, place },
+        Place::Nowhere => Refusal {
+            number: 17,
+            place: first,
+        },
+    }
+}
+
+// Rules 8, 9 and 17 of a run from a place on, count descriptors long, behind the header.
+fn judge_run(s: &[u8], from: usize, count: usize, unlaid: Place, header: usize) -> Refusal
+    ensures { λ r. ⌜ r ≡ runRefused (now (s .entry)) from count unlaid header ⌝ }
 {
     if count < 1 {
         return Refusal {
@@ -34,13 +73,7 @@ fn judge_run(count: usize, wrong: Place, header: usize) -> Refusal
             place: header,
         };
     }
-    match wrong {
-        Place::At(place) => Refusal { number: 9, place },
-        Place::Nowhere => Refusal {
-            number: 0,
-            place: 0,
-        },
-    }
+    judge_layouts(s, from, unlaid)
 }
 
 // A refusal's survey: interface number 0 and no entity.
@@ -67,8 +100,8 @@ fn survey_run(config: &[u8], f: Frame) -> Survey
     let from = f.run;
     let s = scan::stretch(config, 0, f.end);
     let walk = entities::read_run(s, from);
-    let wrong = walk.wrong;
-    let verdict = judge_run(walk.run.count, wrong, header);
+    let unlaid = walk.unlaid;
+    let verdict = judge_run(s, from, walk.run.count, unlaid, header);
     if verdict.number != 0 {
         return refused(verdict);
     }
@@ -91,7 +124,7 @@ fn number_of(config: &[u8], at: usize) -> u8
     scan::byte_at(config, at + 2)
 }
 
-// The survey of a configuration by the rules 1 to 9.
+// The survey of a configuration by the rules 1 to 9 and 17.
 pub fn cut(config: &[u8]) -> Survey
     ensures { λ r. ⌜ r ≡ surveyOf (now (config .entry)) ⌝ }
 {

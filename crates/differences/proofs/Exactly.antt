@@ -1,19 +1,20 @@
 -- The lines of two sheets say exactly what differs, and they are none exactly where nothing does.
 --   lines-exact   ==  THE LAW: a line for an ID exactly where the records differ, of the kind and with the bytes that differ, by rising ID
---   no-line       ==  .. and no line exactly for the same set of records
+--   no-line       ==  .. and no line exactly for the same set of records, a Selector's kind mended
 --   line-there    ==  the line of an ID that stands in one of the two sheets is among their lines
 --   LineSays, line-says  ==  what a line says of the two records of its ID
 use Prim.Native.Nat.{ℕ, _+_, _≤_, _<_}
 use mathlib.Core.Path.{_≡_, refl, sym, ap, _∙_}
 use mathlib.Core.Option.{Option, none, some}
 use mathlib.Core.Logic.{_⊎_, inl, inr, ⊎-elim, _↔_}
-use mathlib.Core.List.{List, [], _∷_, List·Memᴰ·head, List·Memᴰ·not-nil, List·Memᴰ·cases-cons}
+use mathlib.Core.List.{List, [], _∷_, List·Memᴰ·head, List·Memᴰ·not-nil, List·Memᴰ·cases-cons, map, Memᴰ·map, Memᴰ·of-map}
 use native.Mathlib.Omega.{arith}
-use Rattle.ground.specs.Numbers.{Bytes}
+use Rattle.ground.specs.Numbers.{byte, Bytes}
 use Rattle.ground.specs.Lists.{Some}
 use Rattle.graph.specs.Members.{_∈_, along}
 use Rattle.legal.specs.Sheet.{recordsIn, idOf, Sheet}
 use Rattle.differences.specs.InTurn.{in-turn, of-turn, turn-rising, rising-one}
+use Rattle.differences.specs.Mended.{compared-same, mended, mended-byte, mended-id}
 use Rattle.differences.specs.Lines.{Line, lineId, lastId, recordOf, differing, changedLine, lineOf, lineAt, linesOf}
 use Rattle.differences.specs.Lines.Line.{leftOnly, rightOnly, changed}
 use Rattle.differences.specs.LinesLaws.{line-own, line-few}
@@ -153,43 +154,69 @@ module _ (l r : List ℕ) where
             let same : differing (c .before) (c .after) ≡ ns = rising-one (differing-rising (c .before) (c .after)) (d .rising) (λ n. (λ m. d .each n .1 (differing-each (c .before) (c .after) n .0 m), λ m. differing-each (c .before) (c .after) n .1 (d .each n .0 m))) in
             rw same at (to-changed i (c .on-left) (c .on-right) (c .left-id) (c .right-id) (λ z. d .one (sym same ∙ z)))
 
-    -- records of one ID that no line names are the same
-    same-there : {a b : List ℕ} → a ∈ recordsIn l → b ∈ recordsIn r → idOf a ≡ idOf b → ((x : Line) → x ∈ linesOf l r → lineId x ≡ idOf a → ⊥) → a ≡ b
+    -- records of one ID that no line names are the same, a Selector's kind mended
+    same-there : {a b : List ℕ} → a ∈ recordsIn l → b ∈ recordsIn r → idOf a ≡ idOf b → ((x : Line) → x ∈ linesOf l r → lineId x ≡ idOf a → ⊥) → mended a ≡ mended b
     same-there {a} {b} m n e f =
         ⊎-elim
         (λ d. records-same a b (record-size l m) (record-size r n) d)
         (λ d. absurd (f (changed (idOf a) (differing a b)) (to-changed (idOf a) m n refl (sym e) d) refl))
         (empty-or-not (differing a b))
 
-    pub stays : {a : List ℕ} → a ∈ recordsIn l → ((x : Line) → x ∈ linesOf l r → lineId x ≡ idOf a → ⊥) → a ∈ recordsIn r
+    pub stays : {a : List ℕ} → a ∈ recordsIn l → ((x : Line) → x ∈ linesOf l r → lineId x ≡ idOf a → ⊥) → mended a ∈ map mended (recordsIn r)
     stays {a} m f = go (found-or-not (recordOf r (idOf a)))
       where
-        go : (recordOf r (idOf a) ≡ none) ⊎ ((b : List ℕ) × (recordOf r (idOf a) ≡ some b)) → a ∈ recordsIn r
+        go : (recordOf r (idOf a) ≡ none) ⊎ ((b : List ℕ) × (recordOf r (idOf a) ≡ some b)) → mended a ∈ map mended (recordsIn r)
         go (inl e) =
             absurd (f (leftOnly (idOf a)) (to-left (idOf a) (record { one = a; among = m; has = refl }, λ s. found-none r right (idOf a) e (s .among) (s .has))) refl)
-        go (inr (b, e)) = let g = found-is r (idOf a) e in rw (same-there m (g .0) (sym (g .1)) f) (g .0)
+        go (inr (b, e)) = let g = found-is r (idOf a) e in rw (same-there m (g .0) (sym (g .1)) f) (Memᴰ·map mended (g .0))
 
-    pub stood : {b : List ℕ} → b ∈ recordsIn r → ((x : Line) → x ∈ linesOf l r → lineId x ≡ idOf b → ⊥) → b ∈ recordsIn l
+    pub stood : {b : List ℕ} → b ∈ recordsIn r → ((x : Line) → x ∈ linesOf l r → lineId x ≡ idOf b → ⊥)
+        → (a : List ℕ) × a ∈ recordsIn l × (idOf a ≡ idOf b) × (mended a ≡ mended b)
     stood {b} m f = go (found-or-not (recordOf l (idOf b)))
       where
-        go : (recordOf l (idOf b) ≡ none) ⊎ ((a : List ℕ) × (recordOf l (idOf b) ≡ some a)) → b ∈ recordsIn l
+        go : (recordOf l (idOf b) ≡ none) ⊎ ((a : List ℕ) × (recordOf l (idOf b) ≡ some a)) → (a : List ℕ) × a ∈ recordsIn l × (idOf a ≡ idOf b) × (mended a ≡ mended b)
         go (inl e) =
             absurd (f (rightOnly (idOf b)) (to-right (idOf b) (λ s. found-none l left (idOf b) e (s .among) (s .has), record { one = b; among = m; has = refl })) refl)
         go (inr (a, e)) =
             let g = found-is l (idOf b) e in
-            along refl (rw (same-there (g .0) m (g .1) (λ x k q. f x k (q ∙ g .1))) at (g .0))
+            (a, g .0, g .1, same-there (g .0) m (g .1) (λ x k q. f x k (q ∙ g .1)))
+
+    -- a record of one sheet has one of its ID in the other, if the sets are the same
+    counterpart : (s u : List ℕ) → ((a : List ℕ) → a ∈ map mended (recordsIn s) → a ∈ map mended (recordsIn u)) → {a : List ℕ} → a ∈ recordsIn s
+        → (b : List ℕ) × b ∈ recordsIn u × (idOf b ≡ idOf a) × (mended b ≡ mended a)
+    counterpart s u h {a} m =
+        let k = Memᴰ·of-map mended (recordsIn u) (h (mended a) (Memᴰ·map mended m)) in
+        (k .0, k .1, sym (mended-id (k .0)) ∙ ap idOf (k .2) ∙ mended-id a, k .2)
 
     pub no-line : NoLine l r
-    no-line = (λ e a. (λ m. stays m (λ x k q. nothing e x k), λ m. stood m (λ x k q. nothing e x k)), λ h. no-member (linesOf l r) (λ x m. says h (line-of m)))
+    no-line = (λ e a. (λ m. to e m, λ m. from e m), λ h. no-member (linesOf l r) (λ x m. says h (line-of m)))
       where
         nothing : linesOf l r ≡ [] → (x : Line) → x ∈ linesOf l r → ⊥
         nothing e x m = List·Memᴰ·not-nil (along e m)
 
+        to : linesOf l r ≡ [] → {a : List ℕ} → a ∈ map mended (recordsIn l) → a ∈ map mended (recordsIn r)
+        to e m = let k = Memᴰ·of-map mended (recordsIn l) m in rw (k .2) at (stays (k .1) (λ x i q. nothing e x i))
+
+        from : linesOf l r ≡ [] → {a : List ℕ} → a ∈ map mended (recordsIn r) → a ∈ map mended (recordsIn l)
+        from e m =
+            let k = Memᴰ·of-map mended (recordsIn r) m in
+            let o = stood (k .1) (λ x i q. nothing e x i) in
+            rw (o .3 ∙ k .2) at (Memᴰ·map mended (o .1))
+
         says : SameRecords l r → {i : ℕ} {x : Line} → LineSays i (recordOf l i) (recordOf r i) x → ⊥
-        says h {i} (says-left {a} p q) = let f = found-is l i p in found-none r right i q (h a .0 (f .0)) (f .1)
-        says h {i} (says-right {b} p q) = let f = found-is r i q in found-none l left i p (h b .1 (f .0)) (f .1)
+        says h {i} (says-left {a} p q) =
+            let f = found-is l i p in
+            let k = counterpart l r (λ b. h b .0) (f .0) in
+            found-none r right i q (k .1) (k .2 ∙ f .1)
+        says h {i} (says-right {b} p q) =
+            let f = found-is r i q in
+            let k = counterpart r l (λ a. h a .1) (f .0) in
+            found-none l left i p (k .1) (k .2 ∙ f .1)
         says h {i} (says-changed {a} {b} p q d) =
             let f = found-is l i p in
-            let e : some a ≡ some b = sym (record-found r right (h a .0 (f .0))) ∙ ap (recordOf r) (f .1) ∙ q in
-            let z : a ≡ b = cc in
-            d (no-member (differing a b) (λ n m. differing-each a b n .0 m .1 (rw z refl)))
+            let k = counterpart l r (λ c. h c .0) (f .0) in
+            let c = k .0 in
+            let e : some c ≡ some b = sym (record-found r right (k .1)) ∙ ap (recordOf r) (k .2 ∙ f .1) ∙ q in
+            let z : c ≡ b = cc in
+            let y : mended a ≡ mended b = sym (k .3) ∙ ap mended z in
+            d (no-member (differing a b) (λ n m. differing-each a b n .0 m .1 (compared-same n _ _ (sym (mended-byte a n) ∙ ap (λ (x : List ℕ). byte x n) y ∙ mended-byte b n))))

@@ -12,6 +12,7 @@ use Rattle.ground.specs.Numbers.{Bytes}
 use Rattle.ground.specs.Lists.{any, Some, reads-any}
 use Rattle.graph.specs.Members.{_∈_, along}
 use Rattle.legal.specs.Sheet.{recordsIn, idOf, Sheet}
+use Rattle.differences.specs.Mended.{mended}
 use Rattle.differences.specs.Lines.{Line, lineId, lastId, recordOf, lineAt, linesOf}
 use Rattle.differences.specs.Rebuilt.{Handed, handed, named, untouched, if-any, brought, rebuilt, Rebuilt}
 use Rattle.differences.specs.LinesLaws.{line-own}
@@ -100,20 +101,31 @@ module _ (l r : List ℕ) where
   module _ (left : Sheet l) (right : Sheet r) (lb : Bytes l) (rb : Bytes r) where
     pub rebuilt-right : Rebuilt l r
     unfolding rebuilt
-    rebuilt-right a = (λ m. ⊎-elim kept handed-over (List·Memᴰ·append-cases (untouched (recordsIn l) given) m), back)
+    rebuilt-right a = (to, from)
       where
-        kept : a ∈ untouched (recordsIn l) given → a ∈ recordsIn r
-        kept m = let k = of-untouched (recordsIn l) given m in stays l r left right lb rb (k .0) (unnamed a (k .1))
+        kept : {b : List ℕ} → b ∈ untouched (recordsIn l) given → mended b ∈ map mended (recordsIn r)
+        kept {b} m = let k = of-untouched (recordsIn l) given m in stays l r left right lb rb (k .0) (unnamed b (k .1))
 
-        handed-over : a ∈ brought given → a ∈ recordsIn r
+        handed-over : {b : List ℕ} → b ∈ brought given → mended b ∈ map mended (recordsIn r)
         handed-over m =
             let h = of-brought given m in
             let x = Memᴰ·of-map hand (linesOf l r) (h .1) in
-            found-is r (lineId (x .0)) (ap (λ (k : Handed). k .after) (x .2) ∙ h .2) .0
+            Memᴰ·map mended (found-is r (lineId (x .0)) (ap (λ (k : Handed). k .after) (x .2) ∙ h .2) .0)
 
-        back : a ∈ recordsIn r → a ∈ (untouched (recordsIn l) given ++ brought given)
-        back m =
+        to : a ∈ map mended (untouched (recordsIn l) given ++ brought given) → a ∈ map mended (recordsIn r)
+        to m =
+            let k = Memᴰ·of-map mended (untouched (recordsIn l) given ++ brought given) m in
+            rw (k .2) at (⊎-elim kept handed-over (List·Memᴰ·append-cases (untouched (recordsIn l) given) (k .1)))
+
+        back : {b : List ℕ} → b ∈ recordsIn r → mended b ∈ map mended (untouched (recordsIn l) given ++ brought given)
+        back {b} m =
             ⊎-elim
-            (λ (x : (x : Line) × x ∈ linesOf l r × (lineId x ≡ idOf a)). Memᴰ·append-right (untouched (recordsIn l) given) (in-brought (Memᴰ·map hand (x .1)) (ap (recordOf r) (x .2) ∙ record-found r right m)))
-            (λ f. Memᴰ·append-left (brought given) (in-untouched (recordsIn l) given (stood l r left right lb rb m f) (not-named a f)))
-            (line-or-none (idOf a) (id-above r right m) (id-below r rb m))
+            (λ (x : (x : Line) × x ∈ linesOf l r × (lineId x ≡ idOf b)).
+            Memᴰ·map mended (Memᴰ·append-right (untouched (recordsIn l) given) (in-brought (Memᴰ·map hand (x .1)) (ap (recordOf r) (x .2) ∙ record-found r right m))))
+            (λ f.
+            let o = stood l r left right lb rb m f in
+            rw (o .3) at (Memᴰ·map mended (Memᴰ·append-left (brought given) (in-untouched (recordsIn l) given (o .1) (not-named (o .0) (λ x k q. f x k (q ∙ o .2)))))))
+            (line-or-none (idOf b) (id-above r right m) (id-below r rb m))
+
+        from : a ∈ map mended (recordsIn r) → a ∈ map mended (untouched (recordsIn l) given ++ brought given)
+        from m = let k = Memᴰ·of-map mended (recordsIn r) m in rw (k .2) at (back (k .1))

@@ -3,7 +3,7 @@
 --   record-found    ==  a record of a sheet is what is found for its ID, which is 1 to 255
 --   found-none      ==  where nothing is found for an ID, none of a sheet's records bears it
 --   differing-each, differing-rising  ==  the numbers of the bytes that differ
---   records-same    ==  two records in which no byte differs are the same
+--   records-same    ==  two records in which no byte differs are the same, a Selector's kind mended
 use Prim.Native.Nat.{ℕ, _*_, _≤_, _<_}
 use mathlib.Core.Path.{_≡_, refl, sym, ap, _∙_}
 use mathlib.Core.Bool.{Bool, true, false, not}
@@ -28,6 +28,7 @@ use Rattle.legal.specs.Sheet.{countIn, recordAt, recordsIn, idOf, idAt, Sheet}
 use Rattle.legal.specs.SheetLaws.{record-long, record-byte}
 use Rattle.differences.specs.InTurn.{inTurn, in-turn, of-turn, AtMostOne, Rising, turn-rising}
 use Rattle.differences.specs.InTurn.AtMostOne.{nothing, one}
+use Rattle.differences.specs.Mended.{SameByte, same-compared, comparedAs, reads-same-byte, mended, mended-long, mended-byte}
 use Rattle.differences.specs.Lines.{lastId, recordOf, differs, differing}
 use Rattle.differences.specs.LinesLaws.{record-first}
 
@@ -89,21 +90,21 @@ module _ (a b : List ℕ) where
   abbrev number : ℕ → List ℕ
   number n = pick (differs a b n) (n ∷ []) []
 
-  reads-differs : (n : ℕ) → Reads (differs a b n) (byte a n ≡ byte b n → ⊥)
-  reads-differs n = reads-not _ (reads-eq (byte a n) (byte b n))
+  reads-differs : (n : ℕ) → Reads (differs a b n) (SameByte n (byte a n) (byte b n) → ⊥)
+  reads-differs n = reads-not _ (reads-same-byte n (byte a n) (byte b n))
 
-  in-number : (n : ℕ) {m : ℕ} → m ∈ number n → (m ≡ n) × (byte a n ≡ byte b n → ⊥)
+  in-number : (n : ℕ) {m : ℕ} → m ∈ number n → (m ≡ n) × (SameByte n (byte a n) (byte b n) → ⊥)
   in-number n {m} k = go (differs a b n) (reads-differs n) k
     where
-      go : (c : Bool) → Reads c (byte a n ≡ byte b n → ⊥) → m ∈ pick c (n ∷ []) [] → (m ≡ n) × (byte a n ≡ byte b n → ⊥)
+      go : (c : Bool) → Reads c (SameByte n (byte a n) (byte b n) → ⊥) → m ∈ pick c (n ∷ []) [] → (m ≡ n) × (SameByte n (byte a n) (byte b n) → ⊥)
       go true r k = (⊎-elim (λ e. e) (λ t. absurd (List·Memᴰ·not-nil t)) (List·Memᴰ·cases-cons k), r .says refl)
       go false r k = absurd (List·Memᴰ·not-nil k)
 
-  pub differing-each : (n : ℕ) → n ∈ differing a b ↔ ((n < recordSize) × (byte a n ≡ byte b n → ⊥))
+  pub differing-each : (n : ℕ) → n ∈ differing a b ↔ ((n < recordSize) × (SameByte n (byte a n) (byte b n) → ⊥))
   unfolding differing
   differing-each n = (of, to)
     where
-      of : n ∈ inTurn number 0 recordSize → (n < recordSize) × (byte a n ≡ byte b n → ⊥)
+      of : n ∈ inTurn number 0 recordSize → (n < recordSize) × (SameByte n (byte a n) (byte b n) → ⊥)
       of m =
           let j = of-turn number 0 recordSize m in
           let k = in-number (j .0) (j .3) in
@@ -111,7 +112,7 @@ module _ (a b : List ℕ) where
           let q : n ≡ j .0 = k .0 in
           (omega arith, rw q (k .1))
 
-      to : (n < recordSize) × (byte a n ≡ byte b n → ⊥) → n ∈ inTurn number 0 recordSize
+      to : (n < recordSize) × (SameByte n (byte a n) (byte b n) → ⊥) → n ∈ inTurn number 0 recordSize
       to (h, d) = in-turn number 0 recordSize n (omega arith) (omega arith) (rw (shows (reads-differs n) d) (List·Memᴰ·head refl))
 
   pub differing-rising : Rising (λ n. n) (differing a b)
@@ -125,12 +126,14 @@ module _ (a b : List ℕ) where
           go true = one
           go false = nothing
 
-  pub records-same : length a ≡ recordSize → length b ≡ recordSize → differing a b ≡ [] → a ≡ b
-  records-same p q e = ext-getD 0 a b (p ∙ sym q) (λ n l. same n (omega arith))
+  pub records-same : length a ≡ recordSize → length b ≡ recordSize → differing a b ≡ [] → mended a ≡ mended b
+  records-same p q e =
+      ext-getD 0 (mended a) (mended b) (mended-long a ∙ p ∙ sym (mended-long b ∙ q))
+      (λ n l. let k = mended-long a in mended-byte a n ∙ same-compared (same n (omega arith)) ∙ sym (mended-byte b n))
     where
-      same : (n : ℕ) → n < recordSize → byte a n ≡ byte b n
-      same n l = go (eqb (byte a n) (byte b n)) (reads-eq (byte a n) (byte b n))
+      same : (n : ℕ) → n < recordSize → SameByte n (byte a n) (byte b n)
+      same n l = go (eqb (comparedAs n (byte a n)) (comparedAs n (byte b n))) (reads-same-byte n (byte a n) (byte b n))
         where
-          go : (c : Bool) → Reads c (byte a n ≡ byte b n) → byte a n ≡ byte b n
+          go : (c : Bool) → Reads c (SameByte n (byte a n) (byte b n)) → SameByte n (byte a n) (byte b n)
           go true r = r .says refl
           go false r = absurd (List·Memᴰ·not-nil (along e (differing-each n .1 (l, r .denies refl))))

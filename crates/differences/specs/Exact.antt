@@ -4,8 +4,8 @@
 --   Changed l r i ns  ==  the ID i stands in l and in r, and ns are the numbers of the bytes in which its two records differ
 --   Exact l r         ==  the lines of l and r: `left ID` exactly for an ID that stands in l only, `right ID` for one that stands in r only,
 --                         `changed ID` with exactly the bytes that differ for one whose records differ; IDs rise, so that each has one line
---   SameRecords l r   ==  l and r have the same set of records
---   NoLine l r        ==  there is no line exactly where l and r have the same set of records
+--   SameRecords l r   ==  l and r have the same set of records, but for a Selector's kind, which may be 05 or 15 hex
+--   NoLine l r        ==  there is no line exactly where l and r have the same set of records in that way
 --   toldThen x next   ==  the line x and what next tells from its ID on; nothing where there is no line
 --   called l r k a    ==  what k calls tell: the first asks for the first line above a, each other for the first above the line before it
 --   EveryCall l r     ==  calls from 0 on tell all lines, one after another, and then that there is none
@@ -13,13 +13,14 @@ use Prim.Native.Nat.{ℕ, zero, suc, _<_}
 use mathlib.Core.Path.{_≡_}
 use mathlib.Core.Option.{Option, none, some}
 use mathlib.Core.Logic.{_↔_}
-use mathlib.Core.List.{List, [], _∷_}
+use mathlib.Core.List.{List, [], _∷_, map}
 use Rattle.ground.specs.Numbers.{byte}
 use Rattle.ground.specs.Lists.{Some}
 use Rattle.graph.specs.Members.{_∈_}
 use Rattle.records.specs.Records.{recordSize}
 use Rattle.legal.specs.Sheet.{recordsIn, idOf}
 use Rattle.differences.specs.InTurn.{Rising}
+use Rattle.differences.specs.Mended.{SameByte, mended}
 use Rattle.differences.specs.Lines.{Line, lineId, lastId, linesOf, firstAbove}
 use Rattle.differences.specs.Lines.Line.{leftOnly, rightOnly, changed}
 
@@ -27,7 +28,7 @@ abbrev pub Stands : List ℕ → ℕ → Type 0
 Stands s i = Some (λ a. idOf a ≡ i) (recordsIn s)
 
 pub record Differ (a b ns : List ℕ) : Type 0 where
-  pub each : (n : ℕ) → n ∈ ns ↔ ((n < recordSize) × (byte a n ≡ byte b n → ⊥))
+  pub each : (n : ℕ) → n ∈ ns ↔ ((n < recordSize) × (SameByte n (byte a n) (byte b n) → ⊥))
   pub rising : Rising (λ n. n) ns
   pub one : ns ≡ [] → ⊥
 
@@ -47,7 +48,7 @@ pub record Exact (l r : List ℕ) : Type 0 where
   pub rising : Rising lineId (linesOf l r)
 
 abbrev pub SameRecords : List ℕ → List ℕ → Type 0
-SameRecords l r = (a : List ℕ) → a ∈ recordsIn l ↔ a ∈ recordsIn r
+SameRecords l r = (a : List ℕ) → a ∈ map mended (recordsIn l) ↔ a ∈ map mended (recordsIn r)
 
 abbrev pub NoLine : List ℕ → List ℕ → Type 0
 NoLine l r = (linesOf l r ≡ []) ↔ SameRecords l r

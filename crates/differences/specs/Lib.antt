@@ -1,4 +1,5 @@
 pub mod InTurn
+pub mod Mended
 pub mod Lines
 pub mod Masks
 pub mod LinesLaws

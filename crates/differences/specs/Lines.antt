@@ -4,7 +4,7 @@
 --   lineId x         ==  the line's ID
 --   lastId           ==  the highest ID that a byte holds: 255
 --   recordOf s i     ==  the record of s that bears the ID i, the first where several do; none where it stands nowhere
---   differs a b n    ==  the test that the records a and b differ in byte n, counted from 0
+--   differs a b n    ==  the test that the records a and b differ in byte n, counted from 0; kinds 05 and 15 hex count as the same (document 02, No. 6)
 --   differing a b    ==  the numbers of the bytes in which they differ, rising
 --   changedLine i ns ==  the line of an ID that stands on both sides: none where no byte differs
 --   lineOf i a b     ==  the line of the ID i, whose record on the left is a and on the right b
@@ -32,6 +32,7 @@ use Rattle.legal.specs.Sheet.{countIn, recordAt, idAt, sheetNumber}
 use Rattle.differences.specs.declared.Difference.{Difference}
 use Rattle.differences.specs.declared.Difference.the-variants as difference
 use Rattle.differences.specs.InTurn.{inTurn}
+use Rattle.differences.specs.Mended.{comparedAs}
 
 pub data Line : Type 0 where
   leftOnly : ℕ → Line
@@ -50,7 +51,7 @@ unfoldable pub recordOf : List ℕ → ℕ → Option (List ℕ)
 recordOf s i = firstIn (bears (idAt s) i) (λ j. some (recordAt s j)) none 0 (countIn s)
 
 abbrev pub differs : List ℕ → List ℕ → ℕ → Bool
-differs a b n = not (eqb (byte a n) (byte b n))
+differs a b n = not (eqb (comparedAs n (byte a n)) (comparedAs n (byte b n)))
 
 unfoldable pub differing : List ℕ → List ℕ → List ℕ
 differing a b = inTurn (λ n. pick (differs a b n) (n ∷ []) []) 0 recordSize

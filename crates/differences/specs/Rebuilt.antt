@@ -1,5 +1,5 @@
 -- "Given the left sheet's records and, for each line, the right one's record, the right sheet's set of records can be built again" (document
--- 02, No. 4).
+-- 02, No. 4), up to a Selector's kind, 05 or 15 hex (No. 6).
 --   Handed          ==  a line with the right one's record; a line for an ID that stands on the left only has none
 --   handed r ls     ==  the lines ls, each with the record of its ID in r
 --   named hs a      ==  the test that one of the lines bears the ID of the record a
@@ -8,7 +8,7 @@
 --   brought hs      ==  the records that were handed over with the lines
 --   rebuilt rs hs   ==  the right sheet's records, from the left sheet's records rs and the lines hs: what no line names stays, and what was
 --                       handed over comes in
---   Rebuilt l r     ==  for the sheets l and r it has exactly the records of r
+--   Rebuilt l r     ==  for the sheets l and r it has exactly the records of r, but for that byte
 use Prim.Native.Nat.{ℕ}
 use mathlib.Core.Bool.{Bool}
 use mathlib.Core.Option.{Option, none, some}
@@ -19,6 +19,7 @@ use Rattle.ground.specs.Pick.{pick}
 use Rattle.ground.specs.Lists.{any}
 use Rattle.graph.specs.Members.{_∈_}
 use Rattle.legal.specs.Sheet.{recordsIn, idOf}
+use Rattle.differences.specs.Mended.{mended}
 use Rattle.differences.specs.Lines.{Line, lineId, recordOf, linesOf}
 
 pub record Handed : Type 0 where
@@ -47,4 +48,4 @@ unfoldable pub rebuilt : List (List ℕ) → List Handed → List (List ℕ)
 rebuilt rs hs = untouched rs hs ++ brought hs
 
 abbrev pub Rebuilt : List ℕ → List ℕ → Type 0
-Rebuilt l r = (a : List ℕ) → a ∈ rebuilt (recordsIn l) (handed r (linesOf l r)) ↔ a ∈ recordsIn r
+Rebuilt l r = (a : List ℕ) → a ∈ map mended (rebuilt (recordsIn l) (handed r (linesOf l r))) ↔ a ∈ map mended (recordsIn r)

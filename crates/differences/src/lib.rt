@@ -2,14 +2,23 @@
 // are refused as two sheets, 0 where they are; and, one after another by rising ID, each difference of their records and nothing else. Where
 // bytes are no sheet, an ID's record is the first that bears it, and the bytes behind the last whole record are in none.
 ghost use mathlib.Core.Path.{_≡_};
+ghost use Rattle.ground.specs.Numbers.{byte};
 ghost use Rattle.legal.specs.Sheet.{countIn, recordAt, idAt};
 ghost use Rattle.differences.specs.Lines.{differs, differing, maskOf, linesOf, firstAbove, told, idTold, pairNumber};
+ghost use Rattle.differences.specs.Mended.{comparedAs};
 ghost use Rattle.differences.specs.Lowest.{Lower, LowestAbove, Standing};
 use records::RECORD;
 use scan::byte_at;
 
 // Above every ID.
 const NO_ID: usize = 256;
+
+// The kind's byte in a record, a Selector's kind, and the kind that old sheets have for one that was printed.
+const KIND: usize = 1;
+
+const SELECTOR: u8 = 5;
+
+const PRINTED: u8 = 0x15;
 
 // One ID's difference.
 pub enum Difference {
@@ -84,11 +93,25 @@ fn lowest_above(s: &[u8], above: usize) -> Lowest
     lowest
 }
 
+// A byte of a record as it is compared: 15 hex, the kind of a Selector that was printed, counts as 05 (document 02, No. 6).
+fn compared(a: &[u8], n: usize) -> u8
+    ensures { λ r. ⌜ r ≡ comparedAs n (byte (now (a .entry)) n) ⌝ }
+{
+    let byte = byte_at(a, n);
+    if n != KIND {
+        return byte;
+    }
+    if byte != PRINTED {
+        return byte;
+    }
+    SELECTOR
+}
+
 // Whether two records differ in a byte.
 fn differs_at(a: &[u8], b: &[u8], n: usize) -> bool
     ensures { λ r. ⌜ r ≡ differs (now (a .entry)) (now (b .entry)) n ⌝ }
 {
-    byte_at(a, n) != byte_at(b, n)
+    compared(a, n) != compared(b, n)
 }
 
 // The bytes in which two records differ, a bit for each.

@@ -26,8 +26,9 @@ use lib.ListN.{length, getD}
 use Rattle.ground.specs.Pick.{pick, Reads, reads-eq, reads-and, true≠false}
 use Rattle.layout.specs.declared.Cluster.{Cluster}
 use Rattle.layout.specs.declared.Entity.{Entity}
-use Rattle.layout.specs.declared.Entity.the-variants.{Unknown, Input, Output, Mixer, Selector, Printed, Feature}
+use Rattle.layout.specs.declared.Entity.the-variants.{Unknown, Input, Output, Mixer, Selector, Feature}
 use Rattle.layout.specs.Layout.{LaidOut, entityOf, noCluster}
+use Rattle.layout.specs.Withdrawn.{Printed}
 use Rattle.kinds.specs.Sources.{sourcesFrom, pinsOf, feedsOf}
 use Rattle.kinds.specs.SourcesLaws.{sources-within}
 use Rattle.pins.specs.Same.{AllSame, allSame, reads-same}
@@ -59,7 +60,6 @@ giveOut (Input i t c) cs = c
 giveOut (Output i t s) cs = firstOf cs
 giveOut (Mixer i p c) cs = c
 giveOut (Selector i p) cs = named (firstOf cs) (namesEach cs)
-giveOut (Printed i p) cs = named (firstOf cs) (namesEach cs)
 giveOut (Feature i s n) cs = firstOf cs
 
 abbrev pub controlBytes : ℕ → ℕ
@@ -86,7 +86,6 @@ Keeps (Input i t c) l cs = ClusterKept c
 Keeps (Output i t s) l cs = Unit {0}
 Keeps (Mixer i p c) l cs = ClusterKept c × (l ≡ mixerLength p (c .channels) (channelsIn cs))
 Keeps (Selector i p) l cs = Alike cs
-Keeps (Printed i p) l cs = Alike cs
 Keeps (Feature i s n) l cs = l ≡ featureLength (firstOf cs .channels) n
 
 -- what the reader computes
@@ -105,7 +104,6 @@ keeps (Input i t c) l cs = clusterKept c
 keeps (Output i t s) l cs = true
 keeps (Mixer i p c) l cs = mixerKept p c l cs
 keeps (Selector i p) l cs = alike cs
-keeps (Printed i p) l cs = alike cs
 keeps (Feature i s n) l cs = featureKept n l cs
 
 reads-alike : (cs : List Cluster) → Reads (alike cs) (Alike cs)
@@ -119,12 +117,12 @@ reads-keeps (Input i t c) l cs = reads-cluster c
 reads-keeps (Output i t s) l cs = record { says = λ e. tt; denies = λ e. absurd (true≠false e) }
 reads-keeps (Mixer i p c) l cs = reads-and _ _ (reads-cluster c) (reads-eq l (mixerLength p (c .channels) (channelsIn cs)))
 reads-keeps (Selector i p) l cs = reads-alike cs
-reads-keeps (Printed i p) l cs = reads-alike cs
 reads-keeps (Feature i s n) l cs = reads-eq l (featureLength (firstOf cs .channels) n)
 
 abbrev pub audio : Edition
 audio = record {
   LaidOut = LaidOut;
+  Withdrawn = Printed;
   feeds = λ d. feedsOf (entityOf d);
   first = λ d. sourcesFrom (entityOf d);
   pins = λ d. pinsOf (entityOf d);

@@ -5,8 +5,8 @@
 --   blankNode        ==  a spare place: all zeros
 --   runIn ed p ds    ==  how many there are, and the first 32 of them, spare places blank
 --   walkOf s p       ==  the descriptors that stand in s one after another from place p on, as a run by the Audio 1.0 edition, and the place of
---                        the first that has a wrong layout
---   wrongAt e p      ==  the place p where the entity e, which stands there, has a wrong layout; else nowhere
+--                        the first that has none of its layouts
+--   unlaidAt e p     ==  the place p where the entity e, which stands there, has none of the layouts; else nowhere
 --   earlier a b      ==  the place that a names; where it names none, what b says: a search, then another that goes on behind it
 --   held r           ==  how many entities of the run r are looked at: as many as it counts, at most 32
 --   nodeAt r i       ==  the i-th entity of the run, counted from 0
@@ -48,10 +48,10 @@ unfoldable pub runIn : Edition → ℕ → List (List ℕ) → Run
 runIn ed p ds = record { count = length ds; nodes = pad blankNode mostEntities (nodesFrom ed p ds) }
 
 unfoldable pub walkOf : List ℕ → ℕ → Walk
-walkOf s p = record { run = runIn audio p (rest s p); wrong = searched (λ b d. isUnknown (entityOf d)) s p }
+walkOf s p = record { run = runIn audio p (rest s p); unlaid = searched (λ b d. isUnknown (entityOf d)) s p }
 
-unfoldable pub wrongAt : Entity → ℕ → Place
-wrongAt e p = pick (isUnknown e) (At p) Nowhere
+unfoldable pub unlaidAt : Entity → ℕ → Place
+unlaidAt e p = pick (isUnknown e) (At p) Nowhere
 
 unfoldable pub earlier : Place → Place → Place
 earlier Nowhere b = b

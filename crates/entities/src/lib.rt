@@ -6,7 +6,7 @@ ghost use mathlib.Core.Path.{_≡_};
 ghost use lib.ListN.{length};
 ghost use Rattle.layout.specs.Layout.{entityOf};
 ghost use Rattle.edition.specs.Audio.{audio};
-ghost use Rattle.entities.specs.Run.{blankNode, nodeOf, held, sourcesOf, earlier, wrongAt, walkOf};
+ghost use Rattle.entities.specs.Run.{blankNode, nodeOf, held, sourcesOf, earlier, unlaidAt, walkOf};
 use ground::Place;
 use layout::Entity;
 use scan::byte_at;
@@ -30,10 +30,10 @@ pub struct Run {
     pub nodes: [Node; 32],
 }
 
-// A run, and the place of its first descriptor that has a wrong layout.
+// A run, and the place of its first descriptor that has none of the layouts.
 pub struct Walk {
     pub run: Run,
-    pub wrong: Place,
+    pub unlaid: Place,
 }
 
 // A spare place.
@@ -90,9 +90,9 @@ fn node_of(d: &[u8], entity: Entity, place: usize) -> Node
     }
 }
 
-// The place of the first wrong layout so far, where an entity stands at the next place.
-fn first_wrong(before: Place, entity: Entity, at: usize) -> Place
-    ensures { λ r. ⌜ r ≡ earlier before (wrongAt entity at) ⌝ }
+// The place of the first entity so far that has none of the layouts, where an entity stands at the next place.
+fn first_unlaid(before: Place, entity: Entity, at: usize) -> Place
+    ensures { λ r. ⌜ r ≡ earlier before (unlaidAt entity at) ⌝ }
 {
     if let Place::At(_) = before {
         return before;
@@ -104,24 +104,24 @@ fn first_wrong(before: Place, entity: Entity, at: usize) -> Place
     }
 }
 
-// The descriptors that stand one after another from a place on, as entities, and the first of them that has a wrong layout.
+// The descriptors that stand one after another from a place on, as entities, and the first of them that has none of the layouts.
 pub fn read_run(s: &[u8], from: usize) -> Walk
     ensures { λ r. ⌜ r ≡ walkOf (now (s .entry)) from ⌝ }
 {
     let spare = blank();
     let mut nodes = [spare; 32];
     let mut count: usize = 0;
-    let mut wrong = Place::Nowhere;
+    let mut unlaid = Place::Nowhere;
     let mut at = from;
     loop {
         let e = scan::end_of(s, at);
         if e == at {
             let run = Run { count, nodes };
-            return Walk { run, wrong };
+            return Walk { run, unlaid };
         }
         let entity = layout::read(&s[at..e]);
-        let next = first_wrong(wrong, entity, at);
-        wrong = next;
+        let next = first_unlaid(unlaid, entity, at);
+        unlaid = next;
         if count < MOST_ENTITIES {
             nodes[count] = node_of(&s[at..e], entity, at);
         }

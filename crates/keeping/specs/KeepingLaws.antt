@@ -8,7 +8,7 @@ use mathlib.Core.List.{List, [], _∷_, map}
 use lib.ListN.{length}
 use Rattle.layout.specs.declared.Cluster.{Cluster}
 use Rattle.layout.specs.declared.Entity.{Entity}
-use Rattle.layout.specs.declared.Entity.the-variants.{Unknown, Input, Output, Mixer, Selector, Printed, Feature}
+use Rattle.layout.specs.declared.Entity.the-variants.{Unknown, Input, Output, Mixer, Selector, Feature}
 use Rattle.layout.specs.Layout.{entityOf}
 use Rattle.entities.specs.declared.Node.{Node}
 use Rattle.entities.specs.Run.{sourcesOf, descriptorOf}
@@ -55,7 +55,6 @@ module _ (f g : ℕ → Cluster) (channels : (x : ℕ) → f x .channels ≡ g x
   keeps-same (Output i t s) l ids = refl
   keeps-same (Mixer i p c) l ids = mixer-same f g channels p c l ids
   keeps-same (Selector i p) l ids = alike-same ids
-  keeps-same (Printed i p) l ids = alike-same ids
   keeps-same (Feature i s n) l ids = feature-same f g channels n l ids
 
 pub keeps-content : (s : List ℕ) (n : Node) (channels locations names : List ℕ)

@@ -94,7 +94,6 @@ pub fn kept(config: &[u8], node: Node, counts: &[u8; 256], bitmaps: &[u16; 256])
         Entity::Output { .. } => true,
         Entity::Mixer { pins, cluster, .. } => mixer_kept(ids, counts, pins, cluster, d.len()),
         Entity::Selector { .. } => selector_kept(ids, counts, bitmaps),
-        Entity::Printed { .. } => selector_kept(ids, counts, bitmaps),
         Entity::Feature { size, .. } => feature_kept(ids, counts, size, d.len()),
     }
 }

@@ -9,7 +9,7 @@ use mathlib.Core.Option.{Option, none, some}
 use mathlib.Core.List.{List}
 use lib.ListN.{take, drop}
 use Rattle.layout.specs.declared.Entity.{Entity}
-use Rattle.layout.specs.declared.Entity.the-variants.{Unknown, Input, Output, Mixer, Selector, Printed, Feature}
+use Rattle.layout.specs.declared.Entity.the-variants.{Unknown, Input, Output, Mixer, Selector, Feature}
 use Rattle.layout.specs.Format.{firstSource}
 use Rattle.layout.specs.Layouts.{Kind, formatOf}
 use Rattle.layout.specs.Layout.{entityOf}
@@ -21,7 +21,6 @@ pinsOf (Input i t c) = 0
 pinsOf (Output i t s) = 1
 pinsOf (Mixer i p c) = p
 pinsOf (Selector i p) = p
-pinsOf (Printed i p) = p
 pinsOf (Feature i s n) = 1
 
 abbrev pub begins : Option Kind → ℕ
@@ -40,5 +39,4 @@ feedsOf (Input i t c) = true
 feedsOf (Output i t s) = false
 feedsOf (Mixer i p c) = true
 feedsOf (Selector i p) = true
-feedsOf (Printed i p) = true
 feedsOf (Feature i s n) = true

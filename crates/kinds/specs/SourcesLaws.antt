@@ -14,14 +14,14 @@ use lib.Seq.{getD-take, getD-drop}
 use native.Mathlib.Omega.{arith}
 use Rattle.ground.specs.Numbers.{byte}
 use Rattle.layout.specs.declared.Entity.{Entity}
-use Rattle.layout.specs.declared.Entity.the-variants.{Unknown, Input, Output, Mixer, Selector, Printed, Feature}
+use Rattle.layout.specs.declared.Entity.the-variants.{Unknown, Input, Output, Mixer, Selector, Feature}
 use Rattle.layout.specs.FormatLaws.{stretch-length}
 use Rattle.layout.specs.Layouts.{mostPins}
 use Rattle.layout.specs.Fields as fields
 use Rattle.layout.specs.Fields.{Fields, fieldsOf, fedBy, fedFrom}
 use Rattle.layout.specs.FieldsLaws.{fed-standing}
 use Rattle.layout.specs.Layout.{entityOf, entityIn}
-use Rattle.layout.specs.LayoutLaws.{Told, told, unknown, input, output, mixer, selector, printed, feature}
+use Rattle.layout.specs.LayoutLaws.{Told, told, unknown, input, output, mixer, selector, feature}
 use Rattle.kinds.specs.Sources.{pinsOf, sourcesFrom, sourceIds}
 
 pub sources-from-low : (e : Entity) → sourcesFrom e ≤ 7
@@ -31,7 +31,6 @@ sources-from-low (Input i t c) = omega arith
 sources-from-low (Output i t s) = omega arith
 sources-from-low (Mixer i p c) = omega arith
 sources-from-low (Selector i p) = omega arith
-sources-from-low (Printed i p) = omega arith
 sources-from-low (Feature i s n) = omega arith
 
 -- the sources of what the fields are, for each layout
@@ -41,7 +40,6 @@ pins-in (fields.input i t a c l m n) = refl
 pins-in (fields.output i t a s n) = refl
 pins-in (fields.mixer i s c l m k n) = refl
 pins-in (fields.selector i s n) = refl
-pins-in (fields.printed i s n) = refl
 pins-in (fields.feature i s z k n) = refl
 
 from-in : (f : Fields) → sourcesFrom (entityIn (some f)) ≡ fedFrom f
@@ -50,7 +48,6 @@ from-in (fields.input i t a c l m n) = refl
 from-in (fields.output i t a s n) = refl
 from-in (fields.mixer i s c l m k n) = refl
 from-in (fields.selector i s n) = refl
-from-in (fields.printed i s n) = refl
 from-in (fields.feature i s z k n) = refl
 
 module _ (d : List ℕ) (f : Fields) (e : fieldsOf d ≡ some f) where
@@ -95,5 +92,4 @@ pins-few d = of (told d)
     of (output k l) = omega arith
     of (mixer k q l) = q .1
     of (selector k q l) = q .1
-    of (printed k q l z) = q .1
     of (feature k q l) = omega arith

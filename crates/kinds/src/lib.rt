@@ -5,7 +5,7 @@ ghost use Rattle.kinds.specs.Shown.{kindOf};
 ghost use Rattle.kinds.specs.Sources.{sourcesFrom, pinsOf, feedsOf};
 use layout::Entity;
 
-// The number of an entity's kind on the sheet: byte 2, but 15 hex for the printed Selector.
+// The number of an entity's kind on the sheet: byte 2.
 pub fn kind(entity: Entity) -> u8
     ensures { λ r. ⌜ r ≡ kindOf entity ⌝ }
 {
@@ -15,7 +15,6 @@ pub fn kind(entity: Entity) -> u8
         Entity::Output { .. } => 3,
         Entity::Mixer { .. } => 4,
         Entity::Selector { .. } => 5,
-        Entity::Printed { .. } => 0x15,
         Entity::Feature { .. } => 6,
     }
 }
@@ -30,7 +29,6 @@ pub fn sources_from(entity: Entity) -> usize
         Entity::Output { .. } => 7,
         Entity::Mixer { .. } => 5,
         Entity::Selector { .. } => 5,
-        Entity::Printed { .. } => 6,
         Entity::Feature { .. } => 4,
     }
 }
@@ -45,7 +43,6 @@ pub fn pins(entity: Entity) -> u8
         Entity::Output { .. } => 1,
         Entity::Mixer { pins, .. } => pins,
         Entity::Selector { pins, .. } => pins,
-        Entity::Printed { pins, .. } => pins,
         Entity::Feature { .. } => 1,
     }
 }
@@ -60,7 +57,6 @@ pub fn feeds(entity: Entity) -> bool
         Entity::Output { .. } => false,
         Entity::Mixer { .. } => true,
         Entity::Selector { .. } => true,
-        Entity::Printed { .. } => true,
         Entity::Feature { .. } => true,
     }
 }

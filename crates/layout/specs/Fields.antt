@@ -27,7 +27,6 @@ pub data Fields : Type 0 where
   output : (id : ℕ) (terminal : TwoBytes) (paired source name : ℕ) → Fields
   mixer : (id : ℕ) (sources : List ℕ) (channels : ℕ) (locations : TwoBytes) (names : ℕ) (controls : List ℕ) (name : ℕ) → Fields
   selector : (id : ℕ) (sources : List ℕ) (name : ℕ) → Fields
-  printed : (id : ℕ) (sources : List ℕ) (name : ℕ) → Fields
   feature : (id source size : ℕ) (masks : List ℕ) (name : ℕ) → Fields
 
 abbrev pub layoutBy : Fields → Kind
@@ -35,7 +34,6 @@ layoutBy (input i t a c l m n) = kind.input
 layoutBy (output i t a s n) = kind.output
 layoutBy (mixer i s c l m k n) = kind.mixer
 layoutBy (selector i s n) = kind.selector
-layoutBy (printed i s n) = kind.printed
 layoutBy (feature i s z k n) = kind.feature
 
 abbrev pub valueOf : (f : Fields) → Value (formatOf (layoutBy f))
@@ -43,7 +41,6 @@ valueOf (input i t a c l m n) = (i, (t, (a, (c, (l, (m, n))))))
 valueOf (output i t a s n) = (i, (t, (a, (s, n))))
 valueOf (mixer i s c l m k n) = (i, (s, (c, (l, (m, (k, n))))))
 valueOf (selector i s n) = (i, (s, n))
-valueOf (printed i s n) = (i, (s, n))
 valueOf (feature i s z k n) = (i, (s, (z, (k, n))))
 
 abbrev pub fieldsAt : (k : Kind) → Value (formatOf k) → Fields
@@ -51,7 +48,6 @@ fieldsAt kind.input v = input (v .0) (v .1 .0) (v .1 .1 .0) (v .1 .1 .1 .0) (v .
 fieldsAt kind.output v = output (v .0) (v .1 .0) (v .1 .1 .0) (v .1 .1 .1 .0) (v .1 .1 .1 .1)
 fieldsAt kind.mixer v = mixer (v .0) (v .1 .0) (v .1 .1 .0) (v .1 .1 .1 .0) (v .1 .1 .1 .1 .0) (v .1 .1 .1 .1 .1 .0) (v .1 .1 .1 .1 .1 .1)
 fieldsAt kind.selector v = selector (v .0) (v .1 .0) (v .1 .1)
-fieldsAt kind.printed v = printed (v .0) (v .1 .0) (v .1 .1)
 fieldsAt kind.feature v = feature (v .0) (v .1 .0) (v .1 .1 .0) (v .1 .1 .1 .0) (v .1 .1 .1 .1)
 
 abbrev pub bodyOf : Fields → List ℕ

@@ -26,7 +26,7 @@ use Rattle.layout.specs.Format.{Value, emit, fits, valueAt, InRange}
 use Rattle.layout.specs.FormatLaws.{found, again, fits-inside, here-at, after-at, fed-part, fed-inside}
 use Rattle.layout.specs.Layouts as kind
 use Rattle.layout.specs.Layouts.{Kind, numberOf, formatOf, mostPins, kinds, kindsIn, kindsOf}
-use Rattle.layout.specs.Fields.{Fields, input, output, mixer, selector, printed, feature, layoutBy, valueOf, fieldsAt, bodyOf, descriptorType, bytesOf, Kept, LaidOut, fieldsBy, fieldsOf, fedBy, fedFrom}
+use Rattle.layout.specs.Fields.{Fields, input, output, mixer, selector, feature, layoutBy, valueOf, fieldsAt, bodyOf, descriptorType, bytesOf, Kept, LaidOut, fieldsBy, fieldsOf, fedBy, fedFrom}
 
 -- ---- the layouts, one by one
 
@@ -35,7 +35,6 @@ value-fields (input i t a c l m n) = refl
 value-fields (output i t a s n) = refl
 value-fields (mixer i s c l m k n) = refl
 value-fields (selector i s n) = refl
-value-fields (printed i s n) = refl
 value-fields (feature i s z k n) = refl
 
 fields-body : (k : Kind) (v : Value (formatOf k)) → bodyOf (fieldsAt k v) ≡ numberOf k ∷ emit (formatOf k) v
@@ -43,7 +42,6 @@ fields-body kind.input v = refl
 fields-body kind.output v = refl
 fields-body kind.mixer v = refl
 fields-body kind.selector v = refl
-fields-body kind.printed v = refl
 fields-body kind.feature v = refl
 
 fields-kept : (k : Kind) (v : Value (formatOf k)) → InRange (formatOf k) v → Kept (fieldsAt k v)
@@ -51,7 +49,6 @@ fields-kept kind.input v g = g
 fields-kept kind.output v g = g
 fields-kept kind.mixer v g = g
 fields-kept kind.selector v g = g
-fields-kept kind.printed v g = g
 fields-kept kind.feature v g = g
 
 -- ---- tests
@@ -91,21 +88,12 @@ module _ (d : List ℕ) (f : Fields) where
 -- ---- written, then read
 
 module _ (d : List ℕ) where
-  -- of the two layouts of a Selector, the length tells
-  not-both : (i : ℕ) (s : List ℕ) (n : ℕ) → drop 2 d ≡ bodyOf (printed i s n) → fits (formatOf kind.selector) d 3 ≡ false
-  not-both i s n e =
-      let c : byte d 4 ≡ length s = here-at d 4 _ _ (after-at d 3 _ _ (after-at d 2 _ _ e)) in
-      let l = length-append s (n ∷ []) in
-      let m : length d - 2 ≡ suc (suc (suc (suc (length (s ++ n ∷ []))))) = sym (length-drop 2 d) ∙ ap length e in
-      refutes (reads-and _ _ (reads-within 1 (byte d 4) mostPins) (reads-eq (length d) _)) (λ h. let q = h .1 in omega arith)
-
   by-layout : (f : Fields) → Kept f → drop 2 d ≡ bodyOf f → fits (formatOf (layoutBy f)) d 3 ≡ true
       → fieldsBy (kindsOf (numberOf (layoutBy f))) d ≡ some (fieldsAt (layoutBy f) (valueAt (formatOf (layoutBy f)) d 3))
   by-layout (input i t a c l m n) g e p = yes _ _ p
   by-layout (output i t a s n) g e p = yes _ _ p
   by-layout (mixer i s c l m k n) g e p = yes _ _ p
   by-layout (selector i s n) g e p = yes _ _ p
-  by-layout (printed i s n) g e p = no _ _ (not-both i s n e) ∙ yes _ _ p
   by-layout (feature i s z k n) g e p = yes _ _ p
 
   pub read-body : (f : Fields) → Kept f → drop 2 d ≡ bodyOf f → fieldsOf d ≡ some f
@@ -183,7 +171,6 @@ fed-by-kind d kind.input e = record { part = fed-part (formatOf kind.input) d 3 
 fed-by-kind d kind.output e = record { part = fed-part (formatOf kind.output) d 3 e; inside = fed-inside (formatOf kind.output) d 3 e }
 fed-by-kind d kind.mixer e = record { part = fed-part (formatOf kind.mixer) d 3 e; inside = fed-inside (formatOf kind.mixer) d 3 e }
 fed-by-kind d kind.selector e = record { part = fed-part (formatOf kind.selector) d 3 e; inside = fed-inside (formatOf kind.selector) d 3 e }
-fed-by-kind d kind.printed e = record { part = fed-part (formatOf kind.printed) d 3 e; inside = fed-inside (formatOf kind.printed) d 3 e }
 fed-by-kind d kind.feature e = record { part = fed-part (formatOf kind.feature) d 3 e; inside = fed-inside (formatOf kind.feature) d 3 e }
 
 pub fed-standing : (d : List ℕ) (f : Fields) → fieldsOf d ≡ some f → Standing d f

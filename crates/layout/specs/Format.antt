@@ -4,7 +4,7 @@
 --   Format            ==  the forms of fields: last: one byte, the end; rest: any number of bytes, then one byte, the end;
 --                         byte F: a byte, then F; source F: a byte that is the ID of a source, then F; ranged low high F: a byte from
 --                         low to high, then F; word F: a number of two bytes, then F; sources low high F: a byte p from low to high,
---                         p IDs of sources, then F; padded low high F: p, a byte 0, p IDs of sources, then F
+--                         p IDs of sources, then F
 --   TwoBytes          ==  two bytes as they stand, the low one first
 --   wordOf w, twoOf n ==  the number that two bytes are; the two bytes of a number
 --   Value F           ==  what the fields hold: a number, two bytes, or a list where their number varies
@@ -31,7 +31,6 @@ pub data Format : Type 0 where
   ranged : ℕ → ℕ → Format → Format
   word : Format → Format
   sources : ℕ → ℕ → Format → Format
-  padded : ℕ → ℕ → Format → Format
 
 pub record TwoBytes : Type 0 where
   pub low : ℕ
@@ -51,7 +50,6 @@ Value (source F) = ℕ × Value F
 Value (ranged low high F) = ℕ × Value F
 Value (word F) = TwoBytes × Value F
 Value (sources low high F) = List ℕ × Value F
-Value (padded low high F) = List ℕ × Value F
 
 abbrev pub emit : (F : Format) → Value F → List ℕ
 emit last v = v ∷ []
@@ -61,7 +59,6 @@ emit (source F) v = v .0 ∷ emit F (v .1)
 emit (ranged low high F) v = v .0 ∷ emit F (v .1)
 emit (word F) v = v .0 .low ∷ v .0 .high ∷ emit F (v .1)
 emit (sources low high F) v = length (v .0) ∷ (v .0 ++ emit F (v .1))
-emit (padded low high F) v = length (v .0) ∷ 0 ∷ (v .0 ++ emit F (v .1))
 
 abbrev pub fits : Format → List ℕ → ℕ → Bool
 fits last d k = eqb (length d) (k + 1)
@@ -71,7 +68,6 @@ fits (source F) d k = fits F d (k + 1)
 fits (ranged low high F) d k = within low (at.byte d k) high && fits F d (k + 1)
 fits (word F) d k = fits F d (k + 2)
 fits (sources low high F) d k = within low (at.byte d k) high && fits F d (k + 1 + at.byte d k)
-fits (padded low high F) d k = within low (at.byte d k) high && (eqb (at.byte d (k + 1)) 0 && fits F d (k + 2 + at.byte d k))
 
 abbrev pub valueAt : (F : Format) → List ℕ → ℕ → Value F
 valueAt last d k = at.byte d k
@@ -81,7 +77,6 @@ valueAt (source F) d k = (at.byte d k, valueAt F d (k + 1))
 valueAt (ranged low high F) d k = (at.byte d k, valueAt F d (k + 1))
 valueAt (word F) d k = (record { low = at.byte d k; high = at.byte d (k + 1) }, valueAt F d (k + 2))
 valueAt (sources low high F) d k = (take (at.byte d k) (drop (k + 1) d), valueAt F d (k + 1 + at.byte d k))
-valueAt (padded low high F) d k = (take (at.byte d k) (drop (k + 2) d), valueAt F d (k + 2 + at.byte d k))
 
 abbrev pub InRange : (F : Format) → Value F → Type 0
 InRange last v = Unit {0}
@@ -91,7 +86,6 @@ InRange (source F) v = InRange F (v .1)
 InRange (ranged low high F) v = ((low ≤ v .0) × (v .0 ≤ high)) × InRange F (v .1)
 InRange (word F) v = InRange F (v .1)
 InRange (sources low high F) v = ((low ≤ length (v .0)) × (length (v .0) ≤ high)) × InRange F (v .1)
-InRange (padded low high F) v = ((low ≤ length (v .0)) × (length (v .0) ≤ high)) × InRange F (v .1)
 
 abbrev pub fed : (F : Format) → Value F → List ℕ
 fed last v = []
@@ -101,7 +95,6 @@ fed (source F) v = v .0 ∷ []
 fed (ranged low high F) v = fed F (v .1)
 fed (word F) v = fed F (v .1)
 fed (sources low high F) v = v .0
-fed (padded low high F) v = v .0
 
 abbrev pub firstSource : Format → ℕ → ℕ
 firstSource last k = 0
@@ -111,4 +104,3 @@ firstSource (source F) k = k
 firstSource (ranged low high F) k = firstSource F (k + 1)
 firstSource (word F) k = firstSource F (k + 2)
 firstSource (sources low high F) k = k + 1
-firstSource (padded low high F) k = k + 2

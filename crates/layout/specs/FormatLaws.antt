@@ -21,7 +21,7 @@ use lib.Dec.{eqb}
 use borrow.Author.Tests.{eq-eqb, eqb-true, le-leb, leb-true}
 use Rattle.ground.specs.Pick.{within, shows, reads-within, reads-and, reads-true}
 use Rattle.ground.specs.Numbers as at
-use Rattle.layout.specs.Format.{Format, last, rest, byte, source, ranged, word, sources, padded, TwoBytes, wordOf, twoOf, Value, emit, fits, valueAt, InRange, fed, firstSource}
+use Rattle.layout.specs.Format.{Format, last, rest, byte, source, ranged, word, sources, TwoBytes, wordOf, twoOf, Value, emit, fits, valueAt, InRange, fed, firstSource}
 
 pub word-two : (n : ℕ) → wordOf (twoOf n) ≡ n
 word-two n = omega arith
@@ -68,10 +68,6 @@ fits-inside (source F) d k e = let h = fits-inside F d (k + 1) e in omega arith
 fits-inside (ranged low high F) d k e = let h = fits-inside F d (k + 1) (each (within low (at.byte d k) high) _ e .1) in omega arith
 fits-inside (word F) d k e = let h = fits-inside F d (k + 2) e in omega arith
 fits-inside (sources low high F) d k e = let h = fits-inside F d (k + 1 + at.byte d k) (each (within low (at.byte d k) high) _ e .1) in omega arith
-fits-inside (padded low high F) d k e =
-    let t = each (within low (at.byte d k) high) _ e .1 in
-    let h = fits-inside F d (k + 2 + at.byte d k) (each (eqb (at.byte d (k + 1)) 0) _ t .1) in
-    omega arith
 
 -- ---- written, then read
 
@@ -121,18 +117,6 @@ found (sources low high F) d k v e g =
     record {
       passes = both p (rw h (r .passes));
       same = rw (h, take-after d (k + 1) (v .0) (emit F (v .1)) f, r .same) refl;
-    }
-found (padded low high F) d k v e g =
-    let h : at.byte d k ≡ length (v .0) = here-at d k _ _ e in
-    let f : drop (k + 1) d ≡ 0 ∷ (v .0 ++ emit F (v .1)) = after-at d k _ _ e in
-    let j : k + 1 + 1 ≡ k + 2 = omega arith in
-    let o : drop (k + 2) d ≡ v .0 ++ emit F (v .1) = rw j at (after-at d (k + 1) _ _ f) in
-    let r = found F d (k + 2 + length (v .0)) (v .1) (drop-after d (k + 2) (v .0) _ o) (g .1) in
-    let p : within low (at.byte d k) high ≡ true = shows (reads-within low (at.byte d k) high) (rw h (g .0)) in
-    let z : eqb (at.byte d (k + 1)) 0 ≡ true = eq-eqb _ 0 (here-at d (k + 1) _ _ f) in
-    record {
-      passes = both p (both z (rw h (r .passes)));
-      same = rw (h, take-after d (k + 2) (v .0) (emit F (v .1)) o, r .same) refl;
     }
 
 -- ---- read, then written
@@ -195,24 +179,6 @@ again (sources low high F) d k e =
           ∙ ap (λ (i : ℕ). i ∷ (take p (drop (k + 1) d) ++ emit F (valueAt F d (k + 1 + p)))) (sym n);
       ranges = (rw n q, r .ranges);
     }
-again (padded low high F) d k e =
-    let t = each (within low (at.byte d k) high) _ e in
-    let p = at.byte d k in
-    let u = each (eqb (at.byte d (k + 1)) 0) _ (t .1) in
-    let r = again F d (k + 2 + p) (u .1) in
-    let h = fits-inside F d (k + 2 + p) (u .1) in
-    let q = reads-within low (at.byte d k) high .says (t .0) in
-    let z = eqb-true (at.byte d (k + 1)) 0 (u .0) in
-    let j : k + 1 + 1 ≡ k + 2 = omega arith in
-    let n : length (take p (drop (k + 2) d)) ≡ p = stretch-length d (k + 2) p (omega arith) in
-    let g : drop (k + 1) d ≡ 0 ∷ drop (k + 2) d = (rw j at (open-at d (k + 1) (omega arith))) ∙ ap (λ (i : ℕ). i ∷ drop (k + 2) d) z in
-    record {
-      bytes =
-          open-at d k (omega arith)
-          ∙ ap (λ (l : List ℕ). p ∷ l) (g ∙ ap (λ (l : List ℕ). 0 ∷ l) (list-again F d (k + 2) p r))
-          ∙ ap (λ (i : ℕ). i ∷ 0 ∷ (take p (drop (k + 2) d) ++ emit F (valueAt F d (k + 2 + p)))) (sym n);
-      ranges = (rw n q, r .ranges);
-    }
 
 -- ---- the sources
 
@@ -234,10 +200,6 @@ fed-part (word F) d k e = fed-part F d (k + 2) e
 fed-part (sources low high F) d k e =
     let h = fits-inside F d (k + 1 + at.byte d k) (each (within low (at.byte d k) high) _ e .1) in
     own-length d (k + 1) (at.byte d k) (omega arith)
-fed-part (padded low high F) d k e =
-    let t = each (within low (at.byte d k) high) _ e .1 in
-    let h = fits-inside F d (k + 2 + at.byte d k) (each (eqb (at.byte d (k + 1)) 0) _ t .1) in
-    own-length d (k + 2) (at.byte d k) (omega arith)
 
 pub fed-inside : (F : Format) (d : List ℕ) (k : ℕ) → fits F d k ≡ true → firstSource F k + length (fed F (valueAt F d k)) ≤ length d
 fed-inside last d k e = omega arith
@@ -249,9 +211,4 @@ fed-inside (word F) d k e = fed-inside F d (k + 2) e
 fed-inside (sources low high F) d k e =
     let h = fits-inside F d (k + 1 + at.byte d k) (each (within low (at.byte d k) high) _ e .1) in
     let n = stretch-length d (k + 1) (at.byte d k) (omega arith) in
-    omega arith
-fed-inside (padded low high F) d k e =
-    let t = each (within low (at.byte d k) high) _ e .1 in
-    let h = fits-inside F d (k + 2 + at.byte d k) (each (eqb (at.byte d (k + 1)) 0) _ t .1) in
-    let n = stretch-length d (k + 2) (at.byte d k) (omega arith) in
     omega arith

@@ -10,7 +10,6 @@
 --   entityOf d               ==  what the reader makes of d: by the layouts whose number is byte 2
 --   idOf e                   ==  the ID that an entity bears
 --   isUnknown e              ==  the layout was wrong
---   layoutNumber e           ==  the refusal that it asks for: 9 where the layout was wrong, else 0
 use Prim.Native.Nat.{ℕ, _+_}
 use mathlib.Core.Bool.{Bool, true, false}
 use mathlib.Core.Option.{Option, none, some}
@@ -19,7 +18,7 @@ use lib.ListN.{length}
 use Rattle.ground.specs.Numbers.{byte, word}
 use Rattle.layout.specs.declared.Cluster.{Cluster}
 use Rattle.layout.specs.declared.Entity.{Entity}
-use Rattle.layout.specs.declared.Entity.the-variants.{Unknown, Input, Output, Mixer, Selector, Printed, Feature}
+use Rattle.layout.specs.declared.Entity.the-variants.{Unknown, Input, Output, Mixer, Selector, Feature}
 use Rattle.layout.specs.Format.{TwoBytes, wordOf}
 use Rattle.layout.specs.Layouts as kind
 use Rattle.layout.specs.Layouts.{Kind, numberOf, kindsOf}
@@ -43,7 +42,6 @@ entityIn (some (fields.input i t a c l m n)) = Input i (wordOf t) (declared c l 
 entityIn (some (fields.output i t a s n)) = Output i (wordOf t) s
 entityIn (some (fields.mixer i s c l m k n)) = Mixer i (length s) (declared c l m)
 entityIn (some (fields.selector i s n)) = Selector i (length s)
-entityIn (some (fields.printed i s n)) = Printed i (length s)
 entityIn (some (fields.feature i s z k n)) = Feature i s z
 
 abbrev pub entityBy : List Kind → List ℕ → Entity
@@ -73,7 +71,6 @@ idOf (Input i t c) = i
 idOf (Output i t s) = i
 idOf (Mixer i p c) = i
 idOf (Selector i p) = i
-idOf (Printed i p) = i
 idOf (Feature i s n) = i
 
 unfoldable pub isUnknown : Entity → Bool
@@ -82,14 +79,4 @@ isUnknown (Input i t c) = false
 isUnknown (Output i t s) = false
 isUnknown (Mixer i p c) = false
 isUnknown (Selector i p) = false
-isUnknown (Printed i p) = false
 isUnknown (Feature i s n) = false
-
-unfoldable pub layoutNumber : Entity → ℕ
-layoutNumber Unknown = 9
-layoutNumber (Input i t c) = 0
-layoutNumber (Output i t s) = 0
-layoutNumber (Mixer i p c) = 0
-layoutNumber (Selector i p) = 0
-layoutNumber (Printed i p) = 0
-layoutNumber (Feature i s n) = 0

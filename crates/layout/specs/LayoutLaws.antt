@@ -3,11 +3,10 @@
 --   told, told-only ==  what the reader computes is told by the layouts, and nothing else is
 --   laid-out      ==  a descriptor has a layout or it has none
 --   reads-unknown ==  the reader's "wrong layout" is the rule's: d has none of the layouts (refusal 9)
---   layout-number, layout-right ==  the number on the enum is 9 exactly there, and 0 elsewhere
---   input-right, input-wrong, output-right, output-wrong, mixer-right, mixer-wrong, selector-right, printed-right, selector-wrong,
+--   input-right, input-wrong, output-right, output-wrong, mixer-right, mixer-wrong, selector-right, selector-wrong,
 --   feature-right, feature-wrong  ==  what a kind's own reader makes of its layout, and of any other
 --   kind-input, kind-output, kind-mixer, kind-selector, kind-feature, kind-other ==  byte 2 says which kind's reader it is
---   entity-input, entity-output, entity-mixer, entity-selector, entity-printed, entity-feature, entity-unknown ==  one equation for each layout,
+--   entity-input, entity-output, entity-mixer, entity-selector, entity-feature, entity-unknown ==  one equation for each layout,
 --                     and where there is none
 --   id-told       ==  byte 3 is the ID, in every layout
 --   selector-pins ==  a Selector's pins are 1 to 8, in both of its layouts
@@ -23,7 +22,7 @@ use native.Mathlib.Omega.{arith}
 use Rattle.ground.specs.Pick.{pick, yes, no, Reads, shows, refutes, true≠false, reads-same, reads-eq, reads-le, reads-and, reads-within}
 use Rattle.ground.specs.Numbers.{byte, word}
 use Rattle.layout.specs.declared.Entity.{Entity}
-use Rattle.layout.specs.declared.Entity.the-variants.{Unknown, Input, Output, Mixer, Selector, Printed, Feature}
+use Rattle.layout.specs.declared.Entity.the-variants.{Unknown, Input, Output, Mixer, Selector, Feature}
 use Rattle.layout.specs.Format.{fits, valueAt}
 use Rattle.layout.specs.FormatLaws.{stretch-length}
 use Rattle.layout.specs.Layouts as kind
@@ -31,7 +30,7 @@ use Rattle.layout.specs.Layouts.{Kind, numberOf, formatOf, kindsOf, most
 use Rattle.layout.specs.Fields as fields
 use Rattle.layout.specs.Fields.{Fields, LaidOut, fieldsAt, fieldsOf}
 use Rattle.layout.specs.FieldsLaws.{none-some, found-by, laid-fields, laid-only}
-use Rattle.layout.specs.Layout.{clusterAt, entityIn, entityBy, inputOf, outputOf, mixerOf, selectorOf, featureOf, entityOf, idOf, isUnknown, layoutNumber}
+use Rattle.layout.specs.Layout.{clusterAt, entityIn, entityBy, inputOf, outputOf, mixerOf, selectorOf, featureOf, entityOf, idOf, isUnknown}
 
 module _ (d : List ℕ) where
   abbrev p : ℕ
@@ -56,12 +55,6 @@ module _ (d : List ℕ) where
       reads-same (reads-and _ _ (reads-within 1 p mostPins) (reads-eq (length d) _))
       (λ h. let m = h .1 in (h .0, omega arith))
       (λ h. let m = h .1 in (h .0, omega arith))
-
-  printed-fits : Reads (fits (formatOf kind.printed) d 3) (Pins p × ((byte d 5 ≡ 0) × (length d ≡ 7 + p)))
-  printed-fits =
-      reads-same (reads-and _ _ (reads-within 1 p mostPins) (reads-and _ _ (reads-eq (byte d 5) 0) (reads-eq (length d) _)))
-      (λ h. let m = h .1 .1 in (h .0, (h .1 .0, omega arith)))
-      (λ h. let m = h .1 .1 in (h .0, (h .1 .0, omega arith)))
 
   feature-fits : Reads (fits (formatOf kind.feature) d 3) (((1 ≤ byte d 5) × (byte d 5 ≤ 4)) × (7 ≤ length d))
   feature-fits = reads-and _ _ (reads-within 1 (byte d 5) 4) (reads-le 7 (length d))
@@ -106,18 +99,11 @@ module _ (d : List ℕ) where
   unfolding selectorOf
   selector-right q l =
       let s : length (take p (drop 5 d)) ≡ p = stretch-length d 5 p (omega arith) in
-      right kind.selector (kind.printed ∷ []) selector-fits (q, l) ∙ rw s refl
+      right kind.selector [] selector-fits (q, l) ∙ rw s refl
 
-  pub printed-right : Pins p → length d ≡ 7 + p → byte d 5 ≡ 0 → selectorOf d ≡ Printed (byte d 3) p
+  pub selector-wrong : (Pins p → length d ≡ 6 + p → ⊥) → selectorOf d ≡ Unknown
   unfolding selectorOf
-  printed-right q l z =
-      let s : length (take p (drop 6 d)) ≡ p = stretch-length d 6 p (omega arith) in
-      wrong kind.selector (kind.printed ∷ []) selector-fits (λ h. let m = h .1 in omega arith) ∙ right kind.printed [] printed-fits (q, (z, l)) ∙ rw s refl
-
-  pub selector-wrong : (Pins p → length d ≡ 6 + p → ⊥) → (Pins p → length d ≡ 7 + p → byte d 5 ≡ 0 → ⊥) → selectorOf d ≡ Unknown
-  unfolding selectorOf
-  selector-wrong n m =
-      wrong kind.selector (kind.printed ∷ []) selector-fits (λ h. n (h .0) (h .1)) ∙ wrong kind.printed [] printed-fits (λ h. m (h .0) (h .1 .1) (h .1 .0))
+  selector-wrong n = wrong kind.selector [] selector-fits (λ h. n (h .0) (h .1))
 
   pub feature-right : (1 ≤ byte d 5) × (byte d 5 ≤ 4) → 7 ≤ length d → featureOf d ≡ Feature (byte d 3) (byte d 4) (byte d 5)
   unfolding featureOf
@@ -156,7 +142,7 @@ module _ (d : List ℕ) where
   pub kind-other : (byte d 2 ≡ 2 → ⊥) → (byte d 2 ≡ 3 → ⊥) → (byte d 2 ≡ 4 → ⊥) → (byte d 2 ≡ 5 → ⊥) → (byte d 2 ≡ 6 → ⊥) → entityOf d ≡ Unknown
   unfolding entityOf
   kind-other a b c e f =
-      let q : kindsOf (byte d 2) ≡ [] = no _ _ (ne-eqb _ 2 a) ∙ no _ _ (ne-eqb _ 3 b) ∙ no _ _ (ne-eqb _ 4 c) ∙ no _ _ (ne-eqb _ 5 e) ∙ no _ _ (ne-eqb _ 5 e) ∙ no _ _ (ne-eqb _ 6 f) in
+      let q : kindsOf (byte d 2) ≡ [] = no _ _ (ne-eqb _ 2 a) ∙ no _ _ (ne-eqb _ 3 b) ∙ no _ _ (ne-eqb _ 4 c) ∙ no _ _ (ne-eqb _ 5 e) ∙ no _ _ (ne-eqb _ 6 f) in
       ap (λ (ks : List Kind). entityBy ks d) q
 
   -- what each layout says of a descriptor that has it
@@ -171,9 +157,6 @@ module _ (d : List ℕ) where
 
   pub entity-selector : byte d 2 ≡ 5 → Pins p → length d ≡ 6 + p → entityOf d ≡ Selector (byte d 3) p
   entity-selector k q l = kind-selector k ∙ selector-right q l
-
-  pub entity-printed : byte d 2 ≡ 5 → Pins p → length d ≡ 7 + p → byte d 5 ≡ 0 → entityOf d ≡ Printed (byte d 3) p
-  entity-printed k q l z = kind-selector k ∙ printed-right q l z
 
   pub entity-feature : byte d 2 ≡ 6 → (1 ≤ byte d 5) × (byte d 5 ≤ 4) → 7 ≤ length d → entityOf d ≡ Feature (byte d 3) (byte d 4) (byte d 5)
   entity-feature k q l = kind-feature k ∙ feature-right q l
@@ -201,7 +184,6 @@ pub data Told (d : List ℕ) : Entity → Type 0 where
   output : byte d 2 ≡ 3 → length d ≡ 9 → Told d (Output (byte d 3) (word d 4) (byte d 7))
   mixer : byte d 2 ≡ 4 → Pins (byte d 4) → 10 + byte d 4 ≤ length d → Told d (Mixer (byte d 3) (byte d 4) (clusterAt d (5 + byte d 4)))
   selector : byte d 2 ≡ 5 → Pins (byte d 4) → length d ≡ 6 + byte d 4 → Told d (Selector (byte d 3) (byte d 4))
-  printed : byte d 2 ≡ 5 → Pins (byte d 4) → length d ≡ 7 + byte d 4 → byte d 5 ≡ 0 → Told d (Printed (byte d 3) (byte d 4))
   feature : byte d 2 ≡ 6 → (1 ≤ byte d 5) × (byte d 5 ≤ 4) → 7 ≤ length d → Told d (Feature (byte d 3) (byte d 4) (byte d 5))
 
 -- THE LAWS: what the reader computes is told by the layouts, and nothing else is
@@ -213,7 +195,6 @@ told d = ⊎-elim of (λ n. rw (entity-unknown d n) (unknown n)) (laid-out d)
     by-kind kind.output e t = let h = output-fits d .says t in rw (entity-output d e h) (output e h)
     by-kind kind.mixer e t = let h = mixer-fits d .says t in rw (entity-mixer d e (h .0) (h .1)) (mixer e (h .0) (h .1))
     by-kind kind.selector e t = let h = selector-fits d .says t in rw (entity-selector d e (h .0) (h .1)) (selector e (h .0) (h .1))
-    by-kind kind.printed e t = let h = printed-fits d .says t in rw (entity-printed d e (h .0) (h .1 .1) (h .1 .0)) (printed e (h .0) (h .1 .1) (h .1 .0))
     by-kind kind.feature e t = let h = feature-fits d .says t in rw (entity-feature d e (h .0) (h .1)) (feature e (h .0) (h .1))
 
     of : LaidOut d → Told d (entityOf d)
@@ -225,7 +206,6 @@ told-only {d} (input k l) = entity-input d k l
 told-only {d} (output k l) = entity-output d k l
 told-only {d} (mixer k q l) = entity-mixer d k q l
 told-only {d} (selector k q l) = entity-selector d k q l
-told-only {d} (printed k q l z) = entity-printed d k q l z
 told-only {d} (feature k q l) = entity-feature d k q l
 
 -- the tie of refusal 9 to what the reader computes
@@ -238,33 +218,11 @@ reads-unknown d = go (fieldsOf d) refl
     known (fields.output i t a s n) = refl
     known (fields.mixer i s c l m k n) = refl
     known (fields.selector i s n) = refl
-    known (fields.printed i s n) = refl
     known (fields.feature i s z k n) = refl
 
     go : (o : Option Fields) → fieldsOf d ≡ o → Reads (isUnknown (entityIn o)) (LaidOut d → ⊥)
     go none e = record { says = λ t l. none-some (sym e ∙ laid-only d l); denies = λ t. absurd (true≠false t) }
     go (some f) e = record { says = λ t. absurd (true≠false (sym t ∙ known f)); denies = λ t n. n (laid-fields d f e) }
-
--- .. and to the number on the enum
-number-unknown : (e : Entity) → layoutNumber e ≡ pick (isUnknown e) 9 0
-unfolding layoutNumber isUnknown
-number-unknown Unknown = refl
-number-unknown (Input i t c) = refl
-number-unknown (Output i t s) = refl
-number-unknown (Mixer i p c) = refl
-number-unknown (Selector i p) = refl
-number-unknown (Printed i p) = refl
-number-unknown (Feature i s n) = refl
-
-pub layout-number : (d : List ℕ) → (layoutNumber (entityOf d) ≡ 9) ↔ (LaidOut d → ⊥)
-layout-number d = (of (isUnknown (entityOf d)) refl, λ n. number-unknown (entityOf d) ∙ yes _ _ (shows (reads-unknown d) n))
-  where
-    of : (b : Bool) → isUnknown (entityOf d) ≡ b → layoutNumber (entityOf d) ≡ 9 → LaidOut d → ⊥
-    of true t e = reads-unknown d .says t
-    of false t e = let z : layoutNumber (entityOf d) ≡ 0 = number-unknown (entityOf d) ∙ no _ _ t in absurd (omega arith)
-
-pub layout-right : (d : List ℕ) → LaidOut d → layoutNumber (entityOf d) ≡ 0
-layout-right d l = number-unknown (entityOf d) ∙ no _ _ (refutes (reads-unknown d) (λ n. n l))
 
 pub id-told : (d : List ℕ) → LaidOut d → idOf (entityOf d) ≡ byte d 3
 unfolding idOf
@@ -276,7 +234,6 @@ id-told d o = of (told d)
     of (output k l) = refl
     of (mixer k q l) = refl
     of (selector k q l) = refl
-    of (printed k q l z) = refl
     of (feature k q l) = refl
 
 pub selector-pins : (d : List ℕ) → LaidOut d → byte d 2 ≡ 5 → Pins (byte d 4)
@@ -288,5 +245,4 @@ selector-pins d o e = of (told d)
     of (output k l) = absurd (omega arith)
     of (mixer k q l) = absurd (omega arith)
     of (selector k q l) = q
-    of (printed k q l z) = q
     of (feature k q l) = absurd (omega arith)

@@ -1,6 +1,5 @@
--- The layouts of the five kinds and of the printed Selector (document 01, "Entities"; 000, tables 4-3 to 4-7): the one place where they are
--- said. Byte 0 of a descriptor is its length, byte 1 its type, byte 2 the kind; a layout says what stands from offset 3 to the end.
---   Kind        ==  the layouts: a Selector has two, that of the tables and the printed one
+-- The layouts of the five kinds (document 01, "Entities"; 000, tables 4-3 to 4-7): the one place where they are said. Byte 0 of a descriptor is its length, byte 1 its type, byte 2 the kind; a layout says what stands from offset 3 to the end.
+--   Kind        ==  the layouts
 --   numberOf k  ==  the number of its kind, byte 2
 --   formatOf k  ==  the layout
 --   cluster F   ==  the bytes of a declared cluster, then F: channels c, a bitmap of locations (2), a first name index
@@ -12,14 +11,13 @@ use Prim.Native.Nat.{ℕ, _≤_}
 use mathlib.Core.List.{List, [], _∷_}
 use lib.Dec.{eqb}
 use Rattle.ground.specs.Pick.{pick}
-use Rattle.layout.specs.Format.{Format, last, rest, byte, source, ranged, word, sources, padded}
+use Rattle.layout.specs.Format.{Format, last, rest, byte, source, ranged, word, sources}
 
 pub data Kind : Type 0 where
   input : Kind
   output : Kind
   mixer : Kind
   selector : Kind
-  printed : Kind
   feature : Kind
 
 abbrev pub mostPins : ℕ
@@ -33,7 +31,6 @@ numberOf input = 2
 numberOf output = 3
 numberOf mixer = 4
 numberOf selector = 5
-numberOf printed = 5
 numberOf feature = 6
 
 abbrev pub cluster : Format → Format
@@ -48,13 +45,11 @@ formatOf output = byte (word (byte (source last)))
 formatOf mixer = byte (sources 1 mostPins (cluster rest))
 -- ID, pins p, p sources, name
 formatOf selector = byte (sources 1 mostPins last)
--- ID, pins p, 0, p sources, name
-formatOf printed = byte (padded 1 mostPins last)
 -- ID, source, control size n, masks, name
 formatOf feature = byte (source (ranged 1 4 rest))
 
 abbrev pub kinds : List Kind
-kinds = input ∷ output ∷ mixer ∷ selector ∷ printed ∷ feature ∷ []
+kinds = input ∷ output ∷ mixer ∷ selector ∷ feature ∷ []
 
 abbrev pub kindsIn : ℕ → List Kind → List Kind
 kindsIn n [] = []

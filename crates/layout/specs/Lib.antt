@@ -6,3 +6,4 @@ pub mod FieldsLaws
 pub mod Layout
 pub mod LayoutLaws
 pub mod Examples
+pub mod Withdrawn

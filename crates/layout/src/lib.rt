@@ -5,6 +5,7 @@ ghost use mathlib.Core.Path.{_≡_};
 ghost use Prim.Native.Nat.{_≤_, _<_};
 ghost use lib.ListN.{length};
 ghost use Rattle.layout.specs.Layout.{entityOf, inputOf, outputOf, mixerOf, selectorOf, featureOf, clusterAt, mostPins};
+ghost use Rattle.layout.specs.Withdrawn.{isPrinted, isWrong};
 ghost use Rattle.ground.specs.Pick.{within};
 use scan::byte_at;
 use scan::word_at;
@@ -39,11 +40,6 @@ pub enum Entity {
         cluster: Cluster,
     },
     Selector {
-        id: u8,
-        pins: u8,
-    },
-    // The printed Selector: a pad at 5, its sources from 6.
-    Printed {
         id: u8,
         pins: u8,
     },
@@ -127,19 +123,10 @@ fn read_selector(d: &[u8]) -> Entity
     if !right_pins(pins) {
         return Entity::Unknown;
     }
-    if d.len() == 6 + pins as usize {
-        return Entity::Selector {
-            id: byte_at(d, 3),
-            pins,
-        };
-    }
-    if d.len() != 7 + pins as usize {
+    if d.len() != 6 + pins as usize {
         return Entity::Unknown;
     }
-    if byte_at(d, 5) != 0 {
-        return Entity::Unknown;
-    }
-    Entity::Printed {
+    Entity::Selector {
         id: byte_at(d, 3),
         pins,
     }
@@ -178,4 +165,32 @@ pub fn read(d: &[u8]) -> Entity
         6 => read_feature(d),
         _ => Entity::Unknown,
     }
+}
+
+// Whether a descriptor is the printed Selector, which was taken once (document 02, No. 6): of length 7+p, a byte 0 in front of its sources.
+fn is_printed(d: &[u8]) -> bool
+    ensures { λ r. ⌜ r ≡ isPrinted (now (d .entry)) ⌝ }
+{
+    if byte_at(d, 2) != 5 {
+        return false;
+    }
+    let pins = byte_at(d, 4);
+    if !right_pins(pins) {
+        return false;
+    }
+    if d.len() != 7 + pins as usize {
+        return false;
+    }
+    byte_at(d, 5) == 0
+}
+
+// Whether the layout of a descriptor is wrong: none of the five, nor the one that was withdrawn.
+pub fn is_wrong(d: &[u8]) -> bool
+    ensures { λ r. ⌜ r ≡ isWrong (now (d .entry)) ⌝ }
+{
+    let entity = read(d);
+    if let Entity::Unknown = entity {
+        return !is_printed(d);
+    }
+    false
 }

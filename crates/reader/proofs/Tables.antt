@@ -13,7 +13,7 @@ use borrow.Author.Tests.{ne-eqb}
 use Rattle.ground.specs.Pick.{no, decided, reads-eq}
 use Rattle.layout.specs.declared.Cluster.{Cluster}
 use Rattle.layout.specs.declared.Entity.{Entity}
-use Rattle.layout.specs.declared.Entity.the-variants.{Unknown, Input, Output, Mixer, Selector, Printed, Feature}
+use Rattle.layout.specs.declared.Entity.the-variants.{Unknown, Input, Output, Mixer, Selector, Feature}
 use Rattle.layout.specs.Layout.{entityOf}
 use Rattle.graph.specs.Members.{_∈_}
 use Rattle.channels.specs.Declared.{mostChannels}
@@ -38,7 +38,6 @@ few-out (Input i t own) l cs k h = k .channels .1
 few-out (Output i t s) l cs k h = h
 few-out (Mixer i p own) l cs k h = k .0 .channels .1
 few-out (Selector i p) l cs k h = h
-few-out (Printed i p) l cs k h = h
 few-out (Feature i s n) l cs k h = h
 
 few-first : (l : List ℕ) (cluster : ℕ → Cluster) → ((b : ℕ) → b ∈ l → cluster b .channels ≤ mostChannels)

@@ -1,7 +1,7 @@
 -- The papers' table of refusals of a configuration (document 01), row by row: number, rule, place.
 --   runRows k cluster room  ==  the rows 14 to 16, with the clusters on IDs and a sheet of room bytes
 --   keptRows k room         ==  the rows 10 to 16 of a configuration that keeps the rules 1 to 9
---   tableOfRows s room      ==  THE TABLE: all sixteen rows
+--   tableOfRows s room      ==  THE TABLE: all seventeen rows, 17 between 9 and 10
 --   Refused s room n p      ==  number n at place p: every rule before n is kept, n is not, and p is its place
 --   Shown s room            ==  the bytes s are a configuration, and its records have room
 use Prim.Native.Nat.{ℕ}

@@ -1,11 +1,10 @@
 -- The bytes of a record, each said of the descriptor's fields and of the cluster on its ID (document 01, "The sheet" and "Entities").
---   RecordBytes d c b  ==  the bytes b are the record of the descriptor d with the cluster c: "ID; kind (15 hex for a printed Selector); c;
---                          bitmap (2); name index; pins; 00; then eight source IDs, unused ones 00", where kind, pins and sources are those
---                          of the fields that the layout gives d
+--   RecordBytes d c b  ==  the bytes b are the record of the descriptor d with the cluster c: "ID; kind ..; c; bitmap (2); name index; pins; 00; then
+--                          eight source IDs, unused ones 00", where pins and sources are those of the fields that the layout gives d, and the
+--                          kind is one of the five
 --   bytes-told         ==  the record of a descriptor that has its layout is such
 use Prim.Native.Nat.{ℕ, _+_, _/_, _%_, _≤_, _<_}
 use mathlib.Core.Path.{_≡_, refl, sym, ap, _∙_}
-use mathlib.Core.Option.{Option, some}
 use mathlib.Core.List.{List}
 use lib.ListN.{length, List·getD-eq-default}
 use lib.Seq.{getD-append-add}
@@ -14,11 +13,10 @@ use Rattle.ground.specs.Numbers.{byte}
 use Rattle.ground.specs.Lists.{pad, pad-length, pad-at}
 use Rattle.layout.specs.declared.Cluster.{Cluster}
 use Rattle.layout.specs.Layouts.{mostPins}
-use Rattle.layout.specs.Fields as fields
-use Rattle.layout.specs.Fields.{Fields, LaidOut, layoutBy, fieldsOf, fedBy}
+use Rattle.layout.specs.Fields.{LaidOut, fedBy}
 use Rattle.layout.specs.FieldsLaws.{laid-only}
-use Rattle.layout.specs.Layout.{entityIn, entityOf}
-use Rattle.kinds.specs.Shown.{kindOf, shownAs}
+use Rattle.layout.specs.Layout.{entityOf}
+use Rattle.kinds.specs.Shown.{kindOf, kind-told, kind-range}
 use Rattle.kinds.specs.SourcesLaws.{pins-fields, sources-fields, pins-few}
 use Rattle.edition.specs.Edition.{ownId, sources}
 use Rattle.edition.specs.Audio.{audio}
@@ -28,7 +26,8 @@ pub record RecordBytes (d : List ℕ) (c : Cluster) (b : List ℕ) : Type 0 wher
   pub laid : LaidOut d
   pub long : length b ≡ recordSize
   pub id : byte b 0 ≡ ownId d
-  pub kind : byte b 1 ≡ shownAs (some (layoutBy (laid .fields)))
+  pub kind : byte b 1 ≡ byte d 2
+  pub one-of-five : (2 ≤ byte b 1) × (byte b 1 ≤ 6)
   pub channels : byte b 2 ≡ c .channels
   pub low : byte b 3 ≡ c .locations % 256
   pub high : byte b 4 ≡ c .locations / 256
@@ -38,20 +37,7 @@ pub record RecordBytes (d : List ℕ) (c : Cluster) (b : List ℕ) : Type 0 wher
   pub source : (j : ℕ) → j < length (fedBy (laid .fields)) → byte b (headSize + j) ≡ byte (fedBy (laid .fields)) j
   pub unused : (j : ℕ) → length (fedBy (laid .fields)) ≤ j → j < mostPins → byte b (headSize + j) ≡ 0
 
-kind-in : (f : Fields) → kindOf (entityIn (some f)) ≡ shownAs (some (layoutBy f))
-unfolding kindOf
-kind-in (fields.input i t a c l m n) = refl
-kind-in (fields.output i t a s n) = refl
-kind-in (fields.mixer i s c l m k n) = refl
-kind-in (fields.selector i s n) = refl
-kind-in (fields.printed i s n) = refl
-kind-in (fields.feature i s z k n) = refl
-
 module _ (d : List ℕ) (c : Cluster) (laid : LaidOut d) where
-  shown : kindOf (entityOf d) ≡ shownAs (some (layoutBy (laid .fields)))
-  unfolding entityOf
-  shown = ap (λ (o : Option Fields). kindOf (entityIn o)) (laid-only d laid) ∙ kind-in (laid .fields)
-
   counted : audio .pins d ≡ length (fedBy (laid .fields))
   counted = pins-fields d (laid .fields) (laid-only d laid)
 
@@ -69,7 +55,8 @@ module _ (d : List ℕ) (c : Cluster) (laid : LaidOut d) where
     laid = laid;
     long = let e = pad-length 0 mostPins (sources audio d) in omega arith;
     id = refl;
-    kind = shown;
+    kind = kind-told d laid;
+    one-of-five = kind-range d laid;
     channels = refl;
     low = refl;
     high = refl;

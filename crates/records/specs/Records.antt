@@ -1,5 +1,5 @@
--- The sheet (document 01): "Records of 16 bytes, no header, in entity order: ID; kind (15 hex for a printed Selector); c; bitmap (2);
--- name index; pins; 00; then eight source IDs, unused ones 00. Bytes past the last record stay."
+-- The sheet (document 01): "Records of 16 bytes, no header, in entity order: ID; kind ..; c; bitmap (2); name index;
+-- pins; 00; then eight source IDs, unused ones 00. Bytes past the last record stay."
 --   headSize, recordSize  ==  the bytes in front of the source IDs: 8; the bytes of a record: these, and one for each source ID that it has
 --                         a place for, 16 in all
 --   frontOf i k p c     ==  those in front, of an entity with ID i, kind k and p pins, and of its cluster c

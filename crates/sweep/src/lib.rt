@@ -76,7 +76,6 @@ fn give_out(
         Entity::Output { .. } => first,
         Entity::Mixer { cluster, .. } => cluster,
         Entity::Selector { .. } => selected(ids, first, names),
-        Entity::Printed { .. } => selected(ids, first, names),
         Entity::Feature { .. } => first,
     }
 }

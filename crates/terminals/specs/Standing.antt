@@ -38,7 +38,6 @@ module _ (d : List ℕ) (c : ℕ) where
   listed-heard (laid.output k l) t m = List·Memᴰ·eq-of-singleton m
   listed-heard (laid.mixer k q l) t m = absurd (List·Memᴰ·not-nil m)
   listed-heard (laid.selector k q l) t m = absurd (List·Memᴰ·not-nil m)
-  listed-heard (laid.printed k q l z) t m = absurd (List·Memᴰ·not-nil m)
   listed-heard (laid.feature k q l) t m = absurd (List·Memᴰ·not-nil m)
 
 module _ (cluster : ℕ → Cluster) (d : List ℕ) where
@@ -55,7 +54,6 @@ module _ (cluster : ℕ → Cluster) (d : List ℕ) where
   says-of (laid.output k l) t m = heard-says (inr k) t (List·Memᴰ·eq-of-singleton m)
   says-of (laid.mixer k q l) t m = absurd (List·Memᴰ·not-nil m)
   says-of (laid.selector k q l) t m = absurd (List·Memᴰ·not-nil m)
-  says-of (laid.printed k q l z) t m = absurd (List·Memᴰ·not-nil m)
   says-of (laid.feature k q l) t m = absurd (List·Memᴰ·not-nil m)
 
   says-heard : (t : Terminal) → SaysTerminal cluster t d → t ≡ heard d own
@@ -74,7 +72,6 @@ module _ (cluster : ℕ → Cluster) (d : List ℕ) where
   of-says (laid.output k l) o t h = List·Memᴰ·head (says-heard t h)
   of-says (laid.mixer k q l) o t h = absurd (another k (λ e. omega arith) (λ e. omega arith) (h .either))
   of-says (laid.selector k q l) o t h = absurd (another k (λ e. omega arith) (λ e. omega arith) (h .either))
-  of-says (laid.printed k q l z) o t h = absurd (another k (λ e. omega arith) (λ e. omega arith) (h .either))
   of-says (laid.feature k q l) o t h = absurd (another k (λ e. omega arith) (λ e. omega arith) (h .either))
 
 -- the Terminals of a stretch of indices are those at its indices

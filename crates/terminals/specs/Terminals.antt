@@ -18,7 +18,7 @@ use lib.Dec.{eqb}
 use Rattle.ground.specs.Pick.{pick}
 use Rattle.layout.specs.declared.Cluster.{Cluster}
 use Rattle.layout.specs.declared.Entity.{Entity}
-use Rattle.layout.specs.declared.Entity.the-variants.{Unknown, Input, Output, Mixer, Selector, Printed, Feature}
+use Rattle.layout.specs.declared.Entity.the-variants.{Unknown, Input, Output, Mixer, Selector, Feature}
 use Rattle.layout.specs.Layout.{entityOf, noCluster}
 use Rattle.entities.specs.declared.Run.{Run}
 use Rattle.entities.specs.Run.{held, descriptorAt}
@@ -36,7 +36,6 @@ terminalOf (Input i t own) c = record { id = i; kind = t; channels = c } ∷ []
 terminalOf (Output i t s) c = record { id = i; kind = t; channels = c } ∷ []
 terminalOf (Mixer i p own) c = []
 terminalOf (Selector i p) c = []
-terminalOf (Printed i p) c = []
 terminalOf (Feature i s n) c = []
 
 abbrev pub terminalAt : List ℕ → Run → List Cluster → ℕ → List Terminal

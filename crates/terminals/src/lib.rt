@@ -44,7 +44,6 @@ pub fn enter_entity(entity: Entity, channels: u8, kinds: &mut [u16; 256], counts
         } => enter(kinds, counts, own, terminal, channels),
         Entity::Mixer { .. } => {}
         Entity::Selector { .. } => {}
-        Entity::Printed { .. } => {}
         Entity::Feature { .. } => {}
     }
 }

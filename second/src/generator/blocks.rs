@@ -68,7 +68,7 @@ fn plug_console(script: &mut Script) {
     let feature = |id, size, masks| Part::Feature { id, source: 1, size, masks };
     let parts = vec![
         feature(3, 1, few),
-        selector(4, &[1, 2, 3], false),
+        selector(4, &[1, 2, 3]),
         input(1, (CHANNELS as u8, 0, 0)),
         feature(2, 2, masks),
         feature(5, 1, vec![0x20; CHANNELS + 1]),

@@ -12,8 +12,8 @@ pub enum Part {
     Output { id: u8, terminal: u16, source: u8 },
     /// 04, with its control bytes.
     Mixer { id: u8, sources: Vec<u8>, cluster: (u8, u16, u8), controls: Vec<u8> },
-    /// 05, printed or not.
-    Selector { id: u8, sources: Vec<u8>, printed: bool },
+    /// 05.
+    Selector { id: u8, sources: Vec<u8> },
     /// 06, with all masks in a row.
     Feature { id: u8, source: u8, size: u8, masks: Vec<u8> },
     /// Bytes as they are.
@@ -37,10 +37,8 @@ impl Part {
                 let head = [4, *id, sources.len() as u8];
                 [&head[..], sources, &cluster_bytes(*cluster), controls, &[0]].concat()
             }
-            Part::Selector { id, sources, printed } => {
-                let head = [5, *id, sources.len() as u8];
-                let pad: &[u8] = if *printed { &[0] } else { &[] };
-                [&head[..], pad, sources, &[0]].concat()
+            Part::Selector { id, sources } => {
+                [&[5, *id, sources.len() as u8][..], sources, &[0]].concat()
             }
             Part::Feature { id, source, size, masks } => {
                 [&[6, *id, *source, *size][..], masks, &[0]].concat()
@@ -376,7 +374,7 @@ mod tests {
     fn the_telephone_with_either_selector() {
         let line = |config: &[u8]| sheet::program(config).lines().nth(6).map(str::to_string);
         let printed = telephone(Telephone::Printed, 2, 0x64);
-        assert_eq!(line(&printed).unwrap(), "07 15 01 00 00 00 02 00 02 03 00 00 00 00 00 00");
+        assert_eq!(sheet::program(&printed), "refused 17 at 91\n");
         let tables = telephone(Telephone::Tables, 2, 0x61);
         assert_eq!(line(&tables).unwrap(), "07 05 01 00 00 00 02 00 02 03 00 00 00 00 00 00");
     }

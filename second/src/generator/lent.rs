@@ -61,7 +61,7 @@ impl Lent {
         printed
     }
 
-    /// Adds a configuration that keeps the rules 1 to 15, with each length at which its answer
+    /// Adds a configuration that keeps every rule but 16, with each length at which its answer
     /// could turn: "sheet shorter than 16 bytes for each entity".
     fn edges(&mut self, config: &[u8]) {
         let entities = entities(config).expect("kept but for the sheet");
@@ -75,7 +75,7 @@ impl Lent {
         *self.edges.entry(entities).or_default() += 1;
     }
 
-    /// Adds a configuration that a rule from 1 to 15 refuses, with this length.
+    /// Adds a configuration that a rule other than 16 refuses, with this length.
     fn refused(&mut self, m: usize, config: &[u8], way: Way, place: usize) {
         let printed = self.step(m, config);
         let lines = format!("refused {} at {place}\nrest {m}\n", way.number());
@@ -85,7 +85,7 @@ impl Lent {
     /// What the papers name and these steps do not reach; empty if all is well.
     pub fn missing(&self) -> Vec<String> {
         let mut missing = Vec::new();
-        for way in Way::ALL.iter().filter(|way| way.number() < 16) {
+        for way in Way::ALL.iter().filter(|way| matches!(way.number(), 1..=15 | 17)) {
             for (seen, sheet) in [(&self.none, "no record"), (&self.full, "32 records")] {
                 if !seen.contains(way) {
                     let (number, words) = (way.number(), way.words());
@@ -111,7 +111,7 @@ fn entities(config: &[u8]) -> Option<usize> {
 /// A configuration whose last record ends in the byte that the sheet is full of, so that what is
 /// shown of it is a shorter line.
 pub fn ends_in_marks() -> Vec<u8> {
-    Plan::new(vec![input(MARK, (1, 0, 0)), selector(2, &[MARK; PINS], false)], vec![]).bytes()
+    Plan::new(vec![input(MARK, (1, 0, 0)), selector(2, &[MARK; PINS])], vec![]).bytes()
 }
 
 /// All steps: these configurations, every one made on purpose, and more at random.

@@ -5,7 +5,7 @@ use std::collections::BTreeSet;
 use super::rng::Rng;
 use super::script::{step_bytes, Reach};
 use super::tape::Tape;
-use crate::numbers::{ENTITIES, RECORD, SHEET, STEP};
+use crate::numbers::{ENTITIES, RECORD, SELECTORS, SHEET, STEP};
 use crate::relay::Printed;
 use crate::sheets::{self, PAIR};
 use crate::ways::Way;
@@ -133,11 +133,25 @@ pub fn example() -> (Vec<u8>, Vec<u8>) {
     (left, right)
 }
 
+/// The telephone's Selectors on an old sheet, and on one after the maker has mended them: the first
+/// two differ in their kinds alone, the third in a pin besides.
+pub fn mended() -> (Vec<u8>, Vec<u8>) {
+    let selector = |id: u8, kind: u8, pin: u8| {
+        let mut bytes = vec![0; RECORD];
+        bytes[..10].copy_from_slice(&[id, kind, 1, 0, 0, 0, 2, 0, pin, 3]);
+        bytes
+    };
+    let old = [selector(7, 0x15, 2), selector(8, 0x15, 1), selector(9, 0x15, 1)].concat();
+    let mended = [selector(9, 0x05, 2), selector(8, 0x05, 1), selector(7, 0x05, 2)].concat();
+    (old, mended)
+}
+
 /// All steps made on purpose, and more at random.
 pub fn all(seed: u64) -> Pairs {
     let mut pairs = Pairs::default();
     sides(&mut pairs);
     bytes(&mut pairs);
+    kinds(&mut pairs);
     refusals(&mut pairs);
     pairs.named = pairs.reach.clone();
     let mut rng = Rng::new(seed);
@@ -182,8 +196,7 @@ fn sides(pairs: &mut Pairs) {
     pairs.says(&left, &right, &lines);
 }
 
-/// Each byte alone, two of them, and all; in the first and in the last of 1, 2 and 32 records. The
-/// kinds of a Selector and of a printed one are two bytes like any other.
+/// Each byte alone, two of them, and all; in the first and in the last of 1, 2 and 32 records.
 fn bytes(pairs: &mut Pairs) {
     for count in [1, 2, ENTITIES as u8] {
         let ids: Vec<u8> = (0..count).map(|index| 7 + 8 * index).collect();
@@ -201,11 +214,53 @@ fn bytes(pairs: &mut Pairs) {
             }
         }
     }
-    let mut printed = record(6);
-    let mut selector = record(6);
-    (printed[1], selector[1]) = (0x15, 0x05);
-    pairs.says(&selector, &printed, &["changed 06 1".to_string()]);
     pairs.says(&[6; RECORD], &record(6), &[changed_all(6)]);
+}
+
+/// A record of ID 6 with these bytes in their places.
+fn with(bytes: &[(usize, u8)]) -> Vec<u8> {
+    let mut one = record(6);
+    bytes.iter().for_each(|&(n, byte)| one[n] = byte);
+    one
+}
+
+/// "counts kinds 05 and 15 as the same byte", and no other two kinds, nor those two anywhere else.
+fn kinds(pairs: &mut Pairs) {
+    for kind in SELECTORS {
+        let left = every_id(|_| kind);
+        for first in (0..=255).step_by(ENTITIES) {
+            let right = every_id(|at| first + at);
+            let differs = |id: &u8| !SELECTORS.contains(&(first + (id - 1)));
+            let ids = (1..=ENTITIES as u8).filter(differs);
+            let lines: Vec<String> = ids.map(|id| format!("changed {id:02X} 1")).collect();
+            pairs.says(&left, &right, &lines);
+        }
+    }
+    for n in 1..RECORD {
+        let (plain, printed) = (with(&[(n, 0x05)]), with(&[(n, 0x15)]));
+        let line = format!("changed 06 {n}");
+        pairs.says(&plain, &printed, if n == 1 { &[] } else { std::slice::from_ref(&line) });
+        let (plain, printed) = (with(&[(1, 0x05), (n, 0x05)]), with(&[(1, 0x15), (n, 0x15)]));
+        pairs.says(&plain, &printed, if n == 1 { &[] } else { std::slice::from_ref(&line) });
+        if n > 1 {
+            pairs.says(&with(&[(1, 0x15)]), &with(&[(1, 0x05), (n, 0xEE)]), &[line]);
+        }
+    }
+    pairs.says(&with(&[(1, 0x15)]), &with(&[(1, 0x15)]), &[]);
+    let (five, fifteen) = (sheet(&[0x05]), sheet(&[0x15]));
+    pairs.says(&five, &fifteen, &["left 05".to_string(), "right 15".to_string()]);
+    let telephone = |kind: u8| [sheet(&[1, 2]), with(&[(1, kind)]), sheet(&[0x15, 5])].concat();
+    pairs.says(&telephone(0x05), &telephone(0x15), &[]);
+    pairs.says(&telephone(0x05), &telephone(0x05), &[]);
+    pairs.says(&telephone(0x15), &telephone(0x06), &["changed 06 1".to_string()]);
+    let (old, mended) = mended();
+    pairs.says(&old, &mended, &["changed 09 8".to_string()]);
+}
+
+/// As many records as there may be, alike but for their IDs and these kinds.
+fn every_id(kind: impl Fn(u8) -> u8) -> Vec<u8> {
+    let one = |at: u8| [&[at + 1, kind(at)][..], &[0x15; RECORD - 2]].concat();
+    (0..ENTITIES as u8).flat_map(one).collect()
 }
 
 fn changed_all(id: u8) -> String {
@@ -290,15 +345,22 @@ fn some_record(rng: &mut Rng, id: u8) -> Vec<u8> {
     let mut bytes: Vec<u8> =
         (0..RECORD).map(|_| if few { rng.byte() & 1 } else { rng.byte() }).collect();
     bytes[0] = id;
+    if rng.one_in(3) {
+        bytes[1] = *rng.pick(&SELECTORS);
+    }
     bytes
 }
 
-/// One record gone, one come, or some of its bytes changed.
+/// One record gone, one come, or some of its bytes changed, or its kind to a Selector's.
 fn alter(rng: &mut Rng, records: &mut Vec<Vec<u8>>, fresh: u8) {
-    match rng.below(4) {
+    match rng.below(5) {
         0 => records.insert(rng.below(records.len() + 1), some_record(rng, fresh)),
         _ if records.is_empty() => (),
         1 => drop(records.remove(rng.below(records.len()))),
+        2 => {
+            let at = rng.below(records.len());
+            records[at][1] = *rng.pick(&SELECTORS);
+        }
         _ => {
             let at = rng.below(records.len());
             for _ in 0..*rng.pick(&[1, 1, 2, 5, 15]) {

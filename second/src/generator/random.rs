@@ -3,7 +3,7 @@
 use super::build::{
     class, filler, idle, interface, pcm, pcm_range, working, GroupPlan, Part, Plan,
 };
-use super::configs::mixer;
+use super::configs::{mixer, printed};
 use super::rng::Rng;
 use super::script::{load_body, put_body, request_body, setup, Script};
 use super::steps::sample;
@@ -141,7 +141,7 @@ impl Run {
         let first = pins[0].1 .2;
         let name = if pins.iter().all(|pin| pin.1 .2 == first) { first } else { 0 };
         let sources = pins.iter().map(|pin| pin.0).collect();
-        (Part::Selector { id, sources, printed: rng.one_in(2) }, (channels, bitmap, name))
+        (Part::Selector { id, sources }, (channels, bitmap, name))
     }
 
     /// A Mixer whose control bytes have room in a descriptor.
@@ -295,7 +295,7 @@ fn change_length(rng: &mut Rng, bytes: &mut Vec<u8>) {
 
 /// Damages one thing of a plan.
 fn damage(rng: &mut Rng, plan: &mut Plan) {
-    match rng.below(18) {
+    match rng.below(19) {
         0 | 1 => on_part(rng, plan, |rng, bytes| change_byte(rng, bytes, 2)),
         2 => on_part(rng, plan, change_length),
         3..=5 => rewire(rng, plan),
@@ -314,6 +314,7 @@ fn damage(rng: &mut Rng, plan: &mut Plan) {
         13 => change_byte(rng, &mut plan.control, 2),
         14 => damage_header(rng, plan),
         15 | 16 => turn_pin(rng, plan),
+        17 => print_selector(rng, plan),
         _ => damage_edges(rng, plan),
     }
 }
@@ -409,6 +410,19 @@ fn damage_cluster(rng: &mut Rng, plan: &mut Plan) {
             2 => cluster.2 = name,
             _ => *cluster = (channels, bitmap, name),
         }
+    }
+}
+
+/// Makes some Selector a printed one.
+fn print_selector(rng: &mut Rng, plan: &mut Plan) {
+    let is_selector = |part: &&mut Part| matches!(part, Part::Selector { .. });
+    let mut selectors: Vec<&mut Part> = plan.parts.iter_mut().filter(is_selector).collect();
+    if selectors.is_empty() {
+        return;
+    }
+    let at = rng.below(selectors.len());
+    if let Part::Selector { id, sources } = &*selectors[at] {
+        *selectors[at] = printed(*id, sources);
     }
 }
 
@@ -858,21 +872,22 @@ mod tests {
         let answer = reader::read(bytes, &mut sheet);
         let records: Vec<&[u8]> = sheet.chunks(RECORD).take(answer.entities).collect();
         let named = |id: &u8| records.iter().any(|one| one[0] == *id && one[5] != 0);
-        let shown = |one: &&[u8]| one[1] & 0x0F == 5 && one[5] == 0 && one[8..].iter().any(named);
+        let shown = |one: &&[u8]| one[1] == 5 && one[5] == 0 && one[8..].iter().any(named);
         records.iter().any(shown)
     }
 
     #[test]
-    fn pins_are_alike_and_not() {
+    fn selectors_are_met_in_every_way() {
         let mut rng = Rng::new(5);
-        let (mut unlike, mut unnamed) = (0, 0);
+        let (mut unlike, mut unnamed, mut withdrawn) = (0, 0, 0);
         for _ in 0..4000 {
             let bytes = configuration(&mut rng);
             let way = reader::read(&bytes, &mut [0; SHEET]).way();
             unlike += usize::from(way == Some(Way::SelectorBitmap));
             unnamed += usize::from(shows_no_name(&bytes));
+            withdrawn += usize::from(way == Some(Way::SelectorPrinted));
         }
-        assert!(unlike > 40 && unnamed > 100, "{unlike} {unnamed}");
+        assert!(unlike > 40 && unnamed > 100 && withdrawn > 40, "{unlike} {unnamed} {withdrawn}");
     }
 
     /// A request for one unit and selector, with the bytes that it answers.

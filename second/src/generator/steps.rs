@@ -81,15 +81,15 @@ pub fn get(script: &mut Script, pair: (u8, u8), name: Name, size: usize, value: 
 }
 
 /// A box with AudioControl number 4: unit 2 has every control on the master and on two channels,
-/// unit 3 is a Selector of eight pins, unit 4 a printed one of one, unit 6 has no control.
+/// unit 3 is a Selector of eight pins, unit 4 one of one pin, unit 6 has no control.
 fn bench() -> Vec<u8> {
     let masks = [0xFF, 0x03].repeat(3);
     let mut plan = Plan::new(
         vec![
             Part::Input { id: 1, terminal: 0x0201, cluster: (2, 3, 0) },
             Part::Feature { id: 2, source: 1, size: 2, masks },
-            Part::Selector { id: 3, sources: vec![1; PINS], printed: false },
-            Part::Selector { id: 4, sources: vec![2], printed: true },
+            Part::Selector { id: 3, sources: vec![1; PINS] },
+            Part::Selector { id: 4, sources: vec![2] },
             Part::Output { id: 5, terminal: 0x0301, source: 3 },
             Part::Feature { id: 6, source: 4, size: 1, masks: vec![0x20, 0, 0] },
         ],
@@ -127,7 +127,9 @@ fn papers(script: &mut Script) {
         set_and_get(script, volume, signed(wanted), 2, signed(stored));
     }
     script.step(SHOW, &[]);
-    script.says(PLUG_IN, &telephone(Telephone::Printed, 2, 0x64), "accepted 0 9 3");
+    script.says(PLUG_IN, &telephone(Telephone::Printed, 2, 0x64), "refused 17 at 91");
+    script.says(SHOW, &[], "table 0");
+    script.says(PLUG_IN, &telephone(Telephone::Tables, 2, 0x61), "accepted 0 9 3");
     for unit in 7..=9 {
         get(script, CUR, (unit, 0, 0), 1, 1);
         set_and_get(script, (unit, 0, 0), 2, 1, 2);

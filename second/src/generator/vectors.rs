@@ -151,7 +151,6 @@ fn sheets() -> Vec<Run> {
         ("sheet_turned", "the desk's run turned round"),
         ("sheet_through", "clusters through Selectors and Feature Units"),
         ("sheet_pins", "8 pins"),
-        ("sheet_pins_printed", "8 pins, printed Selector"),
         ("sheet_32", "32 entities up to ID 255"),
         ("sheet_33", "33 entities"),
         ("sheet_loop", "a loop of length 32"),
@@ -307,6 +306,7 @@ fn bad_pairs() -> Vec<Run> {
 /// Runs of `compare`: a pair with every kind of line, pairs at the edges, files that are not there.
 fn compared_files() -> Vec<Run> {
     let (left, right) = pairs::example();
+    let (old, mended) = pairs::mended();
     let run = |name: &str, left: &[u8], right: &[u8]| Run {
         files: vec![("left", left.to_vec()), ("right", right.to_vec())],
         ..Run::new(name, vec![], sheets::compared(left, right).lines)
@@ -316,6 +316,7 @@ fn compared_files() -> Vec<Run> {
         run("compare", &left, &right),
         run("compare_same", &left, &left),
         run("compare_nothing", &[], &[]),
+        run("compare_mended", &old, &mended),
         run("compare_513", &[1; 513], &right),
         run("compare_528", &left, &[1; 528]),
         run("compare_20000", &left, &[1; 20000]),

@@ -7,7 +7,7 @@ use native.Mathlib.Omega.{arith}
 use lib.ListN.{length}
 use Rattle.layout.specs.declared.Cluster.{Cluster}
 use Rattle.layout.specs.declared.Entity.{Entity}
-use Rattle.layout.specs.declared.Entity.the-variants.{Unknown, Input, Output, Mixer, Selector, Printed, Feature}
+use Rattle.layout.specs.declared.Entity.the-variants.{Unknown, Input, Output, Mixer, Selector, Feature}
 use Rattle.layout.specs.Layout.{entityOf}
 use Rattle.table.specs.declared.Table.{Table}
 use Rattle.masks.specs.Masks.{featureControls}
@@ -44,10 +44,6 @@ module _ (t : Table) (d : List ℕ) (c : ℕ) (e : Entity) (read : e ≡ entityO
     unfolding entityControls grown
     at-selector i p h x f g = g ∙ ap (added t) f ∙ sym (by-kind (Selector i p) h)
 
-    at-printed : (i p : ℕ) → e ≡ Printed i p → (x : ℕ) → controlFrom x ≡ selectorControl i p → r ≡ added t (controlFrom x) → r ≡ grown t (entityControls (entityOf d) d c)
-    unfolding entityControls grown
-    at-printed i p h x f g = g ∙ ap (added t) f ∙ sym (by-kind (Printed i p) h)
-
     at-feature : (i f n : ℕ) → e ≡ Feature i f n → r ≡ grown t (featureControls i n c d) → r ≡ grown t (entityControls (entityOf d) d c)
     unfolding entityControls
     at-feature i f n h g = g ∙ sym (by-kind (Feature i f n) h)
@@ -59,46 +55,37 @@ few d c h = let k = entity-few (entityOf d) d c in omega arith
 room : (t : Table) → Room t 900000 → Room t 1000000
 room t r = room-more t 900000 1000000 r (omega arith)
 
-ruleset laws = (at-unknown, at-input, at-output, at-mixer, at-selector, at-printed, at-feature, few, room, needs)
+ruleset laws = (at-unknown, at-input, at-output, at-mixer, at-selector, at-feature, few, room, needs)
 
 read-requires : tie.Need-read-requires
-read-requires c κs = search laws
+read-requires c κs = search needs
 
 enum-told : tie.Need-enum-told
-enum-told c = search laws
+enum-told c = search needs
 
 enum-told-2 : tie.Need-enum-told-2
-enum-told-2 c = search laws
+enum-told-2 c = search needs
 
 enum-told-3 : tie.Need-enum-told-3
-enum-told-3 c = search laws
+enum-told-3 c = search needs
 
 enum-told-4 : tie.Need-enum-told-4
-enum-told-4 c = search laws
+enum-told-4 c = search needs
 
 enum-known-entity : tie.Need-enum-known-entity
-enum-known-entity c = search laws
+enum-known-entity c = search needs
 
 note-of-requires : tie.Need-note-of-requires
-note-of-requires c κs = search laws
+note-of-requires c κs = search needs
 
 add-requires : tie.Need-add-requires
-add-requires c κs = search laws
+add-requires c κs = search needs
 
 enum-known-entity-2 : tie.Need-enum-known-entity-2
-enum-known-entity-2 c = search laws
-
-note-of-requires-2 : tie.Need-note-of-requires-2
-note-of-requires-2 c κs = search laws
-
-add-requires-2 : tie.Need-add-requires-2
-add-requires-2 c κs = search laws
-
-enum-known-entity-3 : tie.Need-enum-known-entity-3
-enum-known-entity-3 c = search laws
+enum-known-entity-2 c = search needs
 
 add-unit-requires : tie.Need-add-unit-requires
-add-unit-requires c κs = search laws
+add-unit-requires c κs = search needs
 
 returns : tie.Need-returns
 returns c = search laws
@@ -118,9 +105,6 @@ returns-5 c = search laws
 returns-6 : tie.Need-returns-6
 returns-6 c = search laws
 
-returns-7 : tie.Need-returns-7
-returns-7 c = search laws
-
 pub add-entity-spec : {M : Type 1} → statement M
 add-entity-spec =
     tie.close
@@ -134,14 +118,10 @@ add-entity-spec =
     note-of-requires
     add-requires
     enum-known-entity-2
-    note-of-requires-2
-    add-requires-2
-    enum-known-entity-3
     add-unit-requires
     returns
     returns-2
     returns-3
     returns-4
     returns-5
-    returns-6
-    returns-7)
+    returns-6)

@@ -1,4 +1,4 @@
--- By its two ways out: refused by the rules 8 and 9, or surveyed; the run is read in the configuration up to the run's end.
+-- By its two ways out: refused by the rules 8, 9 and 17, or surveyed; the run is read in the configuration up to the run's end.
 use borrow.Author.Needs.{needs}
 use Prim.Native.Nat.{ℕ, _+_, _-_}
 use mathlib.Core.Path.{_≡_, refl, sym, ap, _∙_}
@@ -11,6 +11,8 @@ use Rattle.ground.specs.Pick.{yes, no}
 use Rattle.ground.specs.Numbers.{byte}
 use Rattle.ground.specs.Lists.{part}
 use Rattle.ground.specs.Refuse.{none}
+use Rattle.scan.specs.Search.{searched}
+use Rattle.layout.specs.Layout.{entityOf, isUnknown}
 use Rattle.edition.specs.Audio.{audio}
 use Rattle.entities.specs.declared.Run.{Run}
 use Rattle.entities.specs.declared.Walk.{Walk}
@@ -18,8 +20,8 @@ use Rattle.entities.specs.Run.{runIn, walkOf}
 use Rattle.groups.specs.declared.Frame.{Frame}
 use Rattle.cutting.specs.declared.Survey.{Survey}
 use Rattle.ground.specs.Refuse.{chain-none}
-use Rattle.cutting.specs.Verdict.{run-chain}
-use Rattle.cutting.specs.Survey.{runOf, breach8, breach9, runJudged, refusedSurvey, surveyed, runRefused, runSurvey}
+use Rattle.cutting.specs.Verdict.{run-chain, unlaid-judged}
+use Rattle.cutting.specs.Survey.{runOf, breach8, breach9, breach17, runJudged, refusedSurvey, surveyed, runRefused, runSurvey}
 use Rattle.cutting.proofs.survey_run.Statement.{statement}
 use Rattle.cutting.proofs.survey_run.Tie as tie
 
@@ -39,14 +41,14 @@ module _ (c : List ℕ) (f : Frame) (s : List ℕ) (e : s ≡ part c 0 (f .end))
     unfolding runIn
     count-told = ap (λ (r : Run). r .count) run-told
 
-    wrong-told : walk .wrong ≡ breach9 c f
-    unfolding breach9 walkOf
-    wrong-told = ap (λ (w : Walk). w .wrong) walk-told
+    unlaid-told : walk .unlaid ≡ searched (λ b d. isUnknown (entityOf d)) (take (f .end) c) (f .run)
+    unfolding walkOf
+    unlaid-told = ap (λ (w : Walk). w .unlaid) walk-told
 
-    module _ (v : Refusal) (h : v ≡ runRefused (walk .run .count) (walk .wrong) (f .header)) where
+    module _ (v : Refusal) (h : v ≡ runRefused s (f .run) (walk .run .count) (walk .unlaid) (f .header)) where
       judged-told : v ≡ runJudged c f none
-      unfolding runRefused runJudged breach8
-      judged-told = h ∙ rw (count-told, wrong-told) refl
+      unfolding runRefused runJudged breach8 breach9 breach17
+      judged-told = h ∙ rw (count-told, unlaid-told, front, unlaid-judged (take (f .end) c) (f .run)) refl
 
       turned-away : (v .number ≡ 0 → ⊥) → (r : Survey) → r ≡ refusedSurvey v → r ≡ runSurvey c f
       unfolding runSurvey

@@ -1,5 +1,5 @@
 -- The loop stands behind the descriptors that it has counted: they stand in the first places, the spare places are blank, and the first
--- wrong layout is the one that was met, or where none was the first from here on.
+-- unlaid layout is the one that was met, or where none was the first from here on.
 use borrow.Author.Needs.{needs}
 use Prim.Native.Nat.{ℕ, _+_, _-_, _≤_, _<_, _^_}
 use mathlib.Core.Path.{_≡_, refl, sym, ap, _∙_}
@@ -24,22 +24,22 @@ use Rattle.layout.specs.declared.Entity.{Entity}
 use Rattle.layout.specs.Layout.{entityOf, isUnknown}
 use Rattle.edition.specs.Audio.{audio}
 use Rattle.entities.specs.declared.Node.{Node}
-use Rattle.entities.specs.Run.{mostEntities, nodeOf, nodesFrom, blankNode, runIn, earlier, wrongAt, walkOf}
+use Rattle.entities.specs.Run.{mostEntities, nodeOf, nodesFrom, blankNode, runIn, earlier, unlaidAt, walkOf}
 use Rattle.entities.specs.RepresentsLaws.{nodes-length, nodes-more}
 use Rattle.entities.proofs.read_run.Statement.{statement}
 use Rattle.entities.proofs.read_run.Tie as tie
 
-abbrev isWrong : List (List ℕ) → List ℕ → Bool
-isWrong b d = isUnknown (entityOf d)
+abbrev isUnlaid : List (List ℕ) → List ℕ → Bool
+isUnlaid b d = isUnknown (entityOf d)
 
-record Walked (s : List ℕ) (from : ℕ) (nodes : List Node) (count : ℕ) (wrong : Place) (at : ℕ) : Type 0 where
+record Walked (s : List ℕ) (from : ℕ) (nodes : List Node) (count : ℕ) (unlaid : Place) (at : ℕ) : Type 0 where
   behind : List (List ℕ)
   whole : rest s from ≡ behind ++ rest s at
   place : at ≡ from + total behind
   counted : count ≡ length behind
   few : count ≤ at
   filled : nodes ≡ pad blankNode mostEntities (nodesFrom audio from behind)
-  first : searched isWrong s from ≡ earlier wrong (firstFrom isWrong at behind (rest s at))
+  first : searched isUnlaid s from ≡ earlier unlaid (firstFrom isUnlaid at behind (rest s at))
 
 start : (s : List ℕ) (from : ℕ) (b : Node) → b ≡ blankNode → Walked s from (replicate 32 b) 0 Nowhere from
 unfolding total nodesFrom searched earlier
@@ -59,9 +59,9 @@ unfolding earlier
 first-nowhere Nowhere = refl
 first-nowhere (At p) = refl
 
--- one turn of the search, whether or not a wrong layout was met before
-first-turn : (a : Place) (x : Entity) (at : ℕ) (later : Place) → earlier a (pick (isUnknown x) (At at) later) ≡ earlier (earlier a (wrongAt x at)) later
-unfolding earlier wrongAt
+-- one turn of the search, whether or not a unlaid layout was met before
+first-turn : (a : Place) (x : Entity) (at : ℕ) (later : Place) → earlier a (pick (isUnknown x) (At at) later) ≡ earlier (earlier a (unlaidAt x at)) later
+unfolding earlier unlaidAt
 first-turn (At p) x at later = refl
 first-turn Nowhere x at later = go (isUnknown x)
   where
@@ -69,13 +69,13 @@ first-turn Nowhere x at later = go (isUnknown x)
     go true = refl
     go false = refl
 
-module _ (s : List ℕ) (from : ℕ) (nodes : List Node) (count : ℕ) (wrong : Place) (at e : ℕ) (g : Walked s from nodes count wrong at) (f : e ≡ endAt s at) where
-  stop : e ≡ at → record { run = record { count = count; nodes = nodes }; wrong = wrong } ≡ walkOf s from
+module _ (s : List ℕ) (from : ℕ) (nodes : List Node) (count : ℕ) (unlaid : Place) (at e : ℕ) (g : Walked s from nodes count unlaid at) (f : e ≡ endAt s at) where
+  stop : e ≡ at → record { run = record { count = count; nodes = nodes }; unlaid = unlaid } ≡ walkOf s from
   unfolding runIn walkOf
   stop h =
       let none : rest s at ≡ [] = rest-none s at (sym f ∙ h) in
       let all : rest s from ≡ g .behind = g .whole ∙ ap (λ (l : List (List ℕ)). g .behind ++ l) none ∙ append-nil (g .behind) in
-      let found : searched isWrong s from ≡ wrong = g .first ∙ ap (λ (l : List (List ℕ)). earlier wrong (firstFrom isWrong at (g .behind) l)) none ∙ ap (earlier wrong) (first-end isWrong at (g .behind)) ∙ first-nowhere wrong in
+      let found : searched isUnlaid s from ≡ unlaid = g .first ∙ ap (λ (l : List (List ℕ)). earlier unlaid (firstFrom isUnlaid at (g .behind) l)) none ∙ ap (earlier unlaid) (first-end isUnlaid at (g .behind)) ∙ first-nowhere unlaid in
       rw (found, all, g .counted, g .filled) refl
 
   module _ (h : e ≡ at → ⊥) where
@@ -91,7 +91,7 @@ module _ (s : List ℕ) (from : ℕ) (nodes : List Node) (count : ℕ) (wrong : 
     long : length nodes ≡ 32
     long = ap length (g .filled) ∙ pad-length blankNode mostEntities (nodesFrom audio from (g .behind))
 
-    module _ (x : Entity) (k : x ≡ entityOf (part s at e)) (next : Place) (w : next ≡ earlier wrong (wrongAt x at)) where
+    module _ (x : Entity) (k : x ≡ entityOf (part s at e)) (next : Place) (w : next ≡ earlier unlaid (unlaidAt x at)) where
       on : (after : List Node) → after ≡ set nodes count (nodeOf audio at (part s at e)) → Walked s from after (count + 1) next e
       unfolding total firstFrom
       on after z =
@@ -118,11 +118,11 @@ module _ (s : List ℕ) (from : ℕ) (nodes : List Node) (count : ℕ) (wrong : 
                 ∙ pad-set blankNode mostEntities (nodesFrom audio from b) (nodeOf audio at d)
                 ∙ ap (pad blankNode mostEntities) (ap (λ (i : ℕ). nodesFrom audio from b ++ nodeOf audio i d ∷ []) p ∙ sym (nodes-more audio from b d));
             first =
-                g .first ∙ ap (λ (r : List (List ℕ)). earlier wrong (firstFrom isWrong at b r)) more
-                ∙ first-turn wrong (entityOf d) at (firstFrom isWrong (at + length d) (b ++ d ∷ []) (rest s e))
-                ∙ ap (λ (y : Entity). earlier (earlier wrong (wrongAt y at)) (firstFrom isWrong (at + length d) (b ++ d ∷ []) (rest s e))) (sym k)
-                ∙ ap (λ (y : Place). earlier y (firstFrom isWrong (at + length d) (b ++ d ∷ []) (rest s e))) (sym w)
-                ∙ ap (λ (i : ℕ). earlier next (firstFrom isWrong i (b ++ d ∷ []) (rest s e))) m;
+                g .first ∙ ap (λ (r : List (List ℕ)). earlier unlaid (firstFrom isUnlaid at b r)) more
+                ∙ first-turn unlaid (entityOf d) at (firstFrom isUnlaid (at + length d) (b ++ d ∷ []) (rest s e))
+                ∙ ap (λ (y : Entity). earlier (earlier unlaid (unlaidAt y at)) (firstFrom isUnlaid (at + length d) (b ++ d ∷ []) (rest s e))) (sym k)
+                ∙ ap (λ (y : Place). earlier y (firstFrom isUnlaid (at + length d) (b ++ d ∷ []) (rest s e))) (sym w)
+                ∙ ap (λ (i : ℕ). earlier next (firstFrom isUnlaid i (b ++ d ∷ []) (rest s e))) m;
           }
 
       on-kept : (v : Node) → v ≡ nodeOf audio at (part s at e) → (after : List Node) → after ≡ set nodes count v → Walked s from after (count + 1) next e
@@ -134,10 +134,10 @@ module _ (s : List ℕ) (from : ℕ) (nodes : List Node) (count : ℕ) (wrong : 
 ruleset laws = (start, stop, count-fits, here-fits, on-kept, on-full, long, ordered, inside, falls, needs)
 
 abbrev Inv-loop : tie.InvT-loop
-Inv-loop s from nodes₀ count₀ wrong₀ at₀ nodes count wrong at = Walked s from nodes count wrong at
+Inv-loop s from nodes₀ count₀ unlaid₀ at₀ nodes count unlaid at = Walked s from nodes count unlaid at
 
 abbrev μ-loop : tie.MeasureT-loop
-μ-loop s from nodes₀ count₀ wrong₀ at₀ nodes count wrong at = length s - at
+μ-loop s from nodes₀ count₀ unlaid₀ at₀ nodes count unlaid at = length s - at
 
 blank-requires : tie.Need-blank-requires Inv-loop μ-loop
 blank-requires c κs = search laws
@@ -163,8 +163,8 @@ part-read-end c = search laws
 read-requires : tie.Need-read-requires Inv-loop μ-loop
 read-requires c κs = search laws
 
-first-wrong-requires : tie.Need-first-wrong-requires Inv-loop μ-loop
-first-wrong-requires c κs = search laws
+first-unlaid-requires : tie.Need-first-unlaid-requires Inv-loop μ-loop
+first-unlaid-requires c κs = search laws
 
 sub-node-of : tie.Need-sub-node-of Inv-loop μ-loop
 sub-node-of c = search laws
@@ -207,7 +207,7 @@ read-run-spec =
     part-read-start
     part-read-end
     read-requires
-    first-wrong-requires
+    first-unlaid-requires
     sub-node-of
     part-node-of-start
     part-node-of-end

@@ -8,7 +8,7 @@ use native.Mathlib.Omega.{arith}
 use lib.ListN.{length, length-take}
 use Rattle.layout.specs.declared.Cluster.{Cluster}
 use Rattle.layout.specs.declared.Entity.{Entity}
-use Rattle.layout.specs.declared.Entity.the-variants.{Unknown, Input, Output, Mixer, Selector, Printed, Feature}
+use Rattle.layout.specs.declared.Entity.the-variants.{Unknown, Input, Output, Mixer, Selector, Feature}
 use Rattle.layout.specs.Layout.{entityOf}
 use Rattle.channels.specs.Declared.{clusterKept}
 use Rattle.entities.specs.declared.Node.{Node}
@@ -53,61 +53,51 @@ module _ (s : List ℕ) (n : Node) (counts bitmaps d : List ℕ) (p : d ≡ desc
   unfolding keeps
   selector h b a = a ∙ of h
 
-  printed : {i p : ℕ} → e ≡ Printed i p → (b : Bool) → b ≡ alike (map (contentOn counts bitmaps) ids) → b ≡ keepsBy s n (contentOn counts bitmaps)
-  unfolding keeps
-  printed h b a = a ∙ of h
-
   feature : {i s′ k : ℕ} → e ≡ Feature i s′ k → (b : Bool)
       → b ≡ featureKept k (length d) (map (channelsOn counts) ids) → b ≡ keepsBy s n (contentOn counts bitmaps)
   unfolding keeps
   feature {k = k} h b a = a ∙ feature-same (channelsOn counts) (contentOn counts bitmaps) (λ x. refl) k (length d) ids ∙ of h
 
-ruleset laws = (few, unknown, input, output, mixer, selector, printed, feature, needs)
+ruleset laws = (few, unknown, input, output, mixer, selector, feature, needs)
 
 descriptor-at-requires : tie.Need-descriptor-at-requires
-descriptor-at-requires c κs = search laws
+descriptor-at-requires c κs = search needs
 
 sources-requires : tie.Need-sources-requires
-sources-requires c κs = search laws
+sources-requires c κs = search needs
 
 read-requires : tie.Need-read-requires
-read-requires c κs = search laws
+read-requires c κs = search needs
 
 enum-told : tie.Need-enum-told
-enum-told c = search laws
+enum-told c = search needs
 
 enum-known-entity : tie.Need-enum-known-entity
-enum-known-entity c = search laws
+enum-known-entity c = search needs
 
 cluster-kept-requires : tie.Need-cluster-kept-requires
-cluster-kept-requires c κs = search laws
+cluster-kept-requires c κs = search needs
 
 enum-told-2 : tie.Need-enum-told-2
-enum-told-2 c = search laws
+enum-told-2 c = search needs
 
 enum-known-entity-2 : tie.Need-enum-known-entity-2
-enum-known-entity-2 c = search laws
+enum-known-entity-2 c = search needs
 
 mixer-kept-requires : tie.Need-mixer-kept-requires
 mixer-kept-requires c κs = search laws
 
 enum-told-3 : tie.Need-enum-told-3
-enum-told-3 c = search laws
+enum-told-3 c = search needs
 
 selector-kept-requires : tie.Need-selector-kept-requires
-selector-kept-requires c κs = search laws
-
-enum-told-4 : tie.Need-enum-told-4
-enum-told-4 c = search laws
-
-selector-kept-requires-2 : tie.Need-selector-kept-requires-2
-selector-kept-requires-2 c κs = search laws
+selector-kept-requires c κs = search needs
 
 enum-known-entity-3 : tie.Need-enum-known-entity-3
-enum-known-entity-3 c = search laws
+enum-known-entity-3 c = search needs
 
 feature-kept-requires : tie.Need-feature-kept-requires
-feature-kept-requires c κs = search laws
+feature-kept-requires c κs = search needs
 
 returns : tie.Need-returns
 returns c = search laws
@@ -127,9 +117,6 @@ returns-5 c = search laws
 returns-6 : tie.Need-returns-6
 returns-6 c = search laws
 
-returns-7 : tie.Need-returns-7
-returns-7 c = search laws
-
 pub kept-spec : {M : Type 1} → statement M
 kept-spec =
     tie.close
@@ -145,8 +132,6 @@ kept-spec =
     mixer-kept-requires
     enum-told-3
     selector-kept-requires
-    enum-told-4
-    selector-kept-requires-2
     enum-known-entity-3
     feature-kept-requires
     returns
@@ -154,5 +139,4 @@ kept-spec =
     returns-3
     returns-4
     returns-5
-    returns-6
-    returns-7)
+    returns-6)

@@ -5,7 +5,7 @@ use mathlib.Core.Path.{_≡_, sym, ap}
 use mathlib.Core.Bool.{true, false}
 use Rattle.layout.specs.declared.Cluster.{Cluster}
 use Rattle.layout.specs.declared.Entity.{Entity}
-use Rattle.layout.specs.declared.Entity.the-variants.{Unknown, Input, Output, Mixer, Selector, Printed, Feature}
+use Rattle.layout.specs.declared.Entity.the-variants.{Unknown, Input, Output, Mixer, Selector, Feature}
 use Rattle.kinds.specs.Sources.{feedsOf}
 use Rattle.kinds.proofs.feeds.Statement.{statement}
 use Rattle.kinds.proofs.feeds.Tie as tie
@@ -31,36 +31,29 @@ module _ (e : Entity) where
   unfolding feedsOf
   selector h = sym (ap feedsOf h)
 
-  printed : {i p : ℕ} → e ≡ Printed i p → true ≡ feedsOf e
-  unfolding feedsOf
-  printed h = sym (ap feedsOf h)
-
   feature : {i s n : ℕ} → e ≡ Feature i s n → true ≡ feedsOf e
   unfolding feedsOf
   feature h = sym (ap feedsOf h)
 
-ruleset laws = (unknown, input, output, mixer, selector, printed, feature, needs)
+ruleset laws = (unknown, input, output, mixer, selector, feature, needs)
 
 enum-told : tie.Need-enum-told
-enum-told c = search laws
+enum-told c = search needs
 
 enum-told-2 : tie.Need-enum-told-2
-enum-told-2 c = search laws
+enum-told-2 c = search needs
 
 enum-told-3 : tie.Need-enum-told-3
-enum-told-3 c = search laws
+enum-told-3 c = search needs
 
 enum-told-4 : tie.Need-enum-told-4
-enum-told-4 c = search laws
+enum-told-4 c = search needs
 
 enum-told-5 : tie.Need-enum-told-5
-enum-told-5 c = search laws
+enum-told-5 c = search needs
 
 enum-told-6 : tie.Need-enum-told-6
-enum-told-6 c = search laws
-
-enum-told-7 : tie.Need-enum-told-7
-enum-told-7 c = search laws
+enum-told-6 c = search needs
 
 returns : tie.Need-returns
 returns c = search laws
@@ -80,9 +73,6 @@ returns-5 c = search laws
 returns-6 : tie.Need-returns-6
 returns-6 c = search laws
 
-returns-7 : tie.Need-returns-7
-returns-7 c = search laws
-
 pub feeds-spec : {M : Type 1} → statement M
 feeds-spec =
     tie.close
@@ -93,11 +83,9 @@ feeds-spec =
     enum-told-4
     enum-told-5
     enum-told-6
-    enum-told-7
     returns
     returns-2
     returns-3
     returns-4
     returns-5
-    returns-6
-    returns-7)
+    returns-6)

@@ -4,7 +4,7 @@ use Prim.Native.Nat.{ℕ}
 use mathlib.Core.Path.{_≡_, sym, ap}
 use Rattle.layout.specs.declared.Cluster.{Cluster}
 use Rattle.layout.specs.declared.Entity.{Entity}
-use Rattle.layout.specs.declared.Entity.the-variants.{Unknown, Input, Output, Mixer, Selector, Printed, Feature}
+use Rattle.layout.specs.declared.Entity.the-variants.{Unknown, Input, Output, Mixer, Selector, Feature}
 use Rattle.kinds.specs.Sources.{pinsOf}
 use Rattle.kinds.proofs.pins.Statement.{statement}
 use Rattle.kinds.proofs.pins.Tie as tie
@@ -30,36 +30,29 @@ module _ (e : Entity) where
   unfolding pinsOf
   selector h = sym (ap pinsOf h)
 
-  printed : {i p : ℕ} → e ≡ Printed i p → p ≡ pinsOf e
-  unfolding pinsOf
-  printed h = sym (ap pinsOf h)
-
   feature : {i s n : ℕ} → e ≡ Feature i s n → 1 ≡ pinsOf e
   unfolding pinsOf
   feature h = sym (ap pinsOf h)
 
-ruleset laws = (unknown, input, output, mixer, selector, printed, feature, needs)
+ruleset laws = (unknown, input, output, mixer, selector, feature, needs)
 
 enum-told : tie.Need-enum-told
-enum-told c = search laws
+enum-told c = search needs
 
 enum-told-2 : tie.Need-enum-told-2
-enum-told-2 c = search laws
+enum-told-2 c = search needs
 
 enum-told-3 : tie.Need-enum-told-3
-enum-told-3 c = search laws
+enum-told-3 c = search needs
 
 enum-known-entity : tie.Need-enum-known-entity
-enum-known-entity c = search laws
+enum-known-entity c = search needs
 
 enum-known-entity-2 : tie.Need-enum-known-entity-2
-enum-known-entity-2 c = search laws
-
-enum-known-entity-3 : tie.Need-enum-known-entity-3
-enum-known-entity-3 c = search laws
+enum-known-entity-2 c = search needs
 
 enum-told-4 : tie.Need-enum-told-4
-enum-told-4 c = search laws
+enum-told-4 c = search needs
 
 returns : tie.Need-returns
 returns c = search laws
@@ -79,9 +72,6 @@ returns-5 c = search laws
 returns-6 : tie.Need-returns-6
 returns-6 c = search laws
 
-returns-7 : tie.Need-returns-7
-returns-7 c = search laws
-
 pub pins-spec : {M : Type 1} → statement M
 pins-spec =
     tie.close
@@ -91,12 +81,10 @@ pins-spec =
     enum-told-3
     enum-known-entity
     enum-known-entity-2
-    enum-known-entity-3
     enum-told-4
     returns
     returns-2
     returns-3
     returns-4
     returns-5
-    returns-6
-    returns-7)
+    returns-6)

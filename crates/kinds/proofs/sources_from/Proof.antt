@@ -4,7 +4,7 @@ use Prim.Native.Nat.{ℕ}
 use mathlib.Core.Path.{_≡_, sym, ap}
 use Rattle.layout.specs.declared.Cluster.{Cluster}
 use Rattle.layout.specs.declared.Entity.{Entity}
-use Rattle.layout.specs.declared.Entity.the-variants.{Unknown, Input, Output, Mixer, Selector, Printed, Feature}
+use Rattle.layout.specs.declared.Entity.the-variants.{Unknown, Input, Output, Mixer, Selector, Feature}
 use Rattle.kinds.specs.Sources.{sourcesFrom}
 use Rattle.kinds.proofs.sources_from.Statement.{statement}
 use Rattle.kinds.proofs.sources_from.Tie as tie
@@ -30,36 +30,29 @@ module _ (e : Entity) where
   unfolding sourcesFrom
   selector h = sym (ap sourcesFrom h)
 
-  printed : {i p : ℕ} → e ≡ Printed i p → 6 ≡ sourcesFrom e
-  unfolding sourcesFrom
-  printed h = sym (ap sourcesFrom h)
-
   feature : {i s n : ℕ} → e ≡ Feature i s n → 4 ≡ sourcesFrom e
   unfolding sourcesFrom
   feature h = sym (ap sourcesFrom h)
 
-ruleset laws = (unknown, input, output, mixer, selector, printed, feature, needs)
+ruleset laws = (unknown, input, output, mixer, selector, feature, needs)
 
 enum-told : tie.Need-enum-told
-enum-told c = search laws
+enum-told c = search needs
 
 enum-told-2 : tie.Need-enum-told-2
-enum-told-2 c = search laws
+enum-told-2 c = search needs
 
 enum-told-3 : tie.Need-enum-told-3
-enum-told-3 c = search laws
+enum-told-3 c = search needs
 
 enum-told-4 : tie.Need-enum-told-4
-enum-told-4 c = search laws
+enum-told-4 c = search needs
 
 enum-told-5 : tie.Need-enum-told-5
-enum-told-5 c = search laws
+enum-told-5 c = search needs
 
 enum-told-6 : tie.Need-enum-told-6
-enum-told-6 c = search laws
-
-enum-told-7 : tie.Need-enum-told-7
-enum-told-7 c = search laws
+enum-told-6 c = search needs
 
 returns : tie.Need-returns
 returns c = search laws
@@ -79,9 +72,6 @@ returns-5 c = search laws
 returns-6 : tie.Need-returns-6
 returns-6 c = search laws
 
-returns-7 : tie.Need-returns-7
-returns-7 c = search laws
-
 pub sources-from-spec : {M : Type 1} → statement M
 sources-from-spec =
     tie.close
@@ -92,11 +82,9 @@ sources-from-spec =
     enum-told-4
     enum-told-5
     enum-told-6
-    enum-told-7
     returns
     returns-2
     returns-3
     returns-4
     returns-5
-    returns-6
-    returns-7)
+    returns-6)

@@ -5,7 +5,7 @@ use mathlib.Core.Path.{_≡_, sym, ap, _∙_}
 use mathlib.Core.List.{List, map}
 use Rattle.layout.specs.declared.Cluster.{Cluster}
 use Rattle.layout.specs.declared.Entity.{Entity}
-use Rattle.layout.specs.declared.Entity.the-variants.{Unknown, Input, Output, Mixer, Selector, Printed, Feature}
+use Rattle.layout.specs.declared.Entity.the-variants.{Unknown, Input, Output, Mixer, Selector, Feature}
 use Rattle.layout.specs.Layout.{entityOf}
 use Rattle.entities.specs.declared.Node.{Node}
 use Rattle.entities.specs.Run.{sourcesOf, descriptorOf}
@@ -61,11 +61,7 @@ module _ (s : List ℕ) (n : Node) (channels locations names : List ℕ) (d : Li
   unfolding giveOut
   selector x = gives ∙ of s n cl d p e q x
 
-  printed : {i k : ℕ} → e ≡ Printed i k → r ≡ givesBy s n cl
-  unfolding giveOut
-  printed x = gives ∙ of s n cl d p e q x
-
-ruleset laws = (unknown, input, output, mixer, selector, printed, feature, needs)
+ruleset laws = (unknown, input, output, mixer, selector, feature, needs)
 
 sources-requires : tie.Need-sources-requires
 sources-requires c κs = search needs
@@ -100,12 +96,6 @@ selected-requires c κs = search needs
 enum-told-4 : tie.Need-enum-told-4
 enum-told-4 c = search needs
 
-selected-requires-2 : tie.Need-selected-requires-2
-selected-requires-2 c κs = search needs
-
-enum-told-5 : tie.Need-enum-told-5
-enum-told-5 c = search needs
-
 returns : tie.Need-returns
 returns c = search laws
 
@@ -124,9 +114,6 @@ returns-5 c = search laws
 returns-6 : tie.Need-returns-6
 returns-6 c = search laws
 
-returns-7 : tie.Need-returns-7
-returns-7 c = search laws
-
 pub give-out-spec : {M : Type 1} → statement M
 give-out-spec =
     tie.close
@@ -142,12 +129,9 @@ give-out-spec =
     enum-told-3
     selected-requires
     enum-told-4
-    selected-requires-2
-    enum-told-5
     returns
     returns-2
     returns-3
     returns-4
     returns-5
-    returns-6
-    returns-7)
+    returns-6)

@@ -5,7 +5,7 @@ use mathlib.Core.Path.{_≡_, ap}
 use mathlib.Core.List.{List, [], _∷_}
 use Rattle.layout.specs.declared.Cluster.{Cluster}
 use Rattle.layout.specs.declared.Entity.{Entity}
-use Rattle.layout.specs.declared.Entity.the-variants.{Unknown, Input, Output, Mixer, Selector, Printed, Feature}
+use Rattle.layout.specs.declared.Entity.the-variants.{Unknown, Input, Output, Mixer, Selector, Feature}
 use Rattle.terminals.specs.Terminals.{terminalOf}
 use Rattle.terminals.specs.Table.{Entered, entered-none}
 use Rattle.terminals.proofs.enter_entity.Statement.{statement}
@@ -35,42 +35,35 @@ module _ (kinds counts : List ℕ) (c : ℕ) (e : Entity) where
   unfolding terminalOf
   of-selector i p h = none (ap (λ (x : Entity). terminalOf x c) h)
 
-  of-printed : (i p : ℕ) → e ≡ Printed i p → Entered (terminalOf e c) kinds counts kinds counts
-  unfolding terminalOf
-  of-printed i p h = none (ap (λ (x : Entity). terminalOf x c) h)
-
   of-feature : (i s n : ℕ) → e ≡ Feature i s n → Entered (terminalOf e c) kinds counts kinds counts
   unfolding terminalOf
   of-feature i s n h = none (ap (λ (x : Entity). terminalOf x c) h)
 
-ruleset laws = (of-unknown, of-input, of-output, of-mixer, of-selector, of-printed, of-feature, needs)
+ruleset laws = (of-unknown, of-input, of-output, of-mixer, of-selector, of-feature, needs)
 
 enum-told : tie.Need-enum-told
-enum-told c = search laws
+enum-told c = search needs
 
 enum-known-entity : tie.Need-enum-known-entity
-enum-known-entity c = search laws
+enum-known-entity c = search needs
 
 enter-requires : tie.Need-enter-requires
-enter-requires c κs = search laws
+enter-requires c κs = search needs
 
 enum-known-entity-2 : tie.Need-enum-known-entity-2
-enum-known-entity-2 c = search laws
+enum-known-entity-2 c = search needs
 
 enter-requires-2 : tie.Need-enter-requires-2
-enter-requires-2 c κs = search laws
+enter-requires-2 c κs = search needs
 
 enum-told-2 : tie.Need-enum-told-2
-enum-told-2 c = search laws
+enum-told-2 c = search needs
 
 enum-told-3 : tie.Need-enum-told-3
-enum-told-3 c = search laws
+enum-told-3 c = search needs
 
 enum-told-4 : tie.Need-enum-told-4
-enum-told-4 c = search laws
-
-enum-told-5 : tie.Need-enum-told-5
-enum-told-5 c = search laws
+enum-told-4 c = search needs
 
 returns : tie.Need-returns
 returns c = search laws
@@ -90,9 +83,6 @@ returns-5 c = search laws
 returns-6 : tie.Need-returns-6
 returns-6 c = search laws
 
-returns-7 : tie.Need-returns-7
-returns-7 c = search laws
-
 pub enter-entity-spec : {M : Type 1} → statement M
 enter-entity-spec =
     tie.close
@@ -105,11 +95,9 @@ enter-entity-spec =
     enum-told-2
     enum-told-3
     enum-told-4
-    enum-told-5
     returns
     returns-2
     returns-3
     returns-4
     returns-5
-    returns-6
-    returns-7)
+    returns-6)

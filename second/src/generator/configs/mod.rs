@@ -5,6 +5,7 @@ mod cutting;
 mod selectors;
 mod streaming;
 mod topology;
+mod withdrawn;
 
 use super::build::{
     case_a, class, filler, idle, interface, microphone, pcm, pcm_range, telephone, working,
@@ -86,7 +87,7 @@ const FEATURE: usize = 3;
 const SELECTOR: usize = 4;
 const RECORDING: usize = 5;
 const SPEAKER: usize = 6;
-const PRINTED: usize = 7;
+const SWITCH: usize = 7;
 const TRIM: usize = 8;
 
 // The groups of the desk by index, the AudioControl group standing after the first.
@@ -109,10 +110,10 @@ pub fn desk() -> Plan {
             size: 2,
             masks: vec![0x03, 0x00, 0xFF, 0x03, 0x40, 0xFC],
         },
-        Part::Selector { id: 5, sources: vec![4, 1], printed: false },
+        Part::Selector { id: 5, sources: vec![4, 1] },
         Part::Output { id: 6, terminal: 0x0101, source: 5 },
         Part::Output { id: 7, terminal: 0x0301, source: 2 },
-        Part::Selector { id: 8, sources: vec![1, 2], printed: true },
+        Part::Selector { id: 8, sources: vec![1, 2] },
         Part::Feature { id: 9, source: 8, size: 1, masks: vec![0x20, 0x81, 0x02] },
     ];
     let groups = vec![
@@ -146,8 +147,13 @@ pub fn feature(id: u8, source: u8, channels: u8) -> Part {
 }
 
 /// A Selector.
-pub fn selector(id: u8, sources: &[u8], printed: bool) -> Part {
-    Part::Selector { id, sources: sources.to_vec(), printed }
+pub fn selector(id: u8, sources: &[u8]) -> Part {
+    Part::Selector { id, sources: sources.to_vec() }
+}
+
+/// A printed Selector: a byte 00 before its sources, and one longer for it.
+pub fn printed(id: u8, sources: &[u8]) -> Part {
+    Part::Raw(class(&[&[5, id, sources.len() as u8, 0][..], sources, &[0]].concat()))
 }
 
 /// A Mixer with the right number of control bytes for `entering` channels.
@@ -163,6 +169,7 @@ pub fn all() -> Vec<Case> {
     cutting::all(&mut cases);
     topology::all(&mut cases);
     selectors::all(&mut cases);
+    withdrawn::all(&mut cases);
     streaming::all(&mut cases);
     shuffled(&mut cases);
     pairs(&mut cases);
@@ -184,7 +191,8 @@ fn examples(cases: &mut Cases) {
     cases.refuse_bytes("case A, Feature Unit's ID made 1", with(42, 1), Way::IdRepeated, 39);
     cases.refuse_bytes("case A, its source made 3", with(43, 3), Way::SourceOutput, 39);
     cases.keep_bytes("microphone", microphone());
-    cases.keep_bytes("telephone, printed Selectors", telephone(Telephone::Printed, 2, 0x64));
+    let printed = telephone(Telephone::Printed, 2, 0x64);
+    cases.refuse_bytes("telephone, printed Selectors", printed, Way::SelectorPrinted, 91);
     cases.keep_bytes("telephone, Selectors by table 4-6", telephone(Telephone::Tables, 2, 0x61));
     let as_printed = telephone(Telephone::Printed, 1, 0x64);
     cases.refuse_bytes("telephone as printed, number 1 twice", as_printed, Way::InterfacePair, 170);
@@ -205,9 +213,10 @@ fn shuffled(cases: &mut Cases) {
 /// A change of the desk that breaks one rule, and what tells the place once all is done.
 type Breach = (Way, fn(&mut Plan), fn(&Plan) -> usize);
 
-/// Two rules broken in one configuration: "the lowest number that applies is given".
+/// Two rules broken in one configuration: "the lowest number that applies is given", but that 17
+/// comes "after 9 and before 10".
 fn pairs(cases: &mut Cases) {
-    let breaches: [Breach; 13] = [
+    let breaches: [Breach; 14] = [
         (
             Way::InterfacePair,
             |plan| plan.groups[VENDOR].interface[2] = 4,
@@ -231,14 +240,19 @@ fn pairs(cases: &mut Cases) {
             |plan| plan.part_place(SPEAKER),
         ),
         (
+            Way::SelectorPrinted,
+            |plan| plan.parts[SELECTOR] = printed(5, &[4, 1]),
+            |plan| plan.part_place(SELECTOR),
+        ),
+        (
             Way::IdRepeated,
             |plan| plan.parts[TRIM] = plan.parts[TRIM].with(3, 4),
             |plan| plan.part_place(TRIM),
         ),
         (
             Way::SourceUnknown,
-            |plan| plan.parts[PRINTED] = plan.parts[PRINTED].with(7, 99),
-            |plan| plan.part_place(PRINTED),
+            |plan| plan.parts[SWITCH] = plan.parts[SWITCH].with(6, 99),
+            |plan| plan.part_place(SWITCH),
         ),
         (
             Way::ChainOnLoop,
@@ -253,7 +267,7 @@ fn pairs(cases: &mut Cases) {
         (
             Way::SelectorBitmap,
             |plan| plan.parts[PLAYBACK] = plan.parts[PLAYBACK].with(8, 0x05),
-            |plan| plan.part_place(PRINTED),
+            |plan| plan.part_place(SWITCH),
         ),
         (
             Way::GeneralLength,

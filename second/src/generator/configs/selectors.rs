@@ -24,10 +24,10 @@ pub fn all(cases: &mut Cases) {
 }
 
 /// A microphone for each pin, the Selector that chooses among them, and an Output Terminal.
-fn choice(pins: &[Pin], printed: bool) -> Plan {
+fn choice(pins: &[Pin]) -> Plan {
     let ids: Vec<u8> = (1..=pins.len() as u8).collect();
     let mut parts: Vec<Part> = ids.iter().zip(pins).map(|(&id, &pin)| input(id, pin)).collect();
-    parts.push(selector(CHOSEN, &ids, printed));
+    parts.push(selector(CHOSEN, &ids));
     parts.push(output(CHOSEN + 1, CHOSEN));
     Plan::new(parts, vec![])
 }
@@ -40,26 +40,23 @@ fn opening(id: u8, kind: u8, (channels, bitmap, name): Pin) -> Opening {
 
 /// What the answer to a choice among these pins is.
 enum Answer {
-    /// Accepted: the Selector, printed or not, and what is behind it show this cluster.
+    /// Accepted: the Selector and what is behind it show this cluster.
     Shown(Pin),
     /// Refused at the Selector.
     Unlike(Way),
 }
 
 fn choose(cases: &mut Cases, name: &str, pins: &[Pin], answer: Answer) {
-    for printed in [false, true] {
-        let mut plan = choice(pins, printed);
-        let kind = if printed { 0x15 } else { 0x05 };
-        match answer {
-            Answer::Shown(pin) => {
-                let shows = [opening(CHOSEN, kind, pin), opening(CHOSEN + 1, 3, pin)];
-                cases.keep_shown(name, &plan, &shows);
-            }
-            Answer::Unlike(way) => {
-                cases.refuse_plan(name, &plan, way, plan.part_place(pins.len()));
-                plan.parts.reverse();
-                cases.refuse_plan(&format!("{name}, turned"), &plan, way, plan.part_place(1));
-            }
+    let mut plan = choice(pins);
+    match answer {
+        Answer::Shown(pin) => {
+            let shows = [opening(CHOSEN, 5, pin), opening(CHOSEN + 1, 3, pin)];
+            cases.keep_shown(name, &plan, &shows);
+        }
+        Answer::Unlike(way) => {
+            cases.refuse_plan(name, &plan, way, plan.part_place(pins.len()));
+            plan.parts.reverse();
+            cases.refuse_plan(&format!("{name}, turned"), &plan, way, plan.part_place(1));
         }
     }
 }
@@ -144,7 +141,7 @@ fn indices(cases: &mut Cases) {
         (&[2, 3], 0),
     ] {
         let inputs = [(1, 9), (2, 4), (3, 9)].map(|(id, name)| input(id, (1, 0, name)));
-        let parts = [&[selector(CHOSEN, sources, false)][..], &inputs].concat();
+        let parts = [&[selector(CHOSEN, sources)][..], &inputs].concat();
         let shows = [opening(CHOSEN, 5, (1, 0, given))];
         cases.keep_shown(&format!("pins {sources:?}"), &Plan::new(parts, vec![]), &shows);
     }
@@ -174,7 +171,7 @@ fn behind(cases: &mut Cases) {
         output(9, 8),
         feature(8, 6, 3),
         output(7, 6),
-        selector(6, &[1, 4, 5], false),
+        selector(6, &[1, 4, 5]),
         feature(5, 2, 3),
         mixer(4, &[1, 2], 6, (3, 0x0003, 7)),
         input(2, (3, 0x0003, 8)),
@@ -218,9 +215,9 @@ fn ladders(cases: &mut Cases) {
     ] {
         let mut parts: Vec<Part> =
             (1..).zip(names).map(|(id, name)| input(id, (2, 0, name))).collect();
-        parts.push(selector(4, &[1, 2], false));
-        parts.push(selector(5, &[4, 3], false));
-        parts.push(selector(6, &[5], false));
+        parts.push(selector(4, &[1, 2]));
+        parts.push(selector(5, &[4, 3]));
+        parts.push(selector(6, &[5]));
         parts.push(output(7, 6));
         let shown = |id, kind, name| opening(id, kind, (2, 0, name));
         let shows =
@@ -235,13 +232,13 @@ fn ladders(cases: &mut Cases) {
 /// "Each rule reads the declared bytes, even where those break a rule themselves": what a Selector
 /// with unlike pins gives out to others is pin 1's.
 fn read_as_they_stand(cases: &mut Cases) {
-    let inner = |one: Pin, two: Pin| [selector(4, &[1, 2], false), input(1, one), input(2, two)];
+    let inner = |one: Pin, two: Pin| [selector(4, &[1, 2]), input(1, one), input(2, two)];
     let mut first = |name: &str, front: Part, one: Pin, two: Pin, refused: (Way, usize)| {
         let plan = Plan::new([&[front][..], &inner(one, two)].concat(), vec![]);
         cases.refuse_plan(name, &plan, refused.0, plan.part_place(refused.1));
     };
     let (left, centre) = ((1, 0x0001, 0), (1, 0x0004, 0));
-    let outer = |pin: u8| selector(5, &[4, pin], false);
+    let outer = |pin: u8| selector(5, &[4, pin]);
     let bitmap = Way::SelectorBitmap;
     first("pin 1's bitmap is given out", outer(1), left, centre, (bitmap, 1));
     first("pin 2's bitmap is not", outer(2), left, centre, (bitmap, 0));

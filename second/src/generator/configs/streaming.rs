@@ -213,7 +213,7 @@ fn format_descriptors(cases: &mut Cases) {
     let through = Plan::new(
         vec![
             Part::Output { id: 9, terminal: 0x0101, source: 8 },
-            selector(8, &[7, 1], false),
+            selector(8, &[7, 1]),
             feature(7, 1, 6),
             input(1, (6, 0x003F, 0)),
         ],

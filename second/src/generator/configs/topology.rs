@@ -2,7 +2,7 @@
 
 use super::{
     desk, feature, input, mixer, output, selector, Cases, FEATURE, MICROPHONE, MIXER, PLAYBACK,
-    PRINTED, SELECTOR, SPEAKER, STEREO, TRIM,
+    SELECTOR, SPEAKER, STEREO, SWITCH, TRIM,
 };
 use crate::generator::build::{Part, Plan};
 use crate::numbers::{ENTITIES, PINS};
@@ -56,9 +56,6 @@ fn layouts(cases: &mut Cases) {
         let bytes = parts[SELECTOR].resized(length);
         wrong("Selector of another length", SELECTOR, Way::SelectorLength, bytes);
     }
-    for pad in [1, 5, 255] {
-        wrong("printed Selector's pad", PRINTED, Way::SelectorPad, parts[PRINTED].with(5, pad));
-    }
     for length in [4, 5, 6] {
         wrong("Feature Unit too short", TRIM, Way::FeatureLength, parts[TRIM].resized(length));
     }
@@ -72,23 +69,19 @@ fn layouts(cases: &mut Cases) {
     });
     cases.keep("the name bytes are not read", |plan| {
         plan.parts[SPEAKER] = plan.parts[SPEAKER].with(8, 200);
-        plan.parts[PRINTED] = plan.parts[PRINTED].with(8, 200);
+        plan.parts[SWITCH] = plan.parts[SWITCH].with(7, 200);
         plan.parts[MICROPHONE] = plan.parts[MICROPHONE].with(6, 99).with(11, 200);
     });
-    let wide = |printed| {
-        let mut parts: Vec<Part> = (1..=8).map(|id| input(id, (1, 0, 0))).collect();
-        parts.push(selector(9, &[1, 2, 3, 4, 5, 6, 7, 8], printed));
-        parts.push(mixer(10, &[8, 7, 6, 5, 4, 3, 2, 1], 8, (3, 0x0007, 0)));
-        parts.push(mixer(11, &[9, 9, 9, 9, 9, 9, 9, 9], 8, (16, 0, 1)));
-        Plan::new(parts, vec![])
-    };
-    cases.keep_plan("8 pins", &wide(false));
-    cases.keep_plan("8 pins, printed Selector", &wide(true));
+    let mut wide: Vec<Part> = (1..=8).map(|id| input(id, (1, 0, 0))).collect();
+    wide.push(selector(9, &[1, 2, 3, 4, 5, 6, 7, 8]));
+    wide.push(mixer(10, &[8, 7, 6, 5, 4, 3, 2, 1], 8, (3, 0x0007, 0)));
+    wide.push(mixer(11, &[9, 9, 9, 9, 9, 9, 9, 9], 8, (16, 0, 1)));
+    cases.keep_plan("8 pins", &Plan::new(wide, vec![]));
     let narrow = Plan::new(
         vec![
             input(1, (1, 0, 0)),
-            selector(2, &[1], false),
-            selector(3, &[2], true),
+            selector(2, &[1]),
+            selector(3, &[2]),
             mixer(4, &[3], 1, (1, 0, 0)),
         ],
         vec![],
@@ -128,8 +121,8 @@ fn identities(cases: &mut Cases) {
         ("Mixer pin 2", MIXER, 6),
         ("Selector pin 1", SELECTOR, 5),
         ("Selector pin 2", SELECTOR, 6),
-        ("printed Selector pin 1", PRINTED, 6),
-        ("printed Selector pin 2", PRINTED, 7),
+        ("second Selector pin 1", SWITCH, 5),
+        ("second Selector pin 2", SWITCH, 6),
         ("Feature Unit", TRIM, 4),
     ];
     for (name, index, at) in places {
@@ -162,7 +155,7 @@ fn chains(cases: &mut Cases) {
         ("Mixer", MIXER, 6),
         ("Feature Unit", FEATURE, 4),
         ("Selector", SELECTOR, 6),
-        ("printed Selector", PRINTED, 7),
+        ("second Selector", SWITCH, 6),
     ] {
         cases.refuse(&format!("{name} sourcing itself"), Way::ChainOnLoop, |plan| {
             let id = plan.parts[index].bytes()[3];
@@ -210,9 +203,7 @@ fn chains(cases: &mut Cases) {
     let plan = Plan::new(chain, vec![]);
     cases.refuse_plan("a loop of 17 above 15", &plan, Way::ChainBelowLoop, plan.part_place(0));
     let double: Vec<Part> = (1..=32)
-        .map(
-            |id| if id == 1 { input(1, (1, 0, 0)) } else { selector(id, &[id - 1, id - 1], false) },
-        )
+        .map(|id| if id == 1 { input(1, (1, 0, 0)) } else { selector(id, &[id - 1, id - 1]) })
         .collect();
     cases.keep_plan("a ladder of 31 Selectors, two to the 31 routes", &Plan::new(double, vec![]));
 }
@@ -375,9 +366,9 @@ fn unit_clusters(cases: &mut Cases) {
     let through = Plan::new(
         vec![
             feature(6, 5, 3),
-            selector(5, &[4, 1], false),
+            selector(5, &[4, 1]),
             feature(4, 3, 3),
-            selector(3, &[1, 2], true),
+            selector(3, &[1, 2]),
             input(1, (3, 0x0003, 9)),
             input(2, (3, 0x0003, 0)),
             output(7, 6),
@@ -419,7 +410,7 @@ fn control_counts(cases: &mut Cases) {
     let plan = |counts: &[usize], selectors: u8| {
         let mut parts = vec![input(1, (16, 0, 0))];
         parts.extend(counts.iter().zip(2..).map(|(&count, id)| feature_of(id, count)));
-        parts.extend((0..selectors).map(|id| selector(100 + id, &[1], id % 2 == 1)));
+        parts.extend((0..selectors).map(|id| selector(100 + id, &[1])));
         Plan::new(parts, vec![])
     };
     cases.keep_plan("no control", &plan(&[0], 0));
