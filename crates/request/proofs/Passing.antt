@@ -238,11 +238,12 @@ module _ (st : State) (so : Sought) (d : List ℕ) (bytes : ℕ) where
   set-refused v u k size i g over x f n r q =
       refuses st _ r x (ap (outcomeAt (st .table) (placesIn so)) (set-by (st .table) so d v u k size i g over bytes x f ∙ no _ _ (ne-eqb _ _ n))) q
 
-  pub set-stored : (v : Table) (z i : ℕ) → Storing (st .table) so bytes d v z i → so .count ≤ i
-      → Sets (record { number = 0; written = 0; state = record { control = st .control; table = v } })
+  pub set-stored : (v : Table) (z i : ℕ) → Storing (st .table) so bytes d v z i → so .count ≤ i → (x : ℕ) → x ≡ 0
+      → Sets (record { number = x; written = 0; state = record { control = st .control; table = v } })
   unfolding answerOf
-  set-stored v z i g over =
-      ap (λ (w : Table). record { number = 0; written = 0; state = record { control = st .control; table = w } }) (storing-over (st .table) so bytes d v z i g over)
+  set-stored v z i g over x n =
+      ap (λ (m : ℕ). record { number = m; written = 0; state = record { control = st .control; table = v } }) n
+      ∙ ap (λ (w : Table). record { number = 0; written = 0; state = record { control = st .control; table = w } }) (storing-over (st .table) so bytes d v z i g over)
       ∙ sym (ap (λ o. answerOf st (outcomeAt (st .table) (placesIn so) o)) (g .granted))
 
 -- a Get asks

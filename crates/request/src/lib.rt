@@ -139,9 +139,9 @@ fn set_all(state: State, sought: Sought, bytes: u16, data: &[u8]) -> Answer
         size += asks.size;
         index += 1;
     }
-    let number = answers::set_number(unready, taken, size, bytes, data.len());
-    if number != 0 {
-        return refused(state, number);
+    let denied = answers::set_number(unready, taken, size, bytes, data.len());
+    if denied != 0 {
+        return refused(state, denied);
     }
     let mut at = 0;
     let mut next = 0;
@@ -155,7 +155,7 @@ fn set_all(state: State, sought: Sought, bytes: u16, data: &[u8]) -> Answer
     let control = state.control;
     let state = State { control, table };
     Answer {
-        number: 0,
+        number: denied,
         written: 0,
         state,
     }

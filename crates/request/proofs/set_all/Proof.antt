@@ -18,11 +18,11 @@ abbrev μ-loop : tie.MeasureT-loop
 μ-loop state bytes «data» sought table unready₀ taken₀ size₀ index₀ unready taken size index = sought .count - index
 
 abbrev Inv-loop2 : tie.InvT-loop2
-Inv-loop2 state bytes «data» sought table₀ unready taken size index number at₀ next₀ table at next =
+Inv-loop2 state bytes «data» sought table₀ unready taken size index denied at₀ next₀ table at next =
     Storing (state .table) sought bytes «data» table at next
 
 abbrev μ-loop2 : tie.MeasureT-loop2
-μ-loop2 state bytes «data» sought table₀ unready taken size index number at₀ next₀ table at next = sought .count - next
+μ-loop2 state bytes «data» sought table₀ unready taken size index denied at₀ next₀ table at next = sought .count - next
 
 loop-holds : tie.Need-loop-holds Inv-loop μ-loop Inv-loop2 μ-loop2
 loop-holds c = set-asking-start _ _ _ (c .before .before .pre) (search needs) (simp length-map at (c .before .before .good .0 .1 .1 .1 .0 .1 .1 .1 .0 .1 .0 .1))
@@ -103,7 +103,7 @@ loop2-again : tie.Need-loop2-again Inv-loop μ-loop Inv-loop2 μ-loop2
 loop2-again c = search stores
 
 returns-2 : tie.Need-returns-2 Inv-loop μ-loop Inv-loop2 μ-loop2
-returns-2 c = set-stored _ _ _ _ _ _ _ (c .before .loop2 .inv) (search needs)
+returns-2 c = set-stored _ _ _ _ _ _ _ (c .before .loop2 .inv) (search needs) _ (search needs)
 
 pub set-all-spec : {M : Type 1} → statement M
 set-all-spec =
