@@ -1,9 +1,10 @@
-//! What changed between two sheets (document 02, Nos. 4 and 6).
+//! What changed between two sheets (document 02, Nos. 4, 6 and 7).
 
 use std::collections::BTreeMap;
 use std::fmt;
 
-use crate::numbers::{RECORD, SELECTORS, SHEET};
+use crate::forms::NEW;
+use crate::numbers::{RECORD, SELECTORS};
 use crate::ways::Way;
 
 /// Where a record has its kind.
@@ -59,25 +60,9 @@ fn same(n: usize, before: u8, after: u8) -> bool {
     before == after || selector(before) && selector(after)
 }
 
-/// The records of a sheet by their IDs: "41 length over 512 or not a multiple of 16; 42 an ID of
-/// zero or one that stands twice".
+/// The records of a sheet by their IDs: "The compare program reads the new form".
 fn records(sheet: &[u8]) -> Result<BTreeMap<u8, &[u8]>, Way> {
-    if sheet.len() > SHEET {
-        return Err(Way::ComparedLong);
-    }
-    if sheet.len() % RECORD != 0 {
-        return Err(Way::ComparedUneven);
-    }
-    let mut by_id = BTreeMap::new();
-    for record in sheet.chunks(RECORD) {
-        if record[0] == 0 {
-            return Err(Way::ComparedIdZero);
-        }
-        if by_id.insert(record[0], record).is_some() {
-            return Err(Way::ComparedIdTwice);
-        }
-    }
-    Ok(by_id)
+    Ok(NEW.records(sheet)?.into_iter().map(|record| (record[0], record)).collect())
 }
 
 #[cfg(test)]
@@ -85,7 +70,7 @@ mod tests {
     use super::*;
 
     fn sheet(ids: &[u8]) -> Vec<u8> {
-        ids.iter().flat_map(|&id| [[id; 1].as_slice(), &[7; 15]].concat()).collect()
+        ids.iter().flat_map(|&id| [[id; 1].as_slice(), &[7; 31]].concat()).collect()
     }
 
     fn told(left: &[u8], right: &[u8]) -> Vec<String> {
@@ -98,12 +83,12 @@ mod tests {
         assert_eq!(told(&[], &[]), Vec::<String>::new());
         assert_eq!(told(&sheet(&[10, 9]), &sheet(&[255, 9])), ["left 0A", "right FF"]);
         assert_eq!(told(&sheet(&[1, 2]), &sheet(&[2, 1])), Vec::<String>::new());
-        for n in 1..16 {
+        for n in 1..32 {
             let mut right = sheet(&[3, 0xAB]);
-            right[16 + n] = 8;
+            right[32 + n] = 8;
             assert_eq!(told(&sheet(&[0xAB, 3]), &right), [format!("changed AB {n}")]);
         }
-        assert_eq!(told(&[[5; 16], [4; 16]].concat(), &sheet(&[4, 5])).len(), 2);
+        assert_eq!(told(&[[5; 32], [4; 32]].concat(), &sheet(&[4, 5])).len(), 2);
     }
 
     #[test]
@@ -123,15 +108,15 @@ mod tests {
 
     #[test]
     fn the_left_first_and_41_first() {
-        let (good, uneven, zero) = (sheet(&[1]), [0; 17], sheet(&[1, 0]));
+        let (good, uneven, zero) = (sheet(&[1]), [0; 48], sheet(&[1, 0]));
         let twice = sheet(&[1, 2, 1]);
         for bad in [&uneven[..], &zero, &twice] {
-            assert_eq!(differences(bad, &good), differences(bad, &[0; 16]));
+            assert_eq!(differences(bad, &good), differences(bad, &[0; 32]));
             assert_eq!(differences(&good, bad), differences(&[], bad));
         }
-        assert_eq!(differences(&uneven, &zero), Err(Way::ComparedUneven));
-        assert_eq!(differences(&zero, &uneven), Err(Way::ComparedIdZero));
-        assert_eq!(differences(&twice, &zero), Err(Way::ComparedIdTwice));
-        assert_eq!(differences(&good, &[0; 528]), Err(Way::ComparedLong));
+        assert_eq!(differences(&uneven, &zero), Err(Way::NewUneven));
+        assert_eq!(differences(&zero, &uneven), Err(Way::NewIdZero));
+        assert_eq!(differences(&twice, &zero), Err(Way::NewIdTwice));
+        assert_eq!(differences(&good, &[0; 1056]), Err(Way::NewLong));
     }
 }

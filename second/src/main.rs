@@ -4,16 +4,19 @@
 //! The work stands in three layers, as in document 01: cutting ([`cut`]), topology ([`entity`],
 //! [`topology`], [`streaming`], put together by [`reader`]) and requests ([`controls`],
 //! [`settings`], [`requests`]). Above them stand the programs [`sheet`], [`lend`] and [`relay`], and
-//! beside them what changed between two sheets ([`differences`], [`sheets`]) and the [`generator`].
+//! beside them the two forms of a sheet ([`forms`]), what changed between two sheets
+//! ([`differences`], [`sheets`]), the mover from one form to the other ([`mover`]) and the
+//! [`generator`].
 //!
 //! `second sheet`, `second lend`, `second relay`, `second sheets`: the programs, from standard input
 //! to standard output.
 //! `second differ`: the program `compare`, over the files `left` and `right` of the folder.
+//! `second move new|old`: the program `move`.
 //! `second vectors DIR [--report]`: writes the vectors; fails if a clause is not reached.
 //! `second fuzz SEED COUNT`: a fresh script of COUNT configurations and COUNT other steps.
-//! `second compare SEED COUNT EVERY SHEET LEND RELAY SHEETS`: fresh inputs through the programs SHEET,
-//! LEND, RELAY and SHEETS (each a command with its arguments) and through this one; one configuration
-//! in EVERY goes through SHEET.
+//! `second compare SEED COUNT EVERY SHEET LEND RELAY SHEETS MOVE`: fresh inputs through the programs
+//! SHEET, LEND, RELAY, SHEETS and MOVE (each a command with its arguments) and through this one; one
+//! configuration in EVERY goes through SHEET, and as many sheets through MOVE.
 
 #![deny(missing_docs)]
 
@@ -21,8 +24,10 @@ mod controls;
 mod cut;
 mod differences;
 mod entity;
+mod forms;
 mod generator;
 mod lend;
+mod mover;
 mod numbers;
 mod reader;
 mod relay;
@@ -40,9 +45,9 @@ use std::process::ExitCode;
 
 use generator::{compare, vectors};
 
-const USAGE: &str =
-    "usage: second sheet | lend | relay | sheets | differ | vectors DIR [--report] \
-                     | fuzz SEED COUNT | compare SEED COUNT EVERY SHEET LEND RELAY SHEETS";
+const USAGE: &str = "usage: second sheet | lend | relay | sheets | differ | move new|old \
+                     | vectors DIR [--report] | fuzz SEED COUNT \
+                     | compare SEED COUNT EVERY SHEET LEND RELAY SHEETS MOVE";
 
 fn main() -> ExitCode {
     let arguments: Vec<String> = std::env::args().skip(1).collect();
@@ -66,11 +71,14 @@ fn run(words: &[&str]) -> Result<Vec<u8>, String> {
         ["lend"] => Ok(lend::program(&input()?).into_bytes()),
         ["relay"] => Ok(relay::program(&input()?).into_bytes()),
         ["sheets"] => Ok(sheets::program(&input()?).into_bytes()),
+        ["move", words @ ..] => mover::program(words, input),
         ["differ"] => Ok(sheets::compare(Path::new(".")).into_bytes()),
         ["vectors", dir] => write_vectors(dir, false),
         ["vectors", dir, "--report"] => write_vectors(dir, true),
-        ["fuzz", seed, count] => Ok(compare::script(number(seed)?, number(count)? as usize).tape.bytes),
-        ["compare", seed, count, every, sheet, lend, relay, sheets] => {
+        ["fuzz", seed, count] => {
+            Ok(compare::script(number(seed)?, number(count)? as usize).tape.bytes)
+        }
+        ["compare", seed, count, every, sheet, lend, relay, sheets, mover] => {
             let command = |text: &str| text.split_whitespace().map(str::to_string).collect();
             let job = compare::Job {
                 seed: number(seed)?,
@@ -79,6 +87,7 @@ fn run(words: &[&str]) -> Result<Vec<u8>, String> {
                 lend: command(lend),
                 relay: command(relay),
                 sheets: command(sheets),
+                mover: command(mover),
                 every: number(every)? as usize,
             };
             compare::run(&job).map(|line| (line + "\n").into_bytes())

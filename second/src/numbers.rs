@@ -1,4 +1,4 @@
-//! The numbers of document 01 that a later paper may change, one place for each.
+//! The numbers of documents 01 and 02 that a later paper may change, one place for each.
 
 /// "L below 9": the least length of a configuration.
 pub const CONFIGURATION_LEAST: usize = 9;
@@ -6,15 +6,19 @@ pub const CONFIGURATION_LEAST: usize = 9;
 pub const CONFIGURATION_MOST: usize = 4096;
 /// "no entity, or more than 32".
 pub const ENTITIES: usize = 32;
-/// "Pins p are 1 to 8."
-pub const PINS: usize = 8;
+/// "Pins go up to 24 in all kinds".
+pub const PINS: usize = 24;
+/// The source IDs of an old record.
+pub const OLD_PINS: usize = 8;
 /// "c is 1 to 16"; also the highest channel that a control may have.
 pub const CHANNELS: usize = 16;
 /// "more than 128 controls".
 pub const CONTROLS: usize = 128;
-/// "Records of 16 bytes": eight bytes and then one for each pin.
+/// "The new record is 32 bytes": eight bytes and then one for each pin.
 pub const RECORD: usize = 8 + PINS;
-/// The program `sheet` "lends 512 bytes", and so does `relay`.
+/// "Records of 16 bytes": those of an old sheet.
+pub const OLD_RECORD: usize = 8 + OLD_PINS;
+/// "Demand 3's lent sheet becomes 1,024 bytes. The program `sheet` lends as many", and so does `relay`.
 pub const SHEET: usize = RECORD * ENTITIES;
 /// The kind of a Selector, and the one that old sheets show for a printed Selector.
 pub const SELECTORS: [u8; 2] = [0x05, 0x15];
@@ -22,7 +26,9 @@ pub const SELECTORS: [u8; 2] = [0x05, 0x15];
 pub const STEP: usize = 8192;
 /// The most room that a reply buffer of a `relay` script may have.
 pub const REPLY: usize = 64;
-/// The most bytes of a sheet that a step of `lend` may ask for.
-pub const LENT: usize = 1024;
-/// What each byte of a sheet that `lend` lends is before the configuration is read.
+/// The most bytes that a step of `lend` may ask for, and a move of `sheets`.
+pub const LENT: usize = 2048;
+/// What each byte is that such a step lends, before anything is written to it.
 pub const MARK: u8 = 0xAA;
+/// How many of them are shown on a line.
+pub const LINE: usize = 16;

@@ -65,8 +65,8 @@ fn accept(config: &[u8], sheet: &mut [u8]) -> Result<Answer, Refusal> {
     Ok(Answer { refusal: None, state: State { number: cut.control_number, table }, entities })
 }
 
-/// "Records of 16 bytes, no header, in entity order: ID; kind ...; c; bitmap (2); name index;
-/// pins; 00; then eight source IDs, unused ones 00. Bytes past the last record stay."
+/// "no header, in entity order: ID; kind ...; c; bitmap (2); name index; pins; 00"; "then twenty-four
+/// source IDs", "unused ones 00. Bytes past the last record stay."
 fn write_sheet(topology: &Topology, sheet: &mut [u8]) {
     let rows = sheet.chunks_exact_mut(RECORD);
     for ((entity, cluster), row) in topology.entities.iter().zip(&topology.clusters).zip(rows) {
@@ -88,9 +88,10 @@ fn write_sheet(topology: &Topology, sheet: &mut [u8]) {
 mod tests {
     use super::*;
     use crate::generator::build::case_a;
+    use crate::numbers::SHEET;
 
     fn refused(config: &[u8]) -> Option<(u16, usize)> {
-        read(config, &mut [0; 512]).refusal.map(|one| (one.way.number(), one.place))
+        read(config, &mut [0; SHEET]).refusal.map(|one| (one.way.number(), one.place))
     }
 
     /// The table of document 01, "Cases to prove together".
@@ -114,22 +115,22 @@ mod tests {
     #[test]
     fn the_sheet_has_to_hold_the_records_and_no_more() {
         let a = case_a();
-        let mut short = [9; 47];
+        let mut short = [9; 95];
         let answer = read(&a, &mut short);
         assert_eq!(answer.refusal, Some(Refusal::at(Way::SheetShort, 18)));
         assert_eq!(answer.state, State::empty());
-        assert_eq!(short, [9; 47]);
-        let mut exact = [9; 48];
+        assert_eq!(short, [9; 95]);
+        let mut exact = [9; 96];
         assert_eq!(read(&a, &mut exact).refusal, None);
-        let mut longer = [9; 50];
+        let mut longer = [9; 98];
         assert_eq!(read(&a, &mut longer).refusal, None);
-        assert_eq!(longer[..48], exact);
-        assert_eq!(longer[48..], [9; 2]);
+        assert_eq!(longer[..96], exact);
+        assert_eq!(longer[96..], [9; 2]);
     }
 
     #[test]
     fn a_table_by_entity_place_channel_selector() {
-        let answer = read(&case_a(), &mut [0; 512]);
+        let answer = read(&case_a(), &mut [0; SHEET]);
         let names: Vec<_> =
             answer.state.table.controls().unwrap().iter().map(|one| one.name()).collect();
         assert_eq!(names, [(2, 0, 1), (2, 1, 2)]);

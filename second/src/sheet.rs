@@ -3,8 +3,8 @@
 use crate::numbers::{RECORD, SHEET};
 use crate::reader;
 
-/// "reads a configuration from standard input, lends 512 bytes and prints each record as sixteen
-/// two-digit capital hex bytes with single spaces, or `refused N at P` in decimal".
+/// "reads a configuration from standard input", lends 1,024 bytes, "prints thirty-two bytes a record",
+/// "two-digit capital hex bytes with single spaces, or `refused N at P` in decimal".
 pub fn program(config: &[u8]) -> String {
     let mut lent = [0; SHEET];
     let answer = reader::read(config, &mut lent);
@@ -26,11 +26,14 @@ mod tests {
     use crate::generator::build::case_a;
 
     #[test]
-    fn case_a_prints_what_document_01_prints() {
-        let printed = "01 02 01 00 00 00 00 00 00 00 00 00 00 00 00 00\n\
-                       02 06 01 00 00 00 01 00 01 00 00 00 00 00 00 00\n\
-                       03 03 01 00 00 00 01 00 02 00 00 00 00 00 00 00\n";
-        assert_eq!(program(&case_a()), printed);
+    fn case_a_prints_what_document_01_prints_and_sixteen_more() {
+        let records = [
+            "01 02 01 00 00 00 00 00 00 00 00 00 00 00 00 00",
+            "02 06 01 00 00 00 01 00 01 00 00 00 00 00 00 00",
+            "03 03 01 00 00 00 01 00 02 00 00 00 00 00 00 00",
+        ];
+        let printed = records.map(|record| format!("{record}{}\n", " 00".repeat(16)));
+        assert_eq!(program(&case_a()), printed.concat());
     }
 
     #[test]

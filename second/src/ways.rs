@@ -55,9 +55,9 @@ ways! {
     KindUnknown = 9, "any other kind";
     InputTerminalLength = 9, "Input Terminal: length is not 12";
     OutputTerminalLength = 9, "Output Terminal: length is not 9";
-    MixerPins = 9, "Mixer: p is not 1 to 8";
+    MixerPins = 9, "Mixer: p is not 1 to 24";
     MixerLength = 9, "Mixer: length below 10+p";
-    SelectorPins = 9, "Selector: p is not 1 to 8";
+    SelectorPins = 9, "Selector: p is not 1 to 24";
     SelectorLength = 9, "Selector: length is neither 6+p nor 7+p";
     SelectorPad = 9, "Selector: length 7+p and byte 5 is not 0";
     FeatureLength = 9, "Feature Unit: length below 7";
@@ -105,7 +105,7 @@ ways! {
     PcmRangeLength = 14, "tag 1: f is 0 and length is not 14";
     PcmRangeOrder = 14, "tag 1: f is 0 and the lower rate is above the upper";
     ManyControls = 15, "more than 128 controls";
-    SheetShort = 16, "sheet shorter than 16 bytes for each entity";
+    SheetShort = 16, "sheet shorter than 32 bytes for each entity";
     LoadUnknown = 20, "load: no such control";
     LoadUnranged = 20, "load: the control is not a ranged one";
     LoadWide = 21, "load: a number too wide for the control";
@@ -144,10 +144,17 @@ ways! {
     SetPinZero = 38, "Set of a Selector below its pins";
     SetPinHigh = 38, "Set of a Selector above its pins";
     ReplyShort = 39, "Get: the reply buffer is shorter than the bytes to be sent";
-    ComparedLong = 41, "length over 512";
-    ComparedUneven = 41, "length not a multiple of 16";
-    ComparedIdZero = 42, "an ID of zero";
-    ComparedIdTwice = 42, "an ID that stands twice";
+    NewLong = 41, "new form: length over 1,024";
+    NewUneven = 41, "new form: length not a multiple of 32";
+    OldLong = 41, "old form: length over 512";
+    OldUneven = 41, "old form: length not a multiple of 16";
+    NewIdZero = 42, "new form: an ID of zero";
+    NewIdTwice = 42, "new form: an ID that stands twice";
+    OldIdZero = 42, "old form: an ID of zero";
+    OldIdTwice = 42, "old form: an ID that stands twice";
+    LastSixteen = 43, "new to old: a byte other than 00 in the last sixteen of a record";
+    RoomForNew = 44, "old to new: too little room";
+    RoomForOld = 44, "new to old: too little room";
 }
 
 /// A refusal of a configuration: its clause and its place.
@@ -172,7 +179,7 @@ mod tests {
 
     #[test]
     fn every_number_of_the_papers_has_a_way() {
-        let wanted = (1..=17).chain([20, 21]).chain(30..=39).chain([41, 42]);
+        let wanted = (1..=17).chain([20, 21]).chain(30..=39).chain(41..=44);
         for number in wanted {
             assert!(Way::ALL.iter().any(|way| way.number() == number), "{number}");
         }

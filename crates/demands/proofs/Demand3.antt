@@ -1,5 +1,5 @@
 -- Demand 3, proved.
---   room-enough  ==  512 bytes hold the records of every configuration
+--   room-enough  ==  1,024 bytes hold the records of every configuration
 use Prim.Native.Nat.{ℕ, _≤_}
 use mathlib.Core.Path.{_≡_, sym, _∙_}
 use mathlib.Core.List.{List}

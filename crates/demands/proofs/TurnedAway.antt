@@ -40,8 +40,8 @@ module _ (answers : List ℕ → List ℕ → Reading) (leaves : List ℕ → Li
   readers-turned-away r = record {
     refuses-everything = λ h. h caseA lent (ap (λ (x : Reading). x .number) a);
     single-sheet = λ one h.
-        let x : 0 ≡ byte one 48 = sym (ap (λ (l : List ℕ). byte l 48) (printed-a .sheet)) ∙ ap (λ (l : List ℕ). byte l 48) (sym (r .sheet caseA lent) ∙ h caseA (ap (λ (x : Reading). x .number) a)) in
-        let y : 4 ≡ byte one 48 = sym (answer-b .fourth) ∙ ap (λ (l : List ℕ). byte l 48) (sym (r .sheet caseB lent) ∙ h caseB b) in
+        let x : 0 ≡ byte one 96 = sym (ap (λ (l : List ℕ). byte l 96) (printed-a .sheet)) ∙ ap (λ (l : List ℕ). byte l 96) (sym (r .sheet caseA lent) ∙ h caseA (ap (λ (x : Reading). x .number) a)) in
+        let y : 4 ≡ byte one 96 = sym (answer-b .fourth) ∙ ap (λ (l : List ℕ). byte l 96) (sym (r .sheet caseB lent) ∙ h caseB b) in
         omega arith;
     writes-none = λ h.
         let x : 1 ≡ byte lent 0 = sym (ap (λ (l : List ℕ). byte l 0) (printed-a .sheet)) ∙ ap (λ (l : List ℕ). byte l 0) (sym (r .sheet caseA lent) ∙ h caseA lent (ap (λ (x : Reading). x .number) a)) in

@@ -9,7 +9,7 @@
 --   PrintedA         ==  the whole answer for case A, and the sheet as the document prints it
 --   caseB, AnswerB   ==  case A with a second Output Terminal and volume on the master channel too, and what is answered to it
 --   caseTable        ==  the table of case A before any load
---   lent             ==  the sheet of 512 bytes that the program lends
+--   lent             ==  the sheet that the program lends, 1,024 bytes
 use Prim.Native.Nat.{ℕ}
 use mathlib.Core.Path.{_≡_}
 use mathlib.Core.Bool.{true, false}
@@ -24,6 +24,7 @@ use Rattle.table.specs.declared.Control.{Control}
 use Rattle.table.specs.declared.Table.{Table}
 use Rattle.table.specs.Controls.{blankControl}
 use Rattle.topology.specs.Reading.{readingOf, sheetOf}
+use Rattle.demands.specs.Demand3.{wholeSheet}
 
 unfoldable pub caseA : List ℕ
 caseA =
@@ -43,12 +44,12 @@ caseA =
 
 -- the Feature Unit stands at place 39: its ID at 42, its source at 43
 pub record Configurations : Type 0 where
-  pub accepted : readingOf caseA 512 .number ≡ 0
-  pub length-wrong : readingOf (set caseA 2 108) 512 .number ≡ 2
-  pub eight-bytes : readingOf (take 8 caseA) 512 .number ≡ 1
-  pub sources-itself : readingOf (set caseA 43 2) 512 .number ≡ 12
-  pub same-id : readingOf (set caseA 42 1) 512 .number ≡ 10
-  pub sources-output : readingOf (set caseA 43 3) 512 .number ≡ 11
+  pub accepted : readingOf caseA wholeSheet .number ≡ 0
+  pub length-wrong : readingOf (set caseA 2 108) wholeSheet .number ≡ 2
+  pub eight-bytes : readingOf (take 8 caseA) wholeSheet .number ≡ 1
+  pub sources-itself : readingOf (set caseA 43 2) wholeSheet .number ≡ 12
+  pub same-id : readingOf (set caseA 42 1) wholeSheet .number ≡ 10
+  pub sources-output : readingOf (set caseA 43 3) wholeSheet .number ≡ 11
 
 abbrev pub cluster : ℕ → ℕ → ℕ → Cluster
 cluster c b i = record { channels = c; locations = b; names = i }
@@ -58,9 +59,9 @@ pub record Together : Type 0 where
   pub clusters : map clusterKept (cluster 5 0x0051 254 ∷ cluster 5 0x0051 255 ∷ cluster 4 0x0107 0 ∷ cluster 4 0x0107 1 ∷ []) ≡ true ∷ false ∷ true ∷ false ∷ []
   pub settings : map found (volume (minus 300) ∷ volume (minus 384) ∷ volume (pos 500) ∷ volume (minus 32768) ∷ bass (pos 9) ∷ []) ≡ minus 256 ∷ minus 512 ∷ pos 0 ∷ minus 32768 ∷ pos 6 ∷ []
 
--- the sheet of 512 bytes that the program lends, all zeros
+-- the sheet that the program lends, all zeros
 abbrev pub lent : List ℕ
-lent = replicate 512 0
+lent = replicate wholeSheet 0
 
 -- the table of case A before any load: Feature Unit 2 has mute on the master channel and volume on channel 1
 abbrev made : ℕ → ℕ → ℕ → Control
@@ -70,12 +71,15 @@ abbrev pub caseTable : Table
 caseTable = record { count = 2; controls = made 2 0 1 ∷ made 2 1 2 ∷ replicate 126 blankControl }
 
 pub record PrintedA : Type 0 where
-  pub answer : readingOf caseA 512 ≡ record { number = 0; place = 0; control = 0; entities = 3; controls = 2; table = caseTable }
+  pub answer : readingOf caseA wholeSheet ≡ record { number = 0; place = 0; control = 0; entities = 3; controls = 2; table = caseTable }
   pub sheet : sheetOf caseA lent
       ≡ 0x01 ∷ 0x02 ∷ 0x01 ∷ 0x00 ∷ 0x00 ∷ 0x00 ∷ 0x00 ∷ 0x00 ∷ 0x00 ∷ 0x00 ∷ 0x00 ∷ 0x00 ∷ 0x00 ∷ 0x00 ∷ 0x00 ∷ 0x00
+      ∷ 0x00 ∷ 0x00 ∷ 0x00 ∷ 0x00 ∷ 0x00 ∷ 0x00 ∷ 0x00 ∷ 0x00 ∷ 0x00 ∷ 0x00 ∷ 0x00 ∷ 0x00 ∷ 0x00 ∷ 0x00 ∷ 0x00 ∷ 0x00
       ∷ 0x02 ∷ 0x06 ∷ 0x01 ∷ 0x00 ∷ 0x00 ∷ 0x00 ∷ 0x01 ∷ 0x00 ∷ 0x01 ∷ 0x00 ∷ 0x00 ∷ 0x00 ∷ 0x00 ∷ 0x00 ∷ 0x00 ∷ 0x00
+      ∷ 0x00 ∷ 0x00 ∷ 0x00 ∷ 0x00 ∷ 0x00 ∷ 0x00 ∷ 0x00 ∷ 0x00 ∷ 0x00 ∷ 0x00 ∷ 0x00 ∷ 0x00 ∷ 0x00 ∷ 0x00 ∷ 0x00 ∷ 0x00
       ∷ 0x03 ∷ 0x03 ∷ 0x01 ∷ 0x00 ∷ 0x00 ∷ 0x00 ∷ 0x01 ∷ 0x00 ∷ 0x02 ∷ 0x00 ∷ 0x00 ∷ 0x00 ∷ 0x00 ∷ 0x00 ∷ 0x00 ∷ 0x00
-      ∷ replicate 464 0
+      ∷ 0x00 ∷ 0x00 ∷ 0x00 ∷ 0x00 ∷ 0x00 ∷ 0x00 ∷ 0x00 ∷ 0x00 ∷ 0x00 ∷ 0x00 ∷ 0x00 ∷ 0x00 ∷ 0x00 ∷ 0x00 ∷ 0x00 ∷ 0x00
+      ∷ replicate 928 0
 
 unfoldable pub caseB : List ℕ
 caseB =
@@ -95,7 +99,7 @@ caseB =
     ∷ []
 
 pub record AnswerB : Type 0 where
-  pub accepted : readingOf caseB 512 .number ≡ 0
-  pub entities : readingOf caseB 512 .entities ≡ 4
-  pub controls : readingOf caseB 512 .controls ≡ 3
-  pub fourth : byte (sheetOf caseB lent) 48 ≡ 4
+  pub accepted : readingOf caseB wholeSheet .number ≡ 0
+  pub entities : readingOf caseB wholeSheet .entities ≡ 4
+  pub controls : readingOf caseB wholeSheet .controls ≡ 3
+  pub fourth : byte (sheetOf caseB lent) 96 ≡ 4

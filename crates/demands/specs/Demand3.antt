@@ -1,15 +1,15 @@
--- Demand 3: "With a sheet of 512 bytes or more lent, a configuration is accepted exactly when there exist a cutting into descriptors, a
+-- Demand 3: "With a sheet of" 1,024 "bytes or more lent, a configuration is accepted exactly when there exist a cutting into descriptors, a
 -- rank on each entity, lower at a source than at its user, and a channel cluster on each entity's output, that keep every rule of
 -- document 01, written without the reader's search. For accepted bytes only one cutting and one set of clusters keep them, and the
 -- sheet shows those." What there must be is Configuration (reader/specs).
---   wholeSheet      ==  512 bytes
+--   wholeSheet      ==  1,024 bytes (document 02, No. 7)
 --   run t, cluster t, controls t  ==  of the configuration t: the run's descriptors, the clusters on IDs, the controls
 --   Demand3         ==  accepted: the reader's number is 0 exactly where the bytes are a configuration
 --                       one-cutting, one-descriptors, one-clusters: what keeps the rules is one: the cutting, the run's descriptors byte
 --                       by byte, the cluster on each ID
 --                       answer-shows: the whole answer: the AudioControl number, the count of entities, the controls
 --                       sheet-shows: the sheet: the records of the run's descriptors with those clusters, then the lent bytes as they
---                       stood; record-shows: of which the 16 bytes at 16·i are the record of the i-th descriptor with the cluster on
+--                       stood; record-shows: of which the 32 bytes at 32·i are the record of the i-th descriptor with the cluster on
 --                       its ID; record-bytes: byte by byte: the ID and the kind that the descriptor has, the cluster's numbers, the
 --                       pins, the source IDs at the offsets that its layout has
 --                       controls-stand, controls-order: a control is in the table exactly where an entity carries it; and the
@@ -39,7 +39,7 @@ use Rattle.reader.specs.Configuration.{runOf, Configuration, Rule16}
 
 -- a sheet that holds 32 records
 abbrev pub wholeSheet : ℕ
-wholeSheet = 512
+wholeSheet = 1024
 
 module _ {s : List ℕ} (t : Configuration s) where
   abbrev pub run : List (List ℕ)

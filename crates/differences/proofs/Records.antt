@@ -14,18 +14,17 @@ use lib.Dec.{eqb}
 use lib.ListN.{length, getD}
 use lib.Seq.{ext-getD}
 use native.Mathlib.Omega.{arith}
-use native.Mathlib.Nat.{add-zero}
 use borrow.Author.Tests.{eqb-true}
 use Rattle.ground.specs.Pick.{pick, Reads, reads-eq, reads-not, shows, true≠false}
 use Rattle.ground.specs.Numbers.{byte, Bytes}
-use Rattle.ground.specs.Lists.{member-at, member-index}
+use Rattle.ground.specs.Lists.{member-at}
 use Rattle.ground.specs.Places.{firstIn, Finding, finding}
 use Rattle.graph.specs.Members.{_∈_, along}
 use Rattle.graph.specs.Tables.{getD-tabulate, length-tabulate}
 use Rattle.graph.specs.Borne.{bears}
 use Rattle.records.specs.Records.{recordSize}
-use Rattle.legal.specs.Sheet.{countIn, recordAt, recordsIn, idOf, idAt, Sheet}
-use Rattle.legal.specs.SheetLaws.{record-long, record-byte}
+use Rattle.legal.specs.Sheet.{countIn, recordAt, recordsBy, recordsIn, idOf, idAt, Sheet}
+use Rattle.legal.specs.SheetLaws.{record-id, in-records, records-long}
 use Rattle.differences.specs.InTurn.{inTurn, in-turn, of-turn, AtMostOne, Rising, turn-rising}
 use Rattle.differences.specs.InTurn.AtMostOne.{nothing, one}
 use Rattle.differences.specs.Mended.{SameByte, same-compared, comparedAs, reads-same-byte, mended, mended-long, mended-byte}
@@ -33,20 +32,10 @@ use Rattle.differences.specs.Lines.{lastId, recordOf, differs, differing
 use Rattle.differences.specs.LinesLaws.{record-first}
 
 module _ (s : List ℕ) where
-  own-id : (k : ℕ) → k < countIn s → idOf (recordAt s k) ≡ idAt s k
-  own-id k h = record-byte s k h 0 (omega arith) ∙ ap (byte s) (add-zero _)
-
   record-in : (k : ℕ) → k < countIn s → recordAt s k ∈ recordsIn s
-  unfolding recordsIn
+  unfolding recordsBy
   record-in k h =
       along refl (rw (getD-tabulate (countIn s) (recordAt s) k [] h) at (member-at [] (recordsIn s) k (rw (length-tabulate (countIn s) (recordAt s)) h)))
-
-  in-record : {a : List ℕ} → a ∈ recordsIn s → (k : ℕ) × (k < countIn s) × (recordAt s k ≡ a)
-  unfolding recordsIn
-  in-record {a} m =
-      let i = member-index [] m in
-      let h : i .0 < countIn s = rw (length-tabulate (countIn s) (recordAt s)) at (i .1) in
-      (i .0, h, sym (getD-tabulate (countIn s) (recordAt s) (i .0) [] h) ∙ i .2)
 
   pub found-is : (i : ℕ) {a : List ℕ} → recordOf s i ≡ some a → a ∈ recordsIn s × (idOf a ≡ i)
   unfolding recordOf
@@ -56,23 +45,23 @@ module _ (s : List ℕ) where
       go (Finding.nothing h) q = let z : _≡_ {A = ℕ} 0 1 = cc in absurd (omega arith)
       go (Finding.first {i = k} f) q =
           let z : recordAt s k ≡ a = cc in
-          (rw z at (record-in k (f .inside)), sym (ap idOf z) ∙ own-id k (f .inside) ∙ eqb-true (idAt s k) i (f .passes))
+          (rw z at (record-in k (f .inside)), sym (ap idOf z) ∙ record-id recordSize s k (f .inside) (omega arith) ∙ eqb-true (idAt s k) i (f .passes))
 
   pub record-size : {a : List ℕ} → a ∈ recordsIn s → length a ≡ recordSize
-  record-size m = let k = in-record m in sym (ap length (k .2)) ∙ record-long s (k .0) (k .1)
+  record-size m = records-long recordSize s m
 
   module _ (sheet : Sheet s) where
     pub record-found : {a : List ℕ} → a ∈ recordsIn s → recordOf s (idOf a) ≡ some a
     record-found {a} m =
-        let k = in-record m in
-        let i : idAt s (k .0) ≡ idOf a = sym (own-id (k .0) (k .1)) ∙ ap idOf (k .2) in
+        let k = in-records recordSize s m in
+        let i : idAt s (k .0) ≡ idOf a = sym (record-id recordSize s (k .0) (k .1) (omega arith)) ∙ ap idOf (k .2) in
         let first : (j : ℕ) → j < k .0 → idAt s j ≡ idOf a → ⊥ = (λ j h e. let l = k .1 in let q : j ≡ k .0 = sheet .own .once j (k .0) (omega arith) l (e ∙ sym i) in omega arith) in
         record-first s (idOf a) (k .0) (k .1) i first ∙ ap (λ (b : List ℕ). some b) (k .2)
 
     pub id-above : {a : List ℕ} → a ∈ recordsIn s → 0 < idOf a
     id-above {a} m =
-        let k = in-record m in
-        let i : idAt s (k .0) ≡ idOf a = sym (own-id (k .0) (k .1)) ∙ ap idOf (k .2) in
+        let k = in-records recordSize s m in
+        let i : idAt s (k .0) ≡ idOf a = sym (record-id recordSize s (k .0) (k .1) (omega arith)) ∙ ap idOf (k .2) in
         let n : idOf a ≡ 0 → ⊥ = (λ z. sheet .own .named (k .0) (k .1) (i ∙ z)) in
         omega arith
 
@@ -81,8 +70,8 @@ module _ (s : List ℕ) where
 
   pub id-below : Bytes s → {a : List ℕ} → a ∈ recordsIn s → idOf a ≤ lastId
   id-below b {a} m =
-      let k = in-record m in
-      let i : idAt s (k .0) ≡ idOf a = sym (own-id (k .0) (k .1)) ∙ ap idOf (k .2) in
+      let k = in-records recordSize s m in
+      let i : idAt s (k .0) ≡ idOf a = sym (record-id recordSize s (k .0) (k .1) (omega arith)) ∙ ap idOf (k .2) in
       let l : idAt s (k .0) < 256 = b (k .0 * recordSize) in
       omega arith
 

@@ -7,12 +7,12 @@ use mathlib.Core.Logic.{_⊎_, inl, inr}
 use mathlib.Core.List.{List, [], _∷_, List·Memᴰ·head, List·Memᴰ·tail}
 use lib.Dec.{eqb, ltb}
 use borrow.Author.Tests.{eq-eqb, ne-eqb}
-use native.Mathlib.Omega.{arith}
 use Rattle.ground.specs.Pick.{pick, yes, no, decided, reads-eq}
 use Rattle.graph.specs.Members.{_∈_}
-use Rattle.legal.specs.Sheet.{Sheet, Judged, sheetNumber}
-use Rattle.legal.specs.Sheet.Judged.{wrong-length, wrong-id, sheet}
-use Rattle.legal.specs.SheetLaws.{sheet-judged, judged-one}
+use Rattle.records.specs.Records.{recordSize}
+use Rattle.legal.specs.Sheet.{sheetNumber}
+use Rattle.legal.specs.Sheet.JudgedBy.{sheet}
+use Rattle.legal.specs.SheetLaws.{sheet-judged, judged-one, sheet-given}
 use Rattle.differences.specs.Lines.{Line, lineId, recordOf, linesOf, firstAbove, told, lineTold, pairNumber}
 use Rattle.differences.specs.Masks.{numbers-back}
 use Rattle.differences.specs.WhatChanged.{JudgedPair, Sheets, WhatChanged}
@@ -23,23 +23,18 @@ use Rattle.differences.proofs.Calls.{every-call}
 use Rattle.differences.proofs.Rebuilding.{rebuilt-right}
 
 module _ (l r : List ℕ) where
-  sheet-given : {n : ℕ} → Judged l n → n ≡ 0 → Sheet l
-  sheet-given (wrong-length w) e = absurd (omega arith)
-  sheet-given (wrong-id f w) e = absurd (omega arith)
-  sheet-given (sheet k) e = k
-
   pair-judged : JudgedPair l r (pairNumber l r)
   unfolding pairNumber
   pair-judged = go (decided (eqb (sheetNumber l) 0) (reads-eq (sheetNumber l) 0))
     where
       go : (sheetNumber l ≡ 0) ⊎ (sheetNumber l ≡ 0 → ⊥) → JudgedPair l r (pick (eqb (sheetNumber l) 0) (sheetNumber r) (sheetNumber l))
-      go (inl e) = rw (eq-eqb (sheetNumber l) 0 e) (by-right (sheet-given (sheet-judged l) e) (sheet-judged r))
-      go (inr n) = rw (ne-eqb (sheetNumber l) 0 n) (by-left (sheet-judged l) n)
+      go (inl e) = rw (eq-eqb (sheetNumber l) 0 e) (by-right (sheet-given recordSize l (sheet-judged recordSize l) e) (sheet-judged recordSize r))
+      go (inr n) = rw (ne-eqb (sheetNumber l) 0 n) (by-left (sheet-judged recordSize l) n)
 
   pair-one : (n : ℕ) → JudgedPair l r n → pairNumber l r ≡ n
   unfolding pairNumber
-  pair-one n (by-left j f) = no _ _ (ne-eqb (sheetNumber l) 0 (λ z. f (sym (judged-one l j) ∙ z))) ∙ judged-one l j
-  pair-one n (by-right k j) = yes _ _ (eq-eqb (sheetNumber l) 0 (judged-one l (sheet k))) ∙ judged-one r j
+  pair-one n (by-left j f) = no _ _ (ne-eqb (sheetNumber l) 0 (λ z. f (sym (judged-one recordSize l j) ∙ z))) ∙ judged-one recordSize l j
+  pair-one n (by-right k j) = yes _ _ (eq-eqb (sheetNumber l) 0 (judged-one recordSize l (sheet k))) ∙ judged-one recordSize r j
 
   -- what is told of the first line above a number is that line
   whole : (a : ℕ) (ls : List Line) → ((x : Line) → x ∈ ls → LineSays (lineId x) (recordOf l (lineId x)) (recordOf r (lineId x)) x)

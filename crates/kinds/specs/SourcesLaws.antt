@@ -4,7 +4,7 @@
 --   pins-fields, from-fields, sources-fields  ==  as many pins as the fields of a descriptor have sources; they begin at the offset that the
 --                       format says; the part of the descriptor where they stand is the fields' list
 --   ids-length, id-at  ==  the IDs as a part of the descriptor: as many as pins; the ID of pin j + 1 is the byte j behind the first
---   pins-few        ==  at most eight pins
+--   pins-few        ==  at most 24 pins
 use Prim.Native.Nat.{ℕ, _+_, _≤_, _<_}
 use mathlib.Core.Path.{_≡_, refl, sym, ap, _∙_}
 use mathlib.Core.Option.{Option, none, some}

@@ -3,8 +3,8 @@
 --   numberOf k  ==  the number of its kind, byte 2
 --   formatOf k  ==  the layout
 --   cluster F   ==  the bytes of a declared cluster, then F: channels c, a bitmap of locations (2), a first name index
---   mostPins    ==  the most pins that a Mixer or a Selector may have: 8
---   Pins p      ==  p is 1 to 8
+--   mostPins    ==  the most pins that a Mixer or a Selector may have: 24 (document 02, No. 7)
+--   Pins p      ==  p is 1 to 24
 --   kinds       ==  all of them, in the order in which they are tried
 --   kindsOf n   ==  those whose number is n; kindsIn n ks: of the list ks
 use Prim.Native.Nat.{ℕ, _≤_}
@@ -21,7 +21,7 @@ pub data Kind : Type 0 where
   feature : Kind
 
 abbrev pub mostPins : ℕ
-mostPins = 8
+mostPins = 24
 
 abbrev pub Pins : ℕ → Type 0
 Pins p = (1 ≤ p) × (p ≤ mostPins)

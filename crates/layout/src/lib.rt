@@ -10,8 +10,8 @@ ghost use Rattle.ground.specs.Pick.{within};
 use scan::byte_at;
 use scan::word_at;
 
-// The most pins that a Mixer or a Selector may have.
-pub const MOST_PINS: u8 = 8;
+// The most pins that a Mixer or a Selector may have (document 02, No. 7).
+pub const MOST_PINS: u8 = 24;
 
 // A cluster is channels c, a bitmap of locations, and a first name index.
 pub struct Cluster {
@@ -88,7 +88,7 @@ fn read_output(d: &[u8]) -> Entity
     }
 }
 
-// Whether a number of pins is 1 to 8.
+// Whether a number of pins is 1 to 24.
 fn right_pins(pins: u8) -> bool
     ensures { λ r. ⌜ r ≡ within 1 pins mostPins ⌝ }
 {

@@ -1,7 +1,6 @@
 // The program `lend`: the reader with a sheet of another length at each step. A step from standard input is two bytes m, two bytes n, low
 // byte first, and n bytes: a configuration, read with m bytes lent, each of them AA. It prints the answer, then the lent bytes, sixteen to
 // a line, up to the last that is not AA, then how many stand behind it. A step that is none prints `bad step`, and the program ends.
-ghost use Prim.Native.Nat.{_≤_};
 ghost use mathlib.Core.Path.{_≡_};
 ghost use lib.ListN.{length};
 use libc::STDIN_FILENO;
@@ -12,16 +11,13 @@ use topology::Reading;
 const BODY: usize = 8192;
 
 // The most bytes of a sheet that a step may ask for.
-const SHEET: usize = 1024;
-
-// What the lent sheet is full of: no zero, so that a byte that was left is seen apart from one that was cleared.
-const MARK: u8 = 0xAA;
+const SHEET: usize = 2048;
 
 // What a proof needs of a large array is its length, not its bytes.
 fn sheet_space() -> [u8; SHEET]
-    ensures { λ r. ⌜ length r ≡ 1024 ⌝ }
+    ensures { λ r. ⌜ length r ≡ 2048 ⌝ }
 {
-    [MARK; SHEET]
+    [marks::MARK; SHEET]
 }
 
 fn body_space() -> [u8; BODY]
@@ -55,53 +51,10 @@ fn say_answer(reading: Reading) {
     say(b"\n");
 }
 
-// How many bytes stand before the marks at the sheet's end.
-fn before_marks(sheet: &[u8]) -> usize
-    ensures { λ r. ⌜ r ≤ length (now (sheet .entry)) ⌝ }
-{
-    let mut end = sheet.len();
-    while 0 < end {
-        if sheet[end - 1] != MARK {
-            return end;
-        }
-        end -= 1;
-    }
-    end
-}
-
-// A byte as two capital hex digits, and what stands behind them: the line's end if it is the last there.
-fn say_byte(b: u8, last: bool) {
-    let pair = text::hex_pair(b);
-    say(&pair);
-    if last {
-        say(b"\n");
-    } else {
-        say(b" ");
-    }
-}
-
-// Sixteen bytes to a line, the last line as long as is left.
-fn say_lines(bytes: &[u8]) {
-    let mut i: usize = 0;
-    while i < bytes.len() {
-        let b = bytes[i];
-        i += 1;
-        say_byte(b, i % records::RECORD == 0 || i == bytes.len());
-    }
-}
-
-fn say_sheet(sheet: &[u8]) {
-    let end = before_marks(sheet);
-    say_lines(&sheet[..end]);
-    say(b"rest");
-    say_next((sheet.len() - end) as u64);
-    say(b"\n");
-}
-
 fn read_into(config: &[u8], sheet: &mut [u8]) {
     let reading = topology::read(config, sheet);
     say_answer(reading);
-    say_sheet(sheet);
+    marks::show(sheet);
 }
 
 // Reads a configuration with m bytes lent. Whether it was a step at all.

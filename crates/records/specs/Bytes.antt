@@ -1,6 +1,6 @@
 -- The bytes of a record, each said of the descriptor's fields and of the cluster on its ID (document 01, "The sheet" and "Entities").
---   RecordBytes d c b  ==  the bytes b are the record of the descriptor d with the cluster c: "ID; kind ..; c; bitmap (2); name index; pins; 00; then
---                          eight source IDs, unused ones 00", where pins and sources are those of the fields that the layout gives d, and the
+--   RecordBytes d c b  ==  the bytes b are the record of the descriptor d with the cluster c: "ID; kind ..; c; bitmap (2); name index; pins; 00", then
+--                          "twenty-four source IDs", "unused ones 00", where pins and sources are those of the fields that the layout gives d, and the
 --                          kind is one of the five
 --   bytes-told         ==  the record of a descriptor that has its layout is such
 use Prim.Native.Nat.{ℕ, _+_, _/_, _%_, _≤_, _<_}

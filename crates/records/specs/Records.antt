@@ -1,7 +1,7 @@
--- The sheet (document 01): "Records of 16 bytes, no header, in entity order: ID; kind ..; c; bitmap (2); name index;
--- pins; 00; then eight source IDs, unused ones 00. Bytes past the last record stay."
+-- The sheet (document 01): "Records .., no header, in entity order: ID; kind ..; c; bitmap (2); name index; pins; 00; then" the "source IDs, unused
+-- ones 00. Bytes past the last record stay." Document 02, No. 7: "The new record is 32 bytes: the first eight as before, then twenty-four source IDs."
 --   headSize, recordSize  ==  the bytes in front of the source IDs: 8; the bytes of a record: these, and one for each source ID that it has
---                         a place for, 16 in all
+--                         a place for, 32 in all
 --   frontOf i k p c     ==  those in front, of an entity with ID i, kind k and p pins, and of its cluster c
 --   idsShown l          ==  the places of the source IDs: the IDs l, then 00
 --   headOf s n c        ==  the front of the record of the entity n of the configuration s with the cluster c; its pins are as many as

@@ -16,7 +16,7 @@ const BODY: usize = 8192;
 const REPLY: usize = 64;
 
 // The bytes of the sheet that is lent at a plug-in.
-const SHEET: usize = 512;
+const SHEET: usize = 1024;
 
 // The bytes of a control in a put step.
 const PUT: usize = 13;

@@ -1,4 +1,4 @@
-// The program `sheet` (document 01): reads a configuration from standard input, lends 512 bytes and prints each record as sixteen
+// The program `sheet` (document 01): reads a configuration from standard input, lends 1,024 bytes and prints each record as thirty-two
 // two-digit capital hex bytes with single spaces, or `refused N at P` in decimal.
 use libc::STDIN_FILENO;
 use libc::STDOUT_FILENO;
@@ -8,7 +8,7 @@ use topology::Reading;
 const ROOM: usize = 4097;
 
 // The bytes of the lent sheet.
-const SHEET: usize = 512;
+const SHEET: usize = 1024;
 
 fn say(text: &[u8]) {
     io::write_all(STDOUT_FILENO, text);

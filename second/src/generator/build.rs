@@ -363,11 +363,12 @@ mod tests {
     #[test]
     fn the_microphone_is_as_long_as_it_says() {
         assert_eq!(microphone().len(), 0x64);
-        assert_eq!(
-            sheet::program(&microphone()),
-            "01 02 01 00 00 00 00 00 00 00 00 00 00 00 00 00\n\
-             02 03 01 00 00 00 01 00 01 00 00 00 00 00 00 00\n"
-        );
+        let records = [
+            "01 02 01 00 00 00 00 00 00 00 00 00 00 00 00 00",
+            "02 03 01 00 00 00 01 00 01 00 00 00 00 00 00 00",
+        ];
+        let printed = records.map(|record| format!("{record}{}\n", " 00".repeat(16)));
+        assert_eq!(sheet::program(&microphone()), printed.concat());
     }
 
     #[test]
@@ -376,7 +377,8 @@ mod tests {
         let printed = telephone(Telephone::Printed, 2, 0x64);
         assert_eq!(sheet::program(&printed), "refused 17 at 91\n");
         let tables = telephone(Telephone::Tables, 2, 0x61);
-        assert_eq!(line(&tables).unwrap(), "07 05 01 00 00 00 02 00 02 03 00 00 00 00 00 00");
+        let selector = "07 05 01 00 00 00 02 00 02 03".to_string() + &" 00".repeat(22);
+        assert_eq!(line(&tables), Some(selector));
     }
 
     #[test]

@@ -4,11 +4,13 @@ use std::io::Write;
 use std::process::{Command, Stdio};
 
 use super::lent::{self, Lent};
+use super::moves::{self, Moves};
 use super::pairs::{self, Pairs};
 use super::random;
 use super::rng::Rng;
 use super::script::{put_body, step_bytes, Reach, Script};
 use super::tape::Tape;
+use crate::mover::{self, Wanted};
 use crate::relay::{self, PLUG_IN};
 use crate::requests::State;
 use crate::sheet;
@@ -31,7 +33,10 @@ pub struct Job {
     pub relay: Vec<String>,
     /// The program `sheets` and its arguments.
     pub sheets: Vec<String>,
-    /// One configuration in so many goes through `sheet` too; none if 0.
+    /// The program `move` and its arguments but the last.
+    pub mover: Vec<String>,
+    /// One configuration in so many goes through `sheet` too, and as many sheets through `move`;
+    /// none if 0.
     pub every: usize,
 }
 
@@ -61,18 +66,22 @@ pub fn run(job: &Job) -> Result<String, String> {
         compare_tape("lend", &job.lend, &lent.tape)?;
         let pairs = pair_script(seed, now);
         compare_tape("sheets", &job.sheets, &pairs.tape)?;
+        let moves = move_script(seed, now);
+        compare_tape("sheets", &job.sheets, &moves.tape)?;
+        compare_moves(job, seed, now)?;
         reach.add(&script.reach);
         reach.add(&lent.reach);
         reach.add(&pairs.reach);
+        reach.add(&moves.reach);
         done += now;
         eprintln!("{done} of {} configurations and steps", job.count);
     }
     let (ways, all) = (reach.ways.len(), Way::ALL.len());
     Ok(format!(
         "no difference: {done} configurations and {done} other steps through `relay`, {sheets} \
-         configurations through `sheet`, {} through `lend`, {} pairs through `sheets`; {ways} of the \
-         {all} clauses of refusals met",
-        reach.lent, reach.pairs
+         configurations through `sheet` and as many sheets through `move`, {} through `lend`, {} \
+         pairs and {} moves through `sheets`; {ways} of the {all} clauses of refusals met",
+        reach.lent, reach.pairs, reach.moves
     ))
 }
 
@@ -94,6 +103,39 @@ fn pair_script(seed: u64, count: usize) -> Pairs {
         pairs::random(&mut rng, &mut pairs);
     }
     pairs
+}
+
+/// So many moves at random.
+fn move_script(seed: u64, count: usize) -> Moves {
+    let mut rng = Rng::new(seed.rotate_left(16));
+    let mut moves = Moves::default();
+    for _ in 0..count {
+        moves::random(&mut rng, &mut moves);
+    }
+    moves
+}
+
+/// Compares what `move` prints for sheets at random, one for each configuration of `sheet`.
+fn compare_moves(job: &Job, seed: u64, count: usize) -> Result<(), String> {
+    if job.every == 0 {
+        return Ok(());
+    }
+    let mut rng = Rng::new(seed.rotate_left(48));
+    for _ in (0..count).step_by(job.every) {
+        let (wanted, sheet) = moves::some_sheet(&mut rng);
+        let word = if wanted == Wanted::New { "new" } else { "old" };
+        let command = [&job.mover[..], &[word.to_string()]].concat();
+        let (wanted, got) = (mover::printed(wanted, &sheet), output(&command, &sheet)?);
+        if got != wanted {
+            return Err(format!(
+                "difference in `move {word}`\nsheet: {}\nsecond prints: {}\nother prints: {}",
+                hex(&sheet),
+                hex(&wanted),
+                hex(&got)
+            ));
+        }
+    }
+    Ok(())
 }
 
 /// Runs a program over these bytes and answers what it printed.

@@ -13,7 +13,6 @@ use crate::lend;
 use crate::numbers::{ENTITIES, LENT, MARK, PINS, RECORD, SHEET, STEP};
 use crate::reader;
 use crate::relay::Printed;
-use crate::sheet;
 use crate::ways::Way;
 
 /// Configurations at random for each count of entities.
@@ -62,11 +61,11 @@ impl Lent {
     }
 
     /// Adds a configuration that keeps every rule but 16, with each length at which its answer
-    /// could turn: "sheet shorter than 16 bytes for each entity".
+    /// could turn: "sheet shorter than" 32 "bytes for each entity".
     fn edges(&mut self, config: &[u8]) {
         let entities = entities(config).expect("kept but for the sheet");
-        let need = 16 * entities;
-        let lengths = BTreeSet::from([0, need - 1, need, need + 1, SHEET, LENT]);
+        let need = 32 * entities;
+        let lengths = BTreeSet::from([0, need / 2, need - 1, need, need + 1, SHEET, LENT]);
         for m in lengths {
             let printed = self.step(m, config);
             let way = if m < need { Some(Way::SheetShort) } else { None };
@@ -149,10 +148,7 @@ fn named(lent: &mut Lent) {
         let Some((way, place)) = case.expect else {
             let printed = lent.step(SHEET, &case.bytes);
             assert_eq!(printed.way, None, "{}", case.name);
-            for opening in case.shows.iter().map(|opening| sheet::line(opening)) {
-                let shown = |line: &str| line.starts_with(opening.trim_end());
-                assert!(printed.lines.lines().any(shown), "{}: {opening}", case.name);
-            }
+            assert!(case.shown(), "{}", case.name);
             continue;
         };
         let first = !lent.none.contains(&way) || !lent.full.contains(&way);
@@ -187,7 +183,8 @@ pub fn random(rng: &mut Rng, lent: &mut Lent) {
 pub fn random_length(rng: &mut Rng, lent: &mut Lent, config: &[u8]) {
     let near = match entities(config) {
         Some(entities) if !rng.one_in(4) => {
-            (RECORD * entities) as i32 + *rng.pick(&[-16, -15, -2, -1, 0, 1, 2, 15, 16, 17])
+            (RECORD * entities) as i32
+                + *rng.pick(&[-32, -31, -16, -2, -1, 0, 1, 2, 16, 31, 32, 33])
         }
         _ => rng.below(LENT + 1) as i32,
     };

@@ -11,10 +11,9 @@ use crate::sheets::{self, PAIR};
 use crate::ways::Way;
 
 /// Pairs at random.
-const RANDOM: usize = 1500;
+const RANDOM: usize = 1000;
 /// The clauses by which a sheet is refused.
-const CLAUSES: [Way; 4] =
-    [Way::ComparedLong, Way::ComparedUneven, Way::ComparedIdZero, Way::ComparedIdTwice];
+const CLAUSES: [Way; 4] = [Way::NewLong, Way::NewUneven, Way::NewIdZero, Way::NewIdTwice];
 
 /// One step's bytes.
 pub fn pair_bytes(left: &[u8], right: &[u8]) -> Vec<u8> {
@@ -188,9 +187,11 @@ fn sides(pairs: &mut Pairs) {
             .into();
     pairs.says(&sheet(&[0xFE, 5, 1, 0x80]), &sheet(&[2, 0xFF, 0x81, 5, 0x7F]), &lines);
     let (left, right) = example();
-    let changed = "changed 21 1 2 3 4 5 6 7 8 9 10 11 12 13 14 15";
+    let changed =
+        "changed 21 1 2 3 4 5 6 7 8 9 10 11 12 13 14 15 16 17 18 19 20 21 22 23 24 25 26 \
+                   27 28 29 30 31";
     let lines: Vec<String> =
-        ["right 01", "changed 03 2", "changed 04 15", "left 0A", "right 0B", changed, "left FF"]
+        ["right 01", "changed 03 2", "changed 04 31", "left 0A", "right 0B", changed, "left FF"]
             .map(String::from)
             .into();
     pairs.says(&left, &right, &lines);
@@ -280,24 +281,25 @@ fn refusals(pairs: &mut Pairs) {
     };
     let last = ENTITIES - 1;
     let mut bad = vec![
-        (more(33), Way::ComparedLong),
-        (more(0), Way::ComparedLong),
-        (more(1), Way::ComparedLong),
-        (more(33)[..SHEET + 1].to_vec(), Way::ComparedLong),
-        (vec![9; 2 * SHEET], Way::ComparedLong),
-        (swapped(0, 0), Way::ComparedIdZero),
-        (swapped(last, 0), Way::ComparedIdZero),
-        (sheet(&[0]), Way::ComparedIdZero),
-        (vec![0; SHEET], Way::ComparedIdZero),
-        (swapped(0, ids[last]), Way::ComparedIdTwice),
-        (swapped(last, ids[last - 1]), Way::ComparedIdTwice),
-        (swapped(1, 1), Way::ComparedIdTwice),
-        (sheet(&[5, 255, 255]), Way::ComparedIdTwice),
+        (more(33), Way::NewLong),
+        (more(0), Way::NewLong),
+        (more(1), Way::NewLong),
+        (more(33)[..SHEET + 1].to_vec(), Way::NewLong),
+        (more(33)[..SHEET + 16].to_vec(), Way::NewLong),
+        (vec![9; 2 * SHEET], Way::NewLong),
+        (swapped(0, 0), Way::NewIdZero),
+        (swapped(last, 0), Way::NewIdZero),
+        (sheet(&[0]), Way::NewIdZero),
+        (vec![0; SHEET], Way::NewIdZero),
+        (swapped(0, ids[last]), Way::NewIdTwice),
+        (swapped(last, ids[last - 1]), Way::NewIdTwice),
+        (swapped(1, 1), Way::NewIdTwice),
+        (sheet(&[5, 255, 255]), Way::NewIdTwice),
     ];
-    for length in [1, RECORD - 1, RECORD + 1, SHEET - 1] {
-        bad.push((full[..length].to_vec(), Way::ComparedUneven));
+    for length in [1, 16, 31, 33, 48, SHEET / 2 + 16, SHEET - 16, SHEET - 1] {
+        bad.push((full[..length].to_vec(), Way::NewUneven));
     }
-    bad.push((vec![0; SHEET - 1], Way::ComparedUneven));
+    bad.push((vec![0; SHEET - 1], Way::NewUneven));
     let firsts: Vec<(Vec<u8>, Way)> = CLAUSES
         .iter()
         .map(|way| bad.iter().find(|one| one.1 == *way).expect("each clause").clone())
@@ -308,8 +310,8 @@ fn refusals(pairs: &mut Pairs) {
     // Nothing else of a record is judged.
     pairs.says(&[0xFF; RECORD], &[], &["left FF".to_string()]);
     let longest = STEP - 2;
-    assert_eq!(pairs.step(&vec![1; longest], &[]).way, Some(Way::ComparedLong));
-    assert_eq!(pairs.step(&[], &vec![1; longest]).way, Some(Way::ComparedLong));
+    assert_eq!(pairs.step(&vec![1; longest], &[]).way, Some(Way::NewLong));
+    assert_eq!(pairs.step(&[], &vec![1; longest]).way, Some(Way::NewLong));
 }
 
 /// Adds a pair at random: a sheet and one that was made from it, now and then with something that
@@ -363,7 +365,7 @@ fn alter(rng: &mut Rng, records: &mut Vec<Vec<u8>>, fresh: u8) {
         }
         _ => {
             let at = rng.below(records.len());
-            for _ in 0..*rng.pick(&[1, 1, 2, 5, 15]) {
+            for _ in 0..*rng.pick(&[1, 1, 2, 5, 31]) {
                 records[at][1 + rng.below(RECORD - 1)] = rng.byte();
             }
         }

@@ -8,7 +8,9 @@ use super::rng::Rng;
 use super::script::{load_body, put_body, request_body, setup, Script};
 use super::steps::sample;
 use crate::controls::{Control, Holds, Table};
-use crate::numbers::{CHANNELS, CONFIGURATION_MOST, CONTROLS, ENTITIES, PINS, REPLY, SHEET};
+use crate::numbers::{
+    CHANNELS, CONFIGURATION_MOST, CONTROLS, ENTITIES, OLD_PINS, PINS, REPLY, SHEET,
+};
 use crate::reader;
 use crate::relay::{LOAD, PLUG_IN, PUT, REQUEST, SHOW};
 use crate::requests::{self, table_breach, Load, State, ALL_CHANNELS};
@@ -176,7 +178,7 @@ fn terminal(rng: &mut Rng) -> u16 {
 
 fn pins(rng: &mut Rng) -> usize {
     if rng.one_in(6) {
-        PINS
+        *rng.pick(&[PINS, PINS - 1, OLD_PINS, OLD_PINS + 1])
     } else {
         1 + rng.below(4)
     }
@@ -347,7 +349,7 @@ fn rewire(rng: &mut Rng, plan: &mut Plan) {
     }
     let new = *rng.pick(&ids);
     on_part(rng, plan, |rng, bytes| {
-        let pins = usize::from(bytes.get(4).copied().unwrap_or(0)).clamp(1, 8);
+        let pins = usize::from(bytes.get(4).copied().unwrap_or(0)).clamp(1, PINS);
         let at = match bytes.get(2) {
             _ if rng.one_in(8) => 3,
             Some(3) => 7,
@@ -800,7 +802,7 @@ fn put_spoilt(rng: &mut Rng, state: &State) -> Vec<u8> {
         0 => control.unit = rng.byte(),
         1 => control.channel = *rng.pick(&[0, 1, 15, 16, 17, 255]),
         2 => control.selector = rng.below(13) as u8,
-        3 => control.pins = rng.below(11) as u8,
+        3 => control.pins = rng.below(PINS + 3) as u8,
         4 => control.loaded = !control.loaded,
         5 => control.min = number(rng),
         6 => control.max = number(rng),

@@ -21,8 +21,10 @@ pub struct Reach {
     pub steps: usize,
     /// Steps of `lend`.
     pub lent: usize,
-    /// Steps of `sheets`.
+    /// Pairs among the steps of `sheets`.
     pub pairs: usize,
+    /// Moves among the steps of `sheets`.
+    pub moves: usize,
 }
 
 impl Reach {
@@ -41,9 +43,15 @@ impl Reach {
         self.count_answer(printed);
     }
 
-    /// Counts one answer of `sheets`.
+    /// Counts one answer of `sheets` to a pair.
     pub fn count_pair(&mut self, printed: &Printed) {
         self.pairs += 1;
+        self.count_answer(printed);
+    }
+
+    /// Counts one answer of `sheets` to a move.
+    pub fn count_move(&mut self, printed: &Printed) {
+        self.moves += 1;
         self.count_answer(printed);
     }
 
@@ -69,6 +77,7 @@ impl Reach {
         self.steps += other.steps;
         self.lent += other.lent;
         self.pairs += other.pairs;
+        self.moves += other.moves;
     }
 }
 
@@ -123,11 +132,7 @@ pub struct Script {
 impl Script {
     /// With no step.
     pub fn new() -> Script {
-        Script {
-            tape: Tape::default(),
-            state: State::empty(),
-            reach: Reach::default(),
-        }
+        Script { tape: Tape::default(), state: State::empty(), reach: Reach::default() }
     }
 
     /// Adds a step, which has to be a good one.

@@ -81,7 +81,7 @@ pub fn get(script: &mut Script, pair: (u8, u8), name: Name, size: usize, value: 
 }
 
 /// A box with AudioControl number 4: unit 2 has every control on the master and on two channels,
-/// unit 3 is a Selector of eight pins, unit 4 one of one pin, unit 6 has no control.
+/// unit 3 is a Selector of as many pins as may be, unit 4 one of one pin, unit 6 has no control.
 fn bench() -> Vec<u8> {
     let masks = [0xFF, 0x03].repeat(3);
     let mut plan = Plan::new(
@@ -660,7 +660,7 @@ fn spoilt_tables(script: &mut Script) {
     for channel in [1, 16, 17, 255] {
         spoilt(script, Way::TableSelectorChannel, &|table| table[12].channel = channel);
     }
-    for pins in [0, PINS as u8 + 1, 16, 255] {
+    for pins in [0, PINS as u8 + 1, 32, 255] {
         spoilt(script, Way::TablePins, &|table| table[12].pins = pins);
     }
     spoilt_ranges(script, &spoilt);
@@ -743,7 +743,7 @@ fn spoilt_settings(script: &mut Script, spoilt: Spoilt) {
 
 /// Every field of every control of the sample made each of some values, whatever comes of it.
 fn every_field(script: &mut Script) {
-    let bytes = [0, 1, 2, 8, 9, 16, 17, 255];
+    let bytes = [0, 1, 2, 8, 9, 16, 17, 24, 25, 255];
     let numbers = [0, 1, 2, 127, 128, 255, 256, 0x7FFF, 0x8000, 0x8001, 0xFFFF];
     for place in 0..sample().len() {
         for field in 0..9 {

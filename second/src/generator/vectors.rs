@@ -6,16 +6,18 @@ use std::path::Path;
 use super::build::{case_a, microphone, telephone, Telephone};
 use super::configs::{self, desk};
 use super::lent::{self, lent_bytes, Lent};
+use super::moves::{self, move_bytes, Moves};
 use super::pairs::{self, pair_bytes, Pairs};
 use super::random;
 use super::rng::Rng;
 use super::script::{step_bytes, Reach, Script};
 use super::steps;
 use crate::lend;
+use crate::mover;
 use crate::numbers::{CONFIGURATION_MOST, CONTROLS, LENT, STEP};
 use crate::relay::{self, LOAD, PLUG_IN, PUT, REQUEST, SHOW};
 use crate::sheet;
-use crate::sheets::{self, PAIR};
+use crate::sheets::{self, PAIR, TO_NEW, TO_OLD};
 use crate::ways::Way;
 
 /// The seed of all that is random in the vectors.
@@ -33,18 +35,20 @@ const LEAST: (usize, usize) = (2000, 20000);
 pub struct Run {
     /// The folder's name, which opens with the program's.
     pub name: String,
+    /// The words behind the program's name.
+    pub words: Vec<&'static str>,
     /// What the program reads.
     pub stdin: Vec<u8>,
     /// The files of the folder that it runs in.
     pub files: Vec<(&'static str, Vec<u8>)>,
     /// What it has to print.
-    pub stdout: String,
+    pub stdout: Vec<u8>,
 }
 
 impl Run {
     /// A run that reads standard input.
-    fn new(name: impl Into<String>, stdin: Vec<u8>, stdout: impl Into<String>) -> Run {
-        Run { name: name.into(), stdin, files: vec![], stdout: stdout.into() }
+    fn new(name: impl Into<String>, stdin: Vec<u8>, stdout: impl Into<Vec<u8>>) -> Run {
+        Run { name: name.into(), words: vec![], stdin, files: vec![], stdout: stdout.into() }
     }
 }
 
@@ -56,8 +60,10 @@ pub struct Vectors {
     pub reach: Reach,
     /// The steps of `lend`.
     lent: Lent,
-    /// The steps of `sheets`.
+    /// The pairs of `sheets`.
     pairs: Pairs,
+    /// The moves of `sheets`.
+    moves: Moves,
     /// What is reached on purpose, before anything at random.
     pub named: Reach,
 }
@@ -71,12 +77,17 @@ pub fn make() -> Vectors {
     assert_eq!(lend::program(&lent.tape.bytes), lent.tape.printed);
     reach.add(&lent.reach);
     named.add(&lent.named);
-    runs.push(Run::new("lend_steps", lent.tape.bytes.clone(), &lent.tape.printed));
+    runs.push(Run::new("lend_steps", lent.tape.bytes.clone(), lent.tape.printed.as_str()));
     let pairs = pairs::all(SEED + 4);
     assert_eq!(sheets::program(&pairs.tape.bytes), pairs.tape.printed);
     reach.add(&pairs.reach);
     named.add(&pairs.named);
-    runs.push(Run::new("sheets_pairs", pairs.tape.bytes.clone(), &pairs.tape.printed));
+    runs.push(Run::new("sheets_pairs", pairs.tape.bytes.clone(), pairs.tape.printed.as_str()));
+    let moves = moves::all(SEED + 5);
+    assert_eq!(sheets::program(&moves.tape.bytes), moves.tape.printed);
+    reach.add(&moves.reach);
+    named.add(&moves.named);
+    runs.push(Run::new("sheets_moves", moves.tape.bytes.clone(), moves.tape.printed.as_str()));
     for (name, (script, on_purpose)) in
         [("relay_configs", configuration_script()), ("relay_steps", step_script())]
     {
@@ -91,7 +102,9 @@ pub fn make() -> Vectors {
     runs.extend(bad_lent_steps());
     runs.extend(bad_pairs());
     runs.extend(compared_files());
-    Vectors { runs, reach, named, lent, pairs }
+    runs.extend(moved_sheets());
+    runs.extend(wrong_words());
+    Vectors { runs, reach, named, lent, pairs, moves }
 }
 
 /// Every configuration made on purpose, with its answer held to what is written there, and more at
@@ -150,7 +163,7 @@ fn sheets() -> Vec<Run> {
         ("sheet_ladder", "a ladder of 31 Selectors, two to the 31 routes"),
         ("sheet_turned", "the desk's run turned round"),
         ("sheet_through", "clusters through Selectors and Feature Units"),
-        ("sheet_pins", "8 pins"),
+        ("sheet_pins", "24 pins, sources rising"),
         ("sheet_32", "32 entities up to ID 255"),
         ("sheet_33", "33 entities"),
         ("sheet_loop", "a loop of length 32"),
@@ -196,7 +209,7 @@ fn quiet_ends() -> Vec<Run> {
         run("relay_empty", vec![], ""),
         run("relay_quiet", emptied(), "put\ntable 0\n"),
         run("sheets_empty", vec![], ""),
-        run("sheets_quiet", pair_bytes(&[1; 16], &[]), "left 01\nend\n"),
+        run("sheets_quiet", pair_bytes(&[1; 32], &[]), "left 01\nend\n"),
     ]
 }
 
@@ -278,16 +291,24 @@ fn bad_lent_steps() -> Vec<Run> {
 
 /// Runs of `sheets` that end in what is no step: each way of it once, after a good step.
 fn bad_pairs() -> Vec<Run> {
-    let good = pair_bytes(&[2; 16], &[3; 16]);
+    let good = pair_bytes(&[2; 32], &[3; 32]);
     let ends = [
         ("kind_0", step_bytes(0, &[0; 2])),
-        ("kind_2", step_bytes(2, &[0; 2])),
+        ("kind_4", step_bytes(4, &[0; 2])),
         ("kind_255", step_bytes(255, &[0; 34])),
         ("body_0", step_bytes(PAIR, &[])),
         ("body_1", step_bytes(PAIR, &[0])),
         ("left", step_bytes(PAIR, &[17; 18])),
         ("longest_left", step_bytes(PAIR, &[0xFF; 34])),
         ("long", pair_bytes(&[1; 16], &[0; STEP - 17])),
+        ("new_body_0", step_bytes(TO_NEW, &[])),
+        ("new_body_1", step_bytes(TO_NEW, &[0])),
+        ("old_body_1", step_bytes(TO_OLD, &[0])),
+        ("new_room", move_bytes(TO_NEW, LENT + 1, &[1; 16])),
+        ("old_room", move_bytes(TO_OLD, LENT + 1, &[1; 32])),
+        ("longest_room", move_bytes(TO_OLD, 0xFFFF, &[1; 32])),
+        ("long_move", move_bytes(TO_NEW, 0, &[1; STEP - 1])),
+        ("ends_in_move", move_bytes(TO_NEW, 32, &[1; 16])[..20].to_vec()),
         ("ends_in_kind", good[..1].to_vec()),
         ("ends_in_length", good[..2].to_vec()),
         ("ends_before_body", good[..3].to_vec()),
@@ -317,15 +338,71 @@ fn compared_files() -> Vec<Run> {
         run("compare_same", &left, &left),
         run("compare_nothing", &[], &[]),
         run("compare_mended", &old, &mended),
-        run("compare_513", &[1; 513], &right),
-        run("compare_528", &left, &[1; 528]),
+        run("compare_1025", &[1; 1025], &right),
+        run("compare_1056", &left, &[1; 1056]),
+        run("compare_old", &left, &moves::old_telephone()),
         run("compare_20000", &left, &[1; 20000]),
         run("compare_uneven", &left[1..], &right),
-        run("compare_twice", &left, &[right.clone(), right[..16].to_vec()].concat()),
+        run("compare_twice", &left, &[right.clone(), right[..32].to_vec()].concat()),
         lone("compare_no_left", vec![("right", right.clone())], "cannot read left\n"),
         lone("compare_no_right", vec![("left", left[1..].to_vec())], "cannot read right\n"),
         lone("compare_no_file", vec![], "cannot read left\n"),
     ]
+}
+
+/// A run of `move` with these words over this sheet.
+fn moved(name: &str, words: &[&'static str], sheet: &[u8]) -> Run {
+    let stdout = mover::program(words, || Ok::<_, ()>(sheet.to_vec())).expect("a sheet");
+    Run { words: words.to_vec(), ..Run::new(name, sheet.to_vec(), stdout) }
+}
+
+/// Runs of `move`: the old telephone's sheet there and back, no record, as many as there may be and
+/// more, and each refusal that comes there.
+fn moved_sheets() -> Vec<Run> {
+    let old = moves::old_telephone();
+    let new = moved("move", &["new"], &old).stdout;
+    assert_eq!(moved("move_old", &["old"], &new).stdout, old);
+    let full = |record: usize| -> Vec<u8> {
+        (1..=33).flat_map(|id| [vec![id; 16], vec![0; record - 16]].concat()).collect()
+    };
+    let with = |at: usize, byte: u8| {
+        let mut changed = new.clone();
+        changed[at] = byte;
+        changed
+    };
+    vec![
+        moved("move", &["new"], &old),
+        moved("move_old", &["old"], &new),
+        moved("move_new_0", &["new"], &[]),
+        moved("move_old_0", &["old"], &[]),
+        moved("move_new_512", &["new"], &full(16)[..512]),
+        moved("move_new_513", &["new"], &full(16)[..513]),
+        moved("move_old_1024", &["old"], &full(32)[..1024]),
+        moved("move_old_1025", &["old"], &full(32)[..1025]),
+        moved("move_new_20000", &["new"], &[1; 20000]),
+        moved("move_new_uneven", &["new"], &old[1..]),
+        moved("move_old_uneven", &["old"], &new[16..]),
+        moved("move_new_new", &["new"], &new),
+        moved("move_old_old", &["old"], &old),
+        moved("move_old_zero", &["old"], &with(32, 0)),
+        moved("move_old_twice", &["old"], &with(32, 1)),
+        moved("move_old_16", &["old"], &with(16, 1)),
+        moved("move_old_last", &["old"], &with(287, 0x80)),
+    ]
+}
+
+/// Runs of `move` with words that are not its own.
+fn wrong_words() -> Vec<Run> {
+    let all: [(&str, &[&'static str]); 6] = [
+        ("none", &[]),
+        ("other", &["newer"]),
+        ("short", &["ol"]),
+        ("capital", &["NEW"]),
+        ("two", &["new", "old"]),
+        ("twice", &["old", "old"]),
+    ];
+    let sheet = moves::old_telephone();
+    all.map(|(name, words)| moved(&format!("move_usage_{name}"), words, &sheet)).into()
 }
 
 impl Vectors {
@@ -337,7 +414,7 @@ impl Vectors {
             .filter(|way| !reached(way))
             .map(|way| format!("{} {}", way.number(), way.words()))
             .collect();
-        for word in ["accepted", "loaded", "set", "got", "table", "put"] {
+        for word in ["accepted", "loaded", "set", "got", "table", "put", "moved"] {
             if !self.named.answers.contains_key(word) {
                 missing.push(format!("an answer `{word}`"));
             }
@@ -350,6 +427,7 @@ impl Vectors {
         }
         missing.extend(self.lent.missing());
         missing.extend(self.pairs.missing());
+        missing.extend(self.moves.missing());
         missing
     }
 
@@ -374,6 +452,7 @@ impl Vectors {
             reach.lent, named.lent
         );
         lines += &format!("{} pairs of sheets ({} on purpose)\n", reach.pairs, named.pairs);
+        lines += &format!("{} moves of sheets ({} on purpose)\n", reach.moves, named.moves);
         lines += &format!("{} runs, {bytes} bytes\n", self.runs.len());
         lines
     }
@@ -385,6 +464,10 @@ impl Vectors {
             fs::create_dir_all(&folder)?;
             fs::write(folder.join("stdin"), &run.stdin)?;
             fs::write(folder.join("stdout"), &run.stdout)?;
+            if !run.words.is_empty() {
+                let lines: String = run.words.iter().map(|word| format!("{word}\n")).collect();
+                fs::write(folder.join("args"), lines)?;
+            }
             for (file, bytes) in &run.files {
                 fs::create_dir_all(folder.join("data"))?;
                 fs::write(folder.join("data").join(file), bytes)?;

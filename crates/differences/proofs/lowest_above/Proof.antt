@@ -26,7 +26,7 @@ module _ (s : List ℕ) (a : ℕ) where
 
     module _ (h : i < countIn s) where
       inside : i * recordSize < length s
-      inside = omega (arith, record-inside s i h)
+      inside = omega (arith, record-inside recordSize s i h)
 
       on : (x′ k′ : ℕ) → Lower a (idAt s i) i x k x′ k′ → Passed x′ k′ (i + 1)
       on x′ k′ l = record { few = omega arith; lowest = lowest-more (idAt s) a (g .lowest) l }

@@ -1,55 +1,68 @@
 -- A search for the first record whose ID is zero or an earlier record's, by the laws of such a search over any IDs.
 use borrow.Author.Needs.{needs}
-use Prim.Native.Nat.{ℕ, _+_, _*_, _-_, _≤_, _<_}
+use Prim.Native.Nat.{ℕ, zero, suc, _+_, _*_, _^_, _-_, _≤_, _<_}
 use mathlib.Core.Path.{_≡_}
 use mathlib.Core.Bool.{Bool, true, false}
 use mathlib.Core.List.{List}
 use native.Mathlib.Omega.{arith}
+use native.Mathlib.Nat.{div-zero}
+use mir.Val.{Fits}
+use mir.Syntax.{w64}
 use lib.ListN.{length, getD, set, replicate}
 use Rattle.ground.specs.Places.{somewhere}
 use Rattle.graph.specs.Borne.{Passed, passed-none, passed-over, passed-zero, passed-twice, passed-on}
-use Rattle.records.specs.Records.{recordSize}
-use Rattle.legal.specs.Sheet.{countIn, idAt, badIds}
+use Rattle.legal.specs.Sheet.{countBy, idBy, badIdsBy}
 use Rattle.legal.specs.SheetLaws.{record-inside}
 use Rattle.legal.proofs.has_bad_id.Statement.{statement}
 use Rattle.legal.proofs.has_bad_id.Tie as tie
 
-module _ (s : List ℕ) where
-  abbrev Come : List Bool → ℕ → Type 0
-  Come = Passed (idAt s) (λ i. true) false (countIn s)
+some-size : (k : ℕ) (s : List ℕ) (i : ℕ) → i < countBy k s → 0 < k
+some-size zero s i h = let z = div-zero (length s) in absurd (omega arith)
+some-size (suc k) s i h = omega arith
 
-  start : Come (replicate 256 false) 0
-  start = passed-none (idAt s) (λ i. true) false (countIn s)
+module _ (k : ℕ) (s : List ℕ) where
+  record Come (n : ℕ) (borne : List Bool) (i : ℕ) : Type 0 where
+    told : n ≡ countBy k s
+    passed : Passed (idBy k s) (λ i. true) false (countBy k s) borne i
 
-  module _ (borne : List Bool) (i : ℕ) (g : Come borne i) where
-    over : countIn s ≤ i → false ≡ badIds s
-    unfolding badIds somewhere
-    over h = passed-over (idAt s) (λ i. true) false (countIn s) borne i g h
+  start : (n : ℕ) → n ≡ countBy k s → Come n (replicate 256 false) 0
+  start n e = record { told = e; passed = passed-none (idBy k s) (λ i. true) false (countBy k s) }
 
-    module _ (h : i < countIn s) where
-      inside : i * recordSize < length s
-      inside = omega (arith, record-inside s i h)
+  module _ (n : ℕ) (borne : List Bool) (i : ℕ) (g : Come n borne i) where
+    over : n ≤ i → false ≡ badIdsBy k s
+    unfolding badIdsBy somewhere
+    over h = let e = g .told in passed-over (idBy k s) (λ i. true) false (countBy k s) borne i (g .passed) (omega arith)
 
-      module _ (x : ℕ) (w : (x ≡ idAt s i) × (x < 256)) where
-        zero-id : x ≡ 0 → true ≡ badIds s
-        unfolding badIds somewhere
-        zero-id z = passed-zero (idAt s) (λ i. true) false (countIn s) borne i g h x (w .0) (w .1) z
+    module _ (h : i < n) where
+      below : i < countBy k s
+      below = let e = g .told in omega arith
+
+      inside : i * k < length s
+      inside = let p = some-size k s i below in omega (arith, record-inside k s i below)
+
+      place-fits : length s < 2 ^ 64 → Fits w64 (i * k)
+      place-fits p = let l = inside in record { fits = omega arith }
+
+      module _ (x : ℕ) (w : (x ≡ idBy k s i) × (x < 256)) where
+        zero-id : x ≡ 0 → true ≡ badIdsBy k s
+        unfolding badIdsBy somewhere
+        zero-id z = passed-zero (idBy k s) (λ i. true) false (countBy k s) borne i (g .passed) below x (w .0) (w .1) z
 
         module _ (z : x ≡ 0 → ⊥) where
-          twice : getD borne x false ≡ true → true ≡ badIds s
-          unfolding badIds somewhere
-          twice y = passed-twice (idAt s) (λ i. true) false (countIn s) borne i g h x (w .0) (w .1) z y
+          twice : getD borne x false ≡ true → true ≡ badIdsBy k s
+          unfolding badIdsBy somewhere
+          twice y = passed-twice (idBy k s) (λ i. true) false (countBy k s) borne i (g .passed) below x (w .0) (w .1) z y
 
-          on : getD borne x false ≡ false → Come (set borne x true) (i + 1)
-          on y = passed-on (idAt s) (λ i. true) false (countIn s) borne i g h x (w .0) (w .1) z y
+          on : getD borne x false ≡ false → Come n (set borne x true) (i + 1)
+          on y = record { told = g .told; passed = passed-on (idBy k s) (λ i. true) false (countBy k s) borne i (g .passed) below x (w .0) (w .1) z y }
 
-ruleset laws = (start, over, inside, zero-id, twice, on, needs)
+ruleset laws = (start, over, inside, place-fits, zero-id, twice, on, needs)
 
 abbrev Inv-loop : tie.InvT-loop
-Inv-loop s n borne₀ i₀ borne i = Come s borne i
+Inv-loop s n size borne₀ i₀ borne i = Come size s n borne i
 
 abbrev μ-loop : tie.MeasureT-loop
-μ-loop s n borne₀ i₀ borne i = countIn s - i
+μ-loop s n size borne₀ i₀ borne i = n - i
 
 loop-holds : tie.Need-loop-holds Inv-loop μ-loop
 loop-holds c = search laws

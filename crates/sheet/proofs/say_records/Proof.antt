@@ -1,14 +1,14 @@
--- The loop's count does not pass the sheet's 512 bytes, so that each byte is read inside it.
+-- The loop's count does not pass the sheet's 1,024 bytes, so that each byte is read inside it.
 use borrow.Author.Needs.{needs}
 use Prim.Native.Nat.{_-_, _≤_}
 use Rattle.sheet.proofs.say_records.Statement.{statement}
 use Rattle.sheet.proofs.say_records.Tie as tie
 
 abbrev Inv-loop : tie.InvT-loop
-Inv-loop entities sheet i₀ i = i ≤ 512
+Inv-loop entities sheet i₀ i = i ≤ 1024
 
 abbrev μ-loop : tie.MeasureT-loop
-μ-loop entities sheet i₀ i = 512 - i
+μ-loop entities sheet i₀ i = 1024 - i
 
 loop-holds : tie.Need-loop-holds Inv-loop μ-loop
 loop-holds c = search needs

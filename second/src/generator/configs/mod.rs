@@ -2,6 +2,7 @@
 //! document 01 gives, written down here by hand and not taken from the reader.
 
 mod cutting;
+mod pins;
 mod selectors;
 mod streaming;
 mod topology;
@@ -12,6 +13,8 @@ use super::build::{
     GroupPlan, Part, Plan, Telephone,
 };
 use super::rng::Rng;
+use crate::numbers::{self, SHEET};
+use crate::reader;
 use crate::ways::Way;
 
 /// A configuration with a name and the answer it must get.
@@ -23,12 +26,21 @@ pub struct Case {
     pub bytes: Vec<u8>,
     /// The clause and place of its refusal; none if it is to be accepted.
     pub expect: Option<(Way, usize)>,
-    /// Openings of records that its sheet has to show, if it is accepted.
-    pub shows: Vec<Opening>,
+    /// Records that its sheet has to show, whole or in part from their first byte on.
+    pub shows: Vec<Vec<u8>>,
 }
 
-/// The first six bytes of a record: ID, kind, c, bitmap (2), name index.
-pub type Opening = [u8; 6];
+impl Case {
+    /// Whether its sheet shows them.
+    pub fn shown(&self) -> bool {
+        let mut sheet = [0; SHEET];
+        reader::read(&self.bytes, &mut sheet);
+        let shown = |wanted: &Vec<u8>| {
+            sheet.chunks(numbers::RECORD).any(|record| record.starts_with(wanted))
+        };
+        self.shows.iter().all(shown)
+    }
+}
 
 /// The list of cases while it is being made.
 #[derive(Default)]
@@ -70,8 +82,8 @@ impl Cases {
         self.keep_bytes(name, plan.bytes());
     }
 
-    /// Another plan, accepted, with a sheet that has records that open so.
-    fn keep_shown(&mut self, name: &str, plan: &Plan, shows: &[Opening]) {
+    /// Another plan, accepted, with a sheet that shows these records.
+    fn keep_shown(&mut self, name: &str, plan: &Plan, shows: &[Vec<u8>]) {
         let (name, bytes) = (name.to_string(), plan.bytes());
         self.0.push(Case { name, bytes, expect: None, shows: shows.to_vec() });
     }
@@ -169,6 +181,7 @@ pub fn all() -> Vec<Case> {
     cutting::all(&mut cases);
     topology::all(&mut cases);
     selectors::all(&mut cases);
+    pins::all(&mut cases);
     withdrawn::all(&mut cases);
     streaming::all(&mut cases);
     shuffled(&mut cases);
@@ -302,23 +315,14 @@ fn pairs(cases: &mut Cases) {
 #[cfg(test)]
 mod tests {
     use super::*;
-    use crate::numbers::SHEET;
-    use crate::reader;
 
     #[test]
     fn every_case_gets_its_answer() {
         for case in all() {
-            let mut sheet = [0; SHEET];
-            let answer = reader::read(&case.bytes, &mut sheet);
+            let answer = reader::read(&case.bytes, &mut [0; SHEET]);
             let got = answer.refusal.map(|one| (one.way, one.place));
             assert_eq!(got, case.expect, "{}", case.name);
-            for opening in &case.shows {
-                assert!(
-                    sheet.chunks(16).any(|record| record.starts_with(opening)),
-                    "{}",
-                    case.name
-                );
-            }
+            assert!(case.shown(), "{}", case.name);
         }
     }
 

@@ -1,6 +1,6 @@
 //! Selectors whose pins are alike and whose pins are not: refusal 13 (document 02, No. 5).
 
-use super::{feature, input, mixer, output, selector, Cases, Opening};
+use super::{feature, input, mixer, output, selector, Cases};
 use crate::generator::build::{Part, Plan};
 use crate::numbers::PINS;
 use crate::ways::Way;
@@ -33,9 +33,9 @@ fn choice(pins: &[Pin]) -> Plan {
 }
 
 /// How a record opens.
-fn opening(id: u8, kind: u8, (channels, bitmap, name): Pin) -> Opening {
+fn opening(id: u8, kind: u8, (channels, bitmap, name): Pin) -> Vec<u8> {
     let [low, high] = bitmap.to_le_bytes();
-    [id, kind, channels, low, high, name]
+    vec![id, kind, channels, low, high, name]
 }
 
 /// What the answer to a choice among these pins is.

@@ -44,7 +44,7 @@ fn layouts(cases: &mut Cases) {
         let bytes = parts[SPEAKER].resized(length);
         wrong("Output Terminal of another length", SPEAKER, Way::OutputTerminalLength, bytes);
     }
-    for pins in [0, PINS as u8 + 1, 16, 255] {
+    for pins in [0, PINS as u8 + 1, 32, 255] {
         wrong("Mixer pins", MIXER, Way::MixerPins, parts[MIXER].with(4, pins).resized(60));
         let at = parts[SELECTOR].with(4, pins).resized(usize::from(pins % 200) + 6);
         wrong("Selector pins", SELECTOR, Way::SelectorPins, at);
@@ -72,11 +72,6 @@ fn layouts(cases: &mut Cases) {
         plan.parts[SWITCH] = plan.parts[SWITCH].with(7, 200);
         plan.parts[MICROPHONE] = plan.parts[MICROPHONE].with(6, 99).with(11, 200);
     });
-    let mut wide: Vec<Part> = (1..=8).map(|id| input(id, (1, 0, 0))).collect();
-    wide.push(selector(9, &[1, 2, 3, 4, 5, 6, 7, 8]));
-    wide.push(mixer(10, &[8, 7, 6, 5, 4, 3, 2, 1], 8, (3, 0x0007, 0)));
-    wide.push(mixer(11, &[9, 9, 9, 9, 9, 9, 9, 9], 8, (16, 0, 1)));
-    cases.keep_plan("8 pins", &Plan::new(wide, vec![]));
     let narrow = Plan::new(
         vec![
             input(1, (1, 0, 0)),

@@ -2,8 +2,8 @@
 use borrow.Author.Needs.{needs}
 use Prim.Native.Nat.{_-_, _≤_}
 use lib.ListN.{length}
-use Rattle.lend.proofs.say_lines.Statement.{statement}
-use Rattle.lend.proofs.say_lines.Tie as tie
+use Rattle.marks.proofs.say_lines.Statement.{statement}
+use Rattle.marks.proofs.say_lines.Tie as tie
 
 abbrev Inv-loop : tie.InvT-loop
 Inv-loop bytes i₀ i = i ≤ length bytes

@@ -1,0 +1,94 @@
+-- One law for each way out, in the paper's order.
+use borrow.Author.Needs.{needs}
+use Prim.Native.Nat.{ℕ, _*_, _%_, _≤_, _<_}
+use mathlib.Core.Path.{_≡_, sym, ap, _∙_}
+use mathlib.Core.Bool.{Bool, true, false}
+use mathlib.Core.Logic.{inl, inr}
+use mathlib.Core.List.{List}
+use native.Mathlib.Omega.{arith}
+use lib.ListN.{length}
+use mir.Val.{Fits}
+use mir.Syntax.{w64}
+use Rattle.ground.specs.Pick.{yes, no, shows, refutes}
+use Rattle.entities.specs.Run.{mostEntities}
+use Rattle.legal.specs.declared.Form.{Form}
+use Rattle.legal.specs.Forms.{sizeOf, size-most}
+use Rattle.legal.specs.Sheet.{countBy, WrongLengthBy, badIdsBy, numberBy}
+use Rattle.legal.specs.SheetLaws.{reads-length}
+use Rattle.legal.proofs.refusal_in.Statement.{statement}
+use Rattle.legal.proofs.refusal_in.Tie as tie
+
+module _ (f : Form) (s : List ℕ) (k : ℕ) (q : k ≡ sizeOf f) where
+  most-fits : Fits w64 (mostEntities * k)
+  most-fits = let m = size-most f in record { fits = omega arith }
+
+  counted : (n : ℕ) → n ≡ countBy (sizeOf f) s → n ≡ countBy k s
+  counted n e = rw q e
+
+  too-long : mostEntities * k < length s → 41 ≡ numberBy (sizeOf f) s
+  unfolding numberBy
+  too-long h = sym (yes _ _ (shows (reads-length (sizeOf f) s) (inl (rw q at h))))
+
+  module _ (h : length s ≤ mostEntities * k) (r : ℕ) (t : r ≡ length s % sizeOf f) where
+    broken : (r ≡ 0 → ⊥) → 41 ≡ numberBy (sizeOf f) s
+    unfolding numberBy
+    broken n = sym (yes _ _ (shows (reads-length (sizeOf f) s) (inr (λ e. n (t ∙ e)))))
+
+    module _ (e : r ≡ 0) (b : Bool) (g : b ≡ badIdsBy k s) where
+      right : WrongLengthBy (sizeOf f) s → ⊥
+      right (inl l) = omega arith
+      right (inr n) = n (sym t ∙ e)
+
+      told : b ≡ badIdsBy (sizeOf f) s
+      told = g ∙ ap (λ (n : ℕ). badIdsBy n s) q
+
+      bad-id : b ≡ true → 42 ≡ numberBy (sizeOf f) s
+      unfolding numberBy
+      bad-id y = sym (no _ _ (refutes (reads-length (sizeOf f) s) right) ∙ yes _ _ (sym told ∙ y))
+
+      accepted : b ≡ false → 0 ≡ numberBy (sizeOf f) s
+      unfolding numberBy
+      accepted y = sym (no _ _ (refutes (reads-length (sizeOf f) s) right) ∙ no _ _ (sym told ∙ y))
+
+ruleset laws = (most-fits, counted, too-long, broken, bad-id, accepted, needs)
+
+record-size-requires : tie.Need-record-size-requires
+record-size-requires c κs = search needs
+
+mul-if1 : tie.Need-mul-if1
+mul-if1 c = search laws
+
+returns : tie.Need-returns
+returns c = search laws
+
+rest-requires : tie.Need-rest-requires
+rest-requires c κs = search needs
+
+returns-2 : tie.Need-returns-2
+returns-2 c = search laws
+
+count-requires : tie.Need-count-requires
+count-requires c κs = search needs
+
+has-bad-id-requires : tie.Need-has-bad-id-requires
+has-bad-id-requires c κs = search laws
+
+returns-3 : tie.Need-returns-3
+returns-3 c = search laws
+
+returns-4 : tie.Need-returns-4
+returns-4 c = search laws
+
+pub refusal-in-spec : {M : Type 1} → statement M
+refusal-in-spec =
+    tie.close
+    (tie.spec
+    record-size-requires
+    mul-if1
+    returns
+    rest-requires
+    returns-2
+    count-requires
+    has-bad-id-requires
+    returns-3
+    returns-4)
