@@ -6,7 +6,8 @@
 --   firstOf cs       ==  pin 1's cluster
 --   channelsIn cs    ==  i, the channels entering in all
 --   channelsEach cs, locationsEach cs, namesEach cs  ==  c, bitmap and first name index of each
---   named k ns       ==  the cluster k with its own index where the indices ns do not differ, and with index 0 where they do
+--   named k ns       ==  the cluster k with its own index where the indices ns do not differ, and with index 0 where they do; one-name, other-names:
+--                        so in statements
 --   Alike cs         ==  all of cs have the same c and the same bitmap; alike cs: the test
 --   giveOut e cs     ==  what the entity e gives out where cs enter, pin by pin
 --   controlBytes m   ==  m/8 rounded up; rounded-up: it is enough, and no more than is needed
@@ -23,7 +24,7 @@ use native.Mathlib.Nat.{div-mul-le-self, lt-div-mul-add}
 use native.Mathlib.Omega.{arith}
 use lib.Dec.{eqb, lit<}
 use lib.ListN.{length, getD}
-use Rattle.ground.specs.Pick.{pick, Reads, reads-eq, reads-and, true≠false}
+use Rattle.ground.specs.Pick.{pick, yes, no, shows, refutes, Reads, reads-eq, reads-and, true≠false}
 use Rattle.layout.specs.declared.Cluster.{Cluster}
 use Rattle.layout.specs.declared.Entity.{Entity}
 use Rattle.layout.specs.declared.Entity.the-variants.{Unknown, Input, Output, Mixer, Selector, Feature}
@@ -31,7 +32,7 @@ use Rattle.layout.specs.Layout.{LaidOut, entityOf, noCluster}
 use Rattle.layout.specs.Withdrawn.{Printed}
 use Rattle.kinds.specs.Sources.{sourcesFrom, pinsOf, feedsOf}
 use Rattle.kinds.specs.SourcesLaws.{sources-within}
-use Rattle.pins.specs.Same.{AllSame, allSame, reads-same}
+use Rattle.pins.specs.Same.{AllSame, allSame, reads-all-same}
 use Rattle.channels.specs.Declared.{ClusterKept, clusterKept, reads-cluster}
 use Rattle.edition.specs.Edition.{Edition}
 
@@ -53,6 +54,14 @@ namesEach cs = map (λ k. k .names) cs
 
 unfoldable pub named : Cluster → List ℕ → Cluster
 named k ns = record { channels = k .channels; locations = k .locations; names = pick (allSame ns) (k .names) 0 }
+
+pub one-name : (k : Cluster) (ns : List ℕ) → AllSame ns → named k ns .names ≡ k .names
+unfolding named
+one-name k ns h = yes _ _ (shows (reads-all-same ns) h)
+
+pub other-names : (k : Cluster) (ns : List ℕ) → (AllSame ns → ⊥) → named k ns .names ≡ 0
+unfolding named
+other-names k ns n = no _ _ (refutes (reads-all-same ns) n)
 
 unfoldable pub giveOut : Entity → List Cluster → Cluster
 giveOut Unknown cs = firstOf cs
@@ -108,7 +117,7 @@ keeps (Feature i s n) l cs = featureKept n l cs
 
 reads-alike : (cs : List Cluster) → Reads (alike cs) (Alike cs)
 unfolding alike
-reads-alike cs = reads-and _ _ (reads-same (channelsEach cs)) (reads-same (locationsEach cs))
+reads-alike cs = reads-and _ _ (reads-all-same (channelsEach cs)) (reads-all-same (locationsEach cs))
 
 pub reads-keeps : (e : Entity) (l : ℕ) (cs : List Cluster) → Reads (keeps e l cs) (Keeps e l cs)
 unfolding keeps Keeps mixerKept featureKept

@@ -1,4 +1,4 @@
--- The order of refusals: the lowest number that applies is given (document 01, "Refusals of a configuration"). An acceptance
+-- The order of refusals: of those that apply the first in the papers' order is given (document 01, "Refusals of a configuration"). An acceptance
 -- answers 0 for number and place.
 --   none           ==  nothing is refused
 --   refuse n b r   ==  number n at the place where b says that rule n is broken; where it is broken nowhere, what r says

@@ -1,4 +1,4 @@
--- The papers' table of refusals, row by row in its order: "the lowest number that applies is given, at no other time" (document 01). A row has
+-- The papers' table of refusals, row by row in its order, of which the first that applies is given, "at no other time" (document 01). A row has
 -- a number, what it is to keep its rule, what it is to break it at a place, and the rows behind it, which may speak of what was kept so far (the
 -- cutting, the header, the clusters). What the reader computes is tied to the rows once, for any table of them.
 --   Rows, end, row    ==  a table: no row; a row with its number, its rule, its breach by place, and the rows behind it

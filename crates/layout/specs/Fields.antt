@@ -5,8 +5,8 @@
 --   bodyOf f       ==  its bytes from byte 2 on: the kind, then the format's bytes
 --   descriptorType ==  24 hex, byte 1 of every descriptor of the run
 --   bytesOf f      ==  the descriptor: its length, its type, then the bytes from byte 2 on
---   Kept f         ==  pins are 1 to 8, and the control size is 1 to 4
---   LaidOut d      ==  the layout of d is right (refusal 9 is its contrary): there are fields whose bytes d has from byte 2 on
+--   Kept f         ==  pins are 1 to 24, and the control size is 1 to 4
+--   LaidOut d      ==  the layout of d is right (its contrary is refused by 9 or 17): there are fields whose bytes d has from byte 2 on
 --   fieldsBy ks d  ==  the fields of d by the first of the layouts ks that it has, whatever byte 2 is; none where it has none of them
 --   fieldsOf d     ==  the fields of d: by the layouts whose number is byte 2
 --   fedBy f        ==  the IDs of its sources, in the order of its pins

@@ -2,14 +2,14 @@
 --   Told d e      ==  the entity e is what one of the layouts says of d, number by number; Unknown where none of them holds
 --   told, told-only ==  what the reader computes is told by the layouts, and nothing else is
 --   laid-out      ==  a descriptor has a layout or it has none
---   reads-unknown ==  the reader's "wrong layout" is the rule's: d has none of the layouts (refusal 9)
+--   reads-unknown ==  what the reader takes for Unknown has none of the layouts (refusals 9 and 17)
 --   input-right, input-wrong, output-right, output-wrong, mixer-right, mixer-wrong, selector-right, selector-wrong,
 --   feature-right, feature-wrong  ==  what a kind's own reader makes of its layout, and of any other
 --   kind-input, kind-output, kind-mixer, kind-selector, kind-feature, kind-other ==  byte 2 says which kind's reader it is
 --   entity-input, entity-output, entity-mixer, entity-selector, entity-feature, entity-unknown ==  one equation for each layout,
 --                     and where there is none
 --   id-told       ==  byte 3 is the ID, in every layout
---   selector-pins ==  a Selector's pins are 1 to 8, in both of its layouts
+--   selector-pins ==  a Selector's pins are 1 to 24
 use Prim.Native.Nat.{ℕ, _+_, _≤_}
 use mathlib.Core.Path.{_≡_, refl, sym, ap, _∙_}
 use mathlib.Core.Bool.{Bool, true, false}
@@ -208,7 +208,7 @@ told-only {d} (mixer k q l) = entity-mixer d k q l
 told-only {d} (selector k q l) = entity-selector d k q l
 told-only {d} (feature k q l) = entity-feature d k q l
 
--- the tie of refusal 9 to what the reader computes
+-- what the reader computes, and that there is no layout
 pub reads-unknown : (d : List ℕ) → Reads (isUnknown (entityOf d)) (LaidOut d → ⊥)
 unfolding isUnknown entityOf
 reads-unknown d = go (fieldsOf d) refl

@@ -22,7 +22,7 @@ pub struct Cluster {
 
 // What a descriptor of the run is: one of the five kinds, with that kind's own numbers.
 pub enum Entity {
-    // Any other kind, or a wrong layout.
+    // None of the layouts: any other kind, a wrong layout, or the printed Selector.
     Unknown,
     Input {
         id: u8,

@@ -25,7 +25,7 @@ use Rattle.mover.specs.Moving.{otherOf, moreBytes, asNew, asOld, recordT
 use Rattle.mover.specs.Moving.JudgedMove.{moved}
 use Rattle.mover.specs.Laid.{Each, record-in, records-joined, joined-records}
 use Rattle.mover.specs.MovingLaws.{record-padded, moved-long, judged-move}
-use Rattle.mover.specs.MovedBack.{Lent, given, ThereAndBack}
+use Rattle.mover.specs.MovedBack.{Lent, bytesMoved, ThereAndBack}
 
 pub other-twice : (f : Form) → otherOf (otherOf f) ≡ f
 unfolding otherOf
@@ -33,7 +33,7 @@ other-twice Old = refl
 other-twice New = refl
 
 -- what an unrefused move writes
-pub given-moved : (f : Form) (s d : List ℕ) → moveNumber f s (length d) ≡ 0 → given f s d ≡ movedTo f s
+pub given-moved : (f : Form) (s d : List ℕ) → moveNumber f s (length d) ≡ 0 → bytesMoved f s d ≡ movedTo f s
 unfolding writtenBy roomAfter
 given-moved f s d e =
     let z = eq-eqb (moveNumber f s (length d)) 0 e in

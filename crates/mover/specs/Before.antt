@@ -1,4 +1,4 @@
--- The sheet that the reader wrote before (document 01, "The sheet"): "ID; kind ..; c; bitmap (2); name index; pins; 00; then eight source IDs, unused
+-- The sheet that the reader wrote before No. 7 (document 01, "The sheet"; no 15 hex since No. 6): "ID; kind ..; c; bitmap (2); name index; pins; 00; then eight source IDs, unused
 -- ones 00".
 --   oldPins             ==  the places for source IDs in a record of the old form: 8
 --   oldRecordIn d c     ==  the record of the descriptor d with the cluster c, as it was

@@ -1,8 +1,8 @@
 -- Numbers that are one and the same: c, bitmap or first name index of what enters by the pins of a Selector (document 02, No. 5).
---   numbersOf numbers ids  ==  the numbers of these IDs, out of those of all IDs
+--   numbersAt numbers ids  ==  the numbers of these IDs, out of those of all IDs
 --   AllSame ns    ==  no two of the numbers ns differ: each is the first
 --   allSame ns    ==  the test
---   reads-same    ==  it decides the statement
+--   reads-all-same    ==  it decides the statement
 use Prim.Native.Nat.{ℕ}
 use mathlib.Core.Path.{_≡_}
 use mathlib.Core.Bool.{Bool}
@@ -12,8 +12,8 @@ use lib.ListN.{getD}
 use Rattle.ground.specs.Pick.{Reads, reads-eq}
 use Rattle.graph.specs.Members.{_∈_, all, reads-all}
 
-unfoldable pub numbersOf : List ℕ → List ℕ → List ℕ
-numbersOf numbers ids = map (λ x. getD numbers x 0) ids
+unfoldable pub numbersAt : List ℕ → List ℕ → List ℕ
+numbersAt numbers ids = map (λ x. getD numbers x 0) ids
 
 abbrev pub AllSame : List ℕ → Type 0
 AllSame ns = (n : ℕ) → n ∈ ns → n ≡ getD ns 0 0
@@ -21,6 +21,6 @@ AllSame ns = (n : ℕ) → n ∈ ns → n ≡ getD ns 0 0
 unfoldable pub allSame : List ℕ → Bool
 allSame ns = all (λ n. eqb n (getD ns 0 0)) ns
 
-pub reads-same : (ns : List ℕ) → Reads (allSame ns) (AllSame ns)
+pub reads-all-same : (ns : List ℕ) → Reads (allSame ns) (AllSame ns)
 unfolding allSame
-reads-same ns = reads-all (λ n. eqb n (getD ns 0 0)) (λ n. n ≡ getD ns 0 0) ns (λ n m. reads-eq n (getD ns 0 0))
+reads-all-same ns = reads-all (λ n. eqb n (getD ns 0 0)) (λ n. n ≡ getD ns 0 0) ns (λ n m. reads-eq n (getD ns 0 0))

@@ -1,6 +1,6 @@
 -- Laws of the search along the pins, whatever the width of the numbers: what is left to look at decides as the whole does.
 --   at-id    ==  what stands at the index that a byte is
---   Passed ids numbers k   ==  the numbers of the IDs before the k-th are the first's
+--   Passed ids numbers k   ==  what is left from the k-th ID on decides as the whole does
 --   passed-start, passed-over, passed-other, passed-more  ==  its start, behind pin 1; its two ends; its step
 use Prim.Native.Nat.{ℕ, _+_, _≤_, _<_}
 use mathlib.Core.Path.{_≡_, refl, sym, ap, _∙_}
@@ -13,14 +13,14 @@ use lib.ListN.{length, getD, drop, drop-of-length-le}
 use lib.Seq.{drop-cons}
 use borrow.Author.Tests.{eq-eqb, ne-eqb}
 use Rattle.graph.specs.Members.{all}
-use Rattle.pins.specs.Same.{numbersOf, allSame}
+use Rattle.pins.specs.Same.{numbersAt, allSame}
 
 pub at-id : (numbers : List ℕ) (id x : ℕ) → (x ≡ id) × (x < 256) → getD numbers x 0 ≡ getD numbers id 0
 at-id numbers id x e = ap (λ (y : ℕ). getD numbers y 0) (e .0)
 
 module _ (ids numbers : List ℕ) where
   abbrev of : List ℕ → List ℕ
-  of l = numbersOf numbers l
+  of l = numbersAt numbers l
 
   abbrev first : ℕ
   first = getD (of ids) 0 0
@@ -32,7 +32,7 @@ module _ (ids numbers : List ℕ) where
     pub left : allSame (of ids) ≡ as-first (drop k ids)
 
   pub passed-start : Passed 1
-  unfolding numbersOf allSame all
+  unfolding numbersAt allSame all
   passed-start = record { left = behind ids }
     where
       behind : (l : List ℕ) → allSame (of l) ≡ all (λ n. eqb n (getD (of l) 0 0)) (of (drop 1 l))
@@ -41,12 +41,12 @@ module _ (ids numbers : List ℕ) where
 
   module _ (k : ℕ) (g : Passed k) where
     pub passed-over : length ids ≤ k → true ≡ allSame (of ids)
-    unfolding numbersOf all
+    unfolding numbersAt all
     passed-over h = sym (g .left ∙ ap as-first (drop-of-length-le ids h))
 
     module _ (h : k < length ids) (a : ℕ) (p : a ≡ getD numbers (getD ids k 0) 0) (b : ℕ) (q : b ≡ getD numbers (getD ids 0 0) 0) where
       first-is : b ≡ first
-      unfolding numbersOf
+      unfolding numbersAt
       first-is = q ∙ go ids h
         where
           go : (l : List ℕ) → k < length l → getD numbers (getD l 0 0) 0 ≡ getD (of l) 0 0
@@ -54,7 +54,7 @@ module _ (ids numbers : List ℕ) where
           go (z ∷ l) i = refl
 
       turn : allSame (of ids) ≡ eqb a b && as-first (drop (k + 1) ids)
-      unfolding numbersOf all
+      unfolding numbersAt all
       turn = g .left ∙ ap as-first (drop-cons ids k 0 h) ∙ rw (add-one, first-is, p) refl
 
       pub passed-other : (a ≡ b → ⊥) → false ≡ allSame (of ids)

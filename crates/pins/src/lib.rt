@@ -2,7 +2,7 @@
 // same bitmap. If their name indices differ, ..": document 02, No. 5). To the layer above: for every IDs and numbers whatever, what specs/ says.
 ghost use mathlib.Core.Path.{_≡_};
 ghost use lib.ListN.{getD};
-ghost use Rattle.pins.specs.Same.{numbersOf, allSame};
+ghost use Rattle.pins.specs.Same.{numbersAt, allSame};
 use ground::index_of;
 
 // The number of an ID, of one byte.
@@ -21,7 +21,7 @@ fn wide_number_of(words: &[u16; 256], id: u8) -> u16
 
 // Whether these IDs have one number of one byte.
 pub fn same(ids: &[u8], numbers: &[u8; 256]) -> bool
-    ensures { λ r. ⌜ r ≡ allSame (numbersOf (now (numbers .entry)) (now (ids .entry))) ⌝ }
+    ensures { λ r. ⌜ r ≡ allSame (numbersAt (now (numbers .entry)) (now (ids .entry))) ⌝ }
 {
     let mut k: usize = 1;
     while k < ids.len() {
@@ -35,7 +35,7 @@ pub fn same(ids: &[u8], numbers: &[u8; 256]) -> bool
 
 // Whether these IDs have one number of two bytes.
 pub fn same_wide(ids: &[u8], words: &[u16; 256]) -> bool
-    ensures { λ r. ⌜ r ≡ allSame (numbersOf (now (words .entry)) (now (ids .entry))) ⌝ }
+    ensures { λ r. ⌜ r ≡ allSame (numbersAt (now (words .entry)) (now (ids .entry))) ⌝ }
 {
     let mut pin: usize = 1;
     while pin < ids.len() {

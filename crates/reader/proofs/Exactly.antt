@@ -1,5 +1,5 @@
 -- The reader gives exactly the first row of the papers' table that applies, at exactly its place.
---   shown-rows              ==  the bytes are a configuration, and its records have room: all sixteen rules are kept
+--   shown-rows              ==  the bytes are a configuration, and its records have room: every rule is kept
 --   clusters-on, controls-on  ==  what the reader has at an entity's index is the cluster on its ID; its controls are those of the descriptors
 --   reads-room              ==  the test of room decides rule 16
 --   first-by-place          ==  the first offender's place is the lowest of all offenders' places

@@ -3,7 +3,7 @@
 --                       on each ID
 --   answer-shows    ==  the whole answer: the AudioControl number, the count of entities, the controls
 --   sheet-shows     ==  the sheet: the records of the run's descriptors with those clusters, then the lent bytes as they stood
---   record-shows    ==  .. of which the 16 bytes at 16·i are the record of the i-th descriptor with the cluster on its ID
+--   record-shows    ==  .. of which the 32 bytes at 32·i are the record of the i-th descriptor with the cluster on its ID
 --   record-bytes    ==  .. byte by byte: the ID and the kind that the descriptor has, the cluster's numbers, the pins, the source IDs at the
 --                       offsets that its layout has
 --   controls-stand, controls-order  ==  a control is in the table exactly where an entity carries it; and the table's order

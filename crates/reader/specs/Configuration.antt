@@ -7,7 +7,7 @@
 --   Streams k c, FewControls k c  ==  the rules 14 and 15, with the clusters c on IDs
 --   Configuration s     ==  the bytes s are a configuration: a cutting that keeps the rules 1 to 9, and entities that are connected,
 --                           with the rules 14 and 15
---   Rule16 ds room      ==  the sheet of that many bytes has 16 for each entity
+--   Rule16 ds room      ==  the sheet of that many bytes has a record's, 32, for each entity
 use Prim.Native.Nat.{ℕ, _+_, _*_, _≤_}
 use mathlib.Core.List.{List}
 use lib.ListN.{length}

@@ -23,13 +23,13 @@ use Rattle.graph.specs.Along.{put, put-at, put-other, given, given-take}
 use Rattle.entities.specs.declared.Node.{Node}
 use Rattle.entities.specs.declared.Run.{Run}
 use Rattle.entities.specs.Run.{mostEntities, blankNode, held, nodeAt, idAt, sourcesAt, descriptorOf}
-use Rattle.pins.specs.Same.{numbersOf}
+use Rattle.pins.specs.Same.{numbersAt}
 use Rattle.edition.specs.Audio.{namesEach, giveOut}
 use Rattle.sweep.specs.declared.Given.{Given}
 use Rattle.sweep.specs.Sweep.{clusterBy, givesBy, givesAt, givenIn, swept, Sweeps, clustersOf}
 
-pub names-on : (channels locations names ids : List ℕ) → numbersOf names ids ≡ namesEach (map (clusterBy channels locations names) ids)
-unfolding numbersOf
+pub names-on : (channels locations names ids : List ℕ) → numbersAt names ids ≡ namesEach (map (clusterBy channels locations names) ids)
+unfolding numbersAt
 names-on channels locations names [] = refl
 names-on channels locations names (x ∷ ids) = ap (λ (l : List ℕ). getD names x 0 ∷ l) (names-on channels locations names ids)
 

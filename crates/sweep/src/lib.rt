@@ -1,7 +1,7 @@
 // What each entity gives out (document 01, "Clusters"), in one sweep along an order of the run. What this crate promises to the layer above:
 // each public function answers, for every configuration and every run whatever, as the definitions of specs/ say.
 ghost use mathlib.Core.Path.{_≡_};
-ghost use Rattle.pins.specs.Same.{numbersOf};
+ghost use Rattle.pins.specs.Same.{numbersAt};
 ghost use Rattle.edition.specs.Audio.{named};
 ghost use Rattle.sweep.specs.Sweep.{clusterBy, clusterOn, firstBy, givesBy, Sweeps, clustersOf};
 use entities::MOST_ENTITIES;
@@ -44,7 +44,7 @@ fn first_entering(
 
 // What a Selector gives out, where this cluster enters by pin 1.
 fn selected(ids: &[u8], first: Cluster, names: &[u8; 256]) -> Cluster
-    ensures { λ r. ⌜ r ≡ named first (numbersOf (now (names .entry)) (now (ids .entry))) ⌝ }
+    ensures { λ r. ⌜ r ≡ named first (numbersAt (now (names .entry)) (now (ids .entry))) ⌝ }
 {
     let mut name = 0;
     if pins::same(ids, names) {

@@ -1,9 +1,9 @@
--- The reader's answer (document 01, "What the box does", "Refusals of a configuration"): the lowest number that applies, or what stands
+-- The reader's answer (document 01, "What the box does", "Refusals of a configuration"): the first row that applies, or what stands
 -- in the configuration.
 --   tableFor s v cs         ==  the controls of what v surveys, with the clusters cs by index, in the table
 --   restJudged s v cs r     ==  the refusals 14 and 15 in their order; r where neither applies
---   surveyJudged s v r      ==  the lowest number of 10 to 15 that applies to what v surveys, with its place; r where none does
---   judgedThen s r          ==  the lowest number of 1 to 15 that applies to the configuration s; r where none does
+--   surveyJudged s v r      ==  the first of 10 to 15 that applies to what v surveys, with its place; r where none does
+--   judgedThen s r          ==  the first of 1 to 9, 17 and 10 to 15 that applies to the configuration s; r where none does
 --   roomJudged v room r     ==  the refusal 16, for a sheet of room bytes; r where it does not apply
 --   verdictOf s room        ==  the refusal of a configuration s with a sheet of room bytes lent; 0 and 0 for none
 --   refusedFinding r        ==  what is found where r is refused: nothing

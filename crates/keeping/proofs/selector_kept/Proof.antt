@@ -6,24 +6,24 @@ use mathlib.Core.Bool.{Bool, true, false, not, _&&_}
 use mathlib.Core.List.{List, [], _∷_, map}
 use lib.ListN.{getD}
 use borrow.Author.Tests.{not-true, not-false}
-use Rattle.pins.specs.Same.{numbersOf, allSame}
+use Rattle.pins.specs.Same.{numbersAt, allSame}
 use Rattle.edition.specs.Audio.{channelsEach, locationsEach, alike}
 use Rattle.keeping.specs.Keeping.{contentOn}
 use Rattle.keeping.proofs.selector_kept.Statement.{statement}
 use Rattle.keeping.proofs.selector_kept.Tie as tie
 
 module _ (counts bitmaps : List ℕ) where
-  channels-on : (ids : List ℕ) → numbersOf counts ids ≡ channelsEach (map (contentOn counts bitmaps) ids)
-  unfolding numbersOf
+  channels-on : (ids : List ℕ) → numbersAt counts ids ≡ channelsEach (map (contentOn counts bitmaps) ids)
+  unfolding numbersAt
   channels-on [] = refl
   channels-on (x ∷ ids) = ap (λ (l : List ℕ). getD counts x 0 ∷ l) (channels-on ids)
 
-  locations-on : (ids : List ℕ) → numbersOf bitmaps ids ≡ locationsEach (map (contentOn counts bitmaps) ids)
-  unfolding numbersOf
+  locations-on : (ids : List ℕ) → numbersAt bitmaps ids ≡ locationsEach (map (contentOn counts bitmaps) ids)
+  unfolding numbersAt
   locations-on [] = refl
   locations-on (x ∷ ids) = ap (λ (l : List ℕ). getD bitmaps x 0 ∷ l) (locations-on ids)
 
-  module _ (ids : List ℕ) (b : Bool) (e : b ≡ allSame (numbersOf counts ids)) where
+  module _ (ids : List ℕ) (b : Bool) (e : b ≡ allSame (numbersAt counts ids)) where
     same-channels : b ≡ allSame (channelsEach (map (contentOn counts bitmaps) ids))
     same-channels = e ∙ ap allSame (channels-on ids)
 
@@ -31,7 +31,7 @@ module _ (counts bitmaps : List ℕ) where
     unfolding alike
     other-channels h = sym (ap (λ (x : Bool). x && allSame (locationsEach (map (contentOn counts bitmaps) ids))) (sym same-channels ∙ not-true b h))
 
-    by-bitmaps : not b ≡ false → (d : Bool) → d ≡ allSame (numbersOf bitmaps ids) → d ≡ alike (map (contentOn counts bitmaps) ids)
+    by-bitmaps : not b ≡ false → (d : Bool) → d ≡ allSame (numbersAt bitmaps ids) → d ≡ alike (map (contentOn counts bitmaps) ids)
     unfolding alike
     by-bitmaps h d f =
         f ∙ ap allSame (locations-on ids)

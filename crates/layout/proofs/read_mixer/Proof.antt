@@ -1,4 +1,4 @@
--- Three ways out: the pins are not 1 to 8, the length is below 10+p, or the layout is right.
+-- Three ways out: the pins are not 1 to 24, the length is below 10+p, or the layout is right.
 use borrow.Author.Needs.{needs}
 use Prim.Native.Nat.{ℕ, _+_, _≤_, _<_}
 use mathlib.Core.Path.{_≡_, sym, _∙_}

@@ -9,7 +9,7 @@ use Rattle.layout.specs.declared.Entity.the-variants.{Unknown, Input, Output, M
 use Rattle.layout.specs.Layout.{entityOf}
 use Rattle.entities.specs.declared.Node.{Node}
 use Rattle.entities.specs.Run.{sourcesOf, descriptorOf}
-use Rattle.pins.specs.Same.{numbersOf}
+use Rattle.pins.specs.Same.{numbersAt}
 use Rattle.edition.specs.Audio.{firstOf, namesEach, named, giveOut}
 use Rattle.sweep.specs.Sweep.{clusterBy, firstBy, givesBy}
 use Rattle.sweep.specs.SweepLaws.{names-on}
@@ -47,14 +47,14 @@ module _ (s : List ℕ) (n : Node) (cl : ℕ → Cluster) (d : List ℕ) (p : d 
     feature h = first ∙ of h
 
 module _ (s : List ℕ) (n : Node) (channels locations names : List ℕ) (d : List ℕ) (p : d ≡ descriptorOf s n) (e : Entity) (q : e ≡ entityOf d)
-    (ids : List ℕ) (t : ids ≡ sourcesOf s n) (f : Cluster) (g : f ≡ firstBy (clusterBy channels locations names) ids) (r : Cluster) (h : r ≡ named f (numbersOf names ids)) where
+    (ids : List ℕ) (t : ids ≡ sourcesOf s n) (f : Cluster) (g : f ≡ firstBy (clusterBy channels locations names) ids) (r : Cluster) (h : r ≡ named f (numbersAt names ids)) where
   abbrev cl : ℕ → Cluster
   cl = clusterBy channels locations names
 
   gives : r ≡ named (firstOf (map cl (sourcesOf s n))) (namesEach (map cl (sourcesOf s n)))
   gives =
       h
-      ∙ ap (λ (k : Cluster). named k (numbersOf names ids)) (first s n cl d p e q ids t f g)
+      ∙ ap (λ (k : Cluster). named k (numbersAt names ids)) (first s n cl d p e q ids t f g)
       ∙ ap (named (firstOf (map cl (sourcesOf s n)))) (names-on channels locations names ids ∙ ap (λ (l : List ℕ). namesEach (map cl l)) t)
 
   selector : {i k : ℕ} → e ≡ Selector i k → r ≡ givesBy s n cl
