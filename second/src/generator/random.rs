@@ -492,9 +492,12 @@ fn damage_groups(rng: &mut Rng, plan: &mut Plan) {
         2 => change_length(rng, &mut plan.groups[at].interface),
         _ => {
             let mut group = plan.groups[at].clone();
-            group.interface[5] = 1;
-            group.interface[6] = rng.below(4) as u8;
-            group.interface[2] = rng.byte();
+            // an earlier damage may have cut the descriptor short
+            for (offset, byte) in [(5, 1), (6, rng.below(4) as u8), (2, rng.byte())] {
+                if let Some(place) = group.interface.get_mut(offset) {
+                    *place = byte;
+                }
+            }
             plan.groups.push(group);
         }
     }
