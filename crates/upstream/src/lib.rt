@@ -1,12 +1,13 @@
 // Every way upstream from an ID (document 02, No. 8): "An entity asks its pins and each pin asks the entity behind it, never deeper than 32." What it
-// promises to the layer above: for every configuration, all tables of sources by ID, every ID and every lent list, how many ways there are and how
-// many bytes they take, as far as 257 of them; and in the list each of them that has room, one after another.
+// promises to the layer above: for every configuration, all tables of sources by ID, every ID and every lent list, the ways in the list, one after
+// another, how many they are and how many bytes they take, or the refusal 46 or 49 and the list as it stood.
 ghost use mathlib.Core.Path.{_≡_};
 ghost use Prim.Native.Nat.{_+_, _*_, _≤_, _^_, _<_};
 ghost use mathlib.Core.List.{[], _∷_, _++_};
 ghost use lib.ListN.{length};
 ghost use Rattle.upstream.specs.Ways.{waysUp, behindAll};
 ghost use Rattle.upstream.specs.Telling.{namedBy, mostDepth, pathOf, Standing, Further, Ready, heard, putIn, tell, tellAll};
+ghost use Rattle.upstream.specs.Listing.{Counted, refusedWith, waysListing, waysList};
 use entities::Node;
 use ground::index_of;
 
@@ -14,10 +15,18 @@ use ground::index_of;
 const DEPTH: usize = 32;
 
 // The most routes that are listed.
-pub const MOST_ROUTES: usize = 256;
+const MOST_ROUTES: usize = 256;
 
 // What the walk has told so far: how many routes, and how many bytes they take.
 pub struct Tally {
+    pub routes: usize,
+    pub written: usize,
+}
+
+// What a listing answers: the number and place of a refusal, 0 and 0 where there is none; how many routes, and how many bytes were written.
+pub struct Listing {
+    pub number: u8,
+    pub place: usize,
     pub routes: usize,
     pub written: usize,
 }
@@ -122,7 +131,7 @@ fn ask_pins(config: &[u8], firsts: &[usize; 256], counts: &[u8; 256], sources: &
 }
 
 // Tells every way upstream from an ID, by the tables of where the source IDs stand and how many there are.
-pub fn walk(config: &[u8], firsts: &[usize; 256], counts: &[u8; 256], id: u8, list: &mut [u8]) -> Tally
+fn walk(config: &[u8], firsts: &[usize; 256], counts: &[u8; 256], id: u8, list: &mut [u8]) -> Tally
     ensures { λ r. ⌜ heard r (now (list .exit)) ≡ tellAll [] (heard (record { routes = 0; written = 0 }) (now (list .entry))) (waysUp (namedBy (now (config .entry)) (now (firsts .entry)) (now (counts .entry))) mostDepth id) ⌝ }
 {
     let start = Path {
@@ -134,4 +143,45 @@ pub fn walk(config: &[u8], firsts: &[usize; 256], counts: &[u8; 256], id: u8, li
         written: 0,
     };
     ask_entity(config, firsts, counts, id, start, none, list)
+}
+
+// A refused listing: no routes, nothing written.
+pub fn refused(number: u8, place: usize) -> Listing
+    ensures { λ r. ⌜ r ≡ refusedWith number place ⌝ }
+{
+    Listing {
+        number,
+        place,
+        routes: 0,
+        written: 0,
+    }
+}
+
+// How many ways there are, and how many bytes they take, as far as 257 of them: a walk with nothing lent.
+fn count(config: &[u8], firsts: &[usize; 256], counts: &[u8; 256], id: u8) -> Tally
+    ensures { λ r. ⌜ Counted (waysUp (namedBy (now (config .entry)) (now (firsts .entry)) (now (counts .entry))) mostDepth id) r ⌝ }
+{
+    let mut none = [0u8; 1];
+    walk(config, firsts, counts, id, &mut none[..0])
+}
+
+// Lists every way upstream from an ID. One walk counts, another then writes.
+pub fn list_ways(config: &[u8], firsts: &[usize; 256], counts: &[u8; 256], id: u8, list: &mut [u8]) -> Listing
+    ensures { λ r. ⌜ r ≡ waysListing (waysUp (namedBy (now (config .entry)) (now (firsts .entry)) (now (counts .entry))) mostDepth id) (length (now (list .entry))) ⌝ }
+    ensures { λ r. ⌜ now (list .exit) ≡ waysList (waysUp (namedBy (now (config .entry)) (now (firsts .entry)) (now (counts .entry))) mostDepth id) (now (list .entry)) ⌝ }
+{
+    let all = count(config, firsts, counts, id);
+    if MOST_ROUTES < all.routes {
+        return refused(46, 0);
+    }
+    if list.len() < all.written {
+        return refused(49, 0);
+    }
+    walk(config, firsts, counts, id, list);
+    Listing {
+        number: 0,
+        place: 0,
+        routes: all.routes,
+        written: all.written,
+    }
 }
