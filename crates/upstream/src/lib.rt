@@ -166,7 +166,7 @@ fn count(config: &[u8], firsts: &[usize; 256], counts: &[u8; 256], id: u8) -> Ta
 }
 
 // Lists every way upstream from an ID. One walk counts, another then writes.
-pub fn list_ways(config: &[u8], firsts: &[usize; 256], counts: &[u8; 256], id: u8, list: &mut [u8]) -> Listing
+pub fn list_ways<'a>(config: &[u8], firsts: &'a [usize; 256], counts: &'a [u8; 256], id: u8, list: &mut [u8]) -> Listing
     ensures { λ r. ⌜ r ≡ waysListing (waysUp (namedBy (now (config .entry)) (now (firsts .entry)) (now (counts .entry))) mostDepth id) (length (now (list .entry))) ⌝ }
     ensures { λ r. ⌜ now (list .exit) ≡ waysList (waysUp (namedBy (now (config .entry)) (now (firsts .entry)) (now (counts .entry))) mostDepth id) (now (list .entry)) ⌝ }
 {
