@@ -70,8 +70,7 @@ module _ {s : List ℕ} {p : ℕ} {ds : List (List ℕ)} {run : Run} (k : Repres
         -- an Output Terminal of the run that bears the ID, by its index
         at : (d : List ℕ) × OutputOf ds x d → (i : ℕ) × (i < held run) × (idAt run i ≡ x) × (feedsAt run i ≡ false)
         at (d, o) =
-            let j = member-index [] (o .among) in
-            (
+            let j = member-index [] (o .among) in (
               j .0,
               rw (k .counted) (j .1),
               k .id (j .0) (j .1) ∙ ap ownId (j .2) ∙ o .bears,

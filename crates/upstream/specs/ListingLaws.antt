@@ -123,9 +123,8 @@ module _ (ws : List Way) (a : Tally) (c : Counted ws a) (l : List ℕ) where
         let z = le-ltb mostRoutes (length ws) n in
         let b = c .bytes h in
         let y = le-ltb (length l) (length (written ws)) (omega arith) in
-        let zero-at : 0 + length (written ws) ≡ length (written ws) = omega arith in
-        (
+        let zero-at : 0 + length (written ws) ≡ length (written ws) = omega arith in (
           rw (c .routes h, c .bytes h) (sym (no _ _ z ∙ no _ _ y)),
           ap (λ (t : Told). t .list) e ∙ whole (heard nothing l) ws (omega arith) (omega arith) ∙ sets-eq (written ws) l 0 (omega arith)
-          ∙ ap (λ (i : ℕ). written ws ++ drop i l) zero-at ∙ sym (no _ _ z ∙ no _ _ y),
+              ∙ ap (λ (i : ℕ). written ws ++ drop i l) zero-at ∙ sym (no _ _ z ∙ no _ _ y),
         )

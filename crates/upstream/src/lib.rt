@@ -100,7 +100,15 @@ fn tell_route(path: Path, told: Tally, list: &mut [u8]) -> Tally
 }
 
 // An entity asks its pins; one that has none is where a route ends. One route more than are listed is enough.
-fn ask_entity(config: &[u8], firsts: &[usize; 256], counts: &[u8; 256], id: u8, path: Path, told: Tally, list: &mut [u8]) -> Tally
+fn ask_entity(
+    config: &[u8],
+    firsts: &[usize; 256],
+    counts: &[u8; 256],
+    id: u8,
+    path: Path,
+    told: Tally,
+    list: &mut [u8],
+) -> Tally
     requires { ⌜ Ready path told ⌝ }
     ensures { λ r. ⌜ heard r (now (list .exit)) ≡ tellAll (pathOf path) (heard told (now (list .entry))) (waysUp (namedBy (now (config .entry)) (now (firsts .entry)) (now (counts .entry))) (path .left) id) ⌝ }
 {
@@ -119,7 +127,15 @@ fn ask_entity(config: &[u8], firsts: &[usize; 256], counts: &[u8; 256], id: u8, 
 }
 
 // Each pin asks the entity behind it, the first pin first.
-fn ask_pins(config: &[u8], firsts: &[usize; 256], counts: &[u8; 256], sources: &[u8], path: Path, told: Tally, list: &mut [u8]) -> Tally
+fn ask_pins(
+    config: &[u8],
+    firsts: &[usize; 256],
+    counts: &[u8; 256],
+    sources: &[u8],
+    path: Path,
+    told: Tally,
+    list: &mut [u8],
+) -> Tally
     requires { ⌜ Ready path told ⌝ }
     ensures { λ r. ⌜ heard r (now (list .exit)) ≡ tellAll (pathOf path) (heard told (now (list .entry))) (behindAll (waysUp (namedBy (now (config .entry)) (now (firsts .entry)) (now (counts .entry))) (path .left)) (now (sources .entry))) ⌝ }
 {
@@ -166,7 +182,13 @@ fn count(config: &[u8], firsts: &[usize; 256], counts: &[u8; 256], id: u8) -> Ta
 }
 
 // Lists every way upstream from an ID. One walk counts, another then writes.
-pub fn list_ways<'a>(config: &[u8], firsts: &'a [usize; 256], counts: &'a [u8; 256], id: u8, list: &mut [u8]) -> Listing
+pub fn list_ways<'a>(
+    config: &[u8],
+    firsts: &'a [usize; 256],
+    counts: &'a [u8; 256],
+    id: u8,
+    list: &mut [u8],
+) -> Listing
     ensures { λ r. ⌜ r ≡ waysListing (waysUp (namedBy (now (config .entry)) (now (firsts .entry)) (now (counts .entry))) mostDepth id) (length (now (list .entry))) ⌝ }
     ensures { λ r. ⌜ now (list .exit) ≡ waysList (waysUp (namedBy (now (config .entry)) (now (firsts .entry)) (now (counts .entry))) mostDepth id) (now (list .entry)) ⌝ }
 {

@@ -97,52 +97,40 @@ Inv-loop run n firsts₀ counts₀ i₀ firsts counts i = Both run firsts counts
 abbrev μ-loop : tie.MeasureT-loop
 μ-loop run n firsts₀ counts₀ i₀ firsts counts i = n - i
 
--- src/lib.rt:20:9
 count-requires : tie.Need-count-requires Inv-loop μ-loop
 count-requires c κs = search laws
 
--- src/lib.rt:24:5
 loop-holds : tie.Need-loop-holds Inv-loop μ-loop
 loop-holds c = search laws
 
--- src/lib.rt:25:20
 mul-node : tie.Need-mul-node Inv-loop μ-loop
 mul-node c = search laws
 
--- src/lib.rt:25:20
 element-copy-out-node : tie.Need-element-copy-out-node Inv-loop μ-loop
 element-copy-out-node c = search laws
 
--- src/lib.rt:26:13
 index-of-requires : tie.Need-index-of-requires Inv-loop μ-loop
 index-of-requires c κs = search laws
 
--- src/lib.rt:27:9
 mul-firsts : tie.Need-mul-firsts Inv-loop μ-loop
 mul-firsts c = search laws
 
--- src/lib.rt:27:9
 array-write-firsts : tie.Need-array-write-firsts Inv-loop μ-loop
 array-write-firsts c = search laws
 
--- src/lib.rt:28:9
 array-write-counts : tie.Need-array-write-counts Inv-loop μ-loop
 array-write-counts c = search laws
 
--- src/lib.rt:29:9
 add-i : tie.Need-add-i Inv-loop μ-loop
 add-i c = search laws
 
--- src/lib.rt:24:5
 loop-less : tie.Need-loop-less Inv-loop μ-loop
 loop-less c = search laws
 
--- src/lib.rt:24:5
 loop-again : tie.Need-loop-again Inv-loop μ-loop
 unfolding blankNode
 loop-again c = search laws
 
--- src/lib.rt:17:1
 returns : tie.Need-returns Inv-loop μ-loop
 returns c = search laws
 

@@ -42,41 +42,32 @@ Inv-loop id run n i₀ i = Passed id run i
 abbrev μ-loop : tie.MeasureT-loop
 μ-loop id run n i₀ i = n - i
 
--- src/lib.rt:38:9
 count-requires : tie.Need-count-requires Inv-loop μ-loop
 count-requires c κs = search laws
 
--- src/lib.rt:40:5
 loop-holds : tie.Need-loop-holds Inv-loop μ-loop
 loop-holds c = search laws
 
--- src/lib.rt:41:20
 mul-node : tie.Need-mul-node Inv-loop μ-loop
 mul-node c = search laws
 
--- src/lib.rt:41:20
 element-copy-out-node : tie.Need-element-copy-out-node Inv-loop μ-loop
 element-copy-out-node c = search laws
 
--- src/lib.rt:43:13
 returns : tie.Need-returns Inv-loop μ-loop
 unfolding blankNode
 returns c = search laws
 
--- src/lib.rt:45:9
 add-i : tie.Need-add-i Inv-loop μ-loop
 add-i c = search laws
 
--- src/lib.rt:40:5
 loop-less : tie.Need-loop-less Inv-loop μ-loop
 loop-less c = search laws
 
--- src/lib.rt:40:5
 loop-again : tie.Need-loop-again Inv-loop μ-loop
 unfolding blankNode
 loop-again c = search laws
 
--- src/lib.rt:35:1
 returns-2 : tie.Need-returns-2 Inv-loop μ-loop
 returns-2 c = search laws
 

@@ -54,27 +54,21 @@ module _ (s : List ℕ) (f : Finding) (e : f ≡ findingOf s) (x : ℕ) where
 
 ruleset laws = (refused-answer, refused-list, taken-answer, taken-list, needs)
 
--- src/lib.rt:67:9
 judge-requires : tie.Need-judge-requires
 judge-requires c κs = search laws
 
--- src/lib.rt:70:9
 refused-requires : tie.Need-refused-requires
 refused-requires c κs = search laws
 
--- src/lib.rt:70:9
 returns : tie.Need-returns
 returns c = (search laws, search laws)
 
--- src/lib.rt:72:5
 list-run-requires : tie.Need-list-run-requires
 list-run-requires c κs = search laws
 
--- src/lib.rt:63:1
 same-length : tie.Need-same-length
 same-length c = search laws
 
--- src/lib.rt:63:1
 returns-2 : tie.Need-returns-2
 returns-2 c = (search laws, search laws)
 

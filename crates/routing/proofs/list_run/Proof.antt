@@ -44,37 +44,29 @@ module _ (s : List ℕ) (run : Run) (x : ℕ) (b : Bool) (e : b ≡ isOutput run
 
 ruleset laws = (other-answer, other-list, needs)
 
--- src/lib.rt:55:9
 is-output-requires : tie.Need-is-output-requires
 is-output-requires c κs = search laws
 
--- src/lib.rt:56:9
 refused-requires : tie.Need-refused-requires
 refused-requires c κs = search laws
 
--- src/lib.rt:56:9
 returns : tie.Need-returns
 returns c = (search laws, search laws)
 
--- src/lib.rt:58:18
 directory-requires : tie.Need-directory-requires
 directory-requires c κs = search laws
 
--- src/lib.rt:59:5
 list-ways-requires : tie.Need-list-ways-requires
 list-ways-requires c κs = search laws
 
--- src/lib.rt:51:1
 same-length : tie.Need-same-length
 same-length c = search laws
 
--- src/lib.rt:51:1
 returns-2 : tie.Need-returns-2
 returns-2 c =
     let out = c .before .before .before .before .before .before .before .before .before .is-output .ensures in
     let byte : c .before .before .before .before .before .before .before .before .before .before .before .before .args .id < 256 = omega (arith, c .before .before .before .before .before .before .before .before .before .before .before .before .fits .id .fits) in
-    let bytes : (k : ℕ) → getD (c .before .before .before .before .before .before .before .before .before .before .before .before .args .config .now) k 0 < 256 = λ k. omega (arith, c .before .before .before .before .before .before .before .before .before .before .before .shared-slice-known .given k) in
-    (
+    let bytes : (k : ℕ) → getD (c .before .before .before .before .before .before .before .before .before .before .before .before .args .config .now) k 0 < 256 = λ k. omega (arith, c .before .before .before .before .before .before .before .before .before .before .before .shared-slice-known .given k) in (
       answer _ _ _ _ out (c .before .before .before .before .before .before .before .before .if1 .left) _ (c .before .before .before .before .before .before .before .directory .ensures) byte bytes _ _ (c .before .before .list-ways .ensures .0),
       list _ _ _ _ out (c .before .before .before .before .before .before .before .before .if1 .left) _ (c .before .before .before .before .before .before .before .directory .ensures) byte bytes _ _ (c .before .before .list-ways .ensures .1),
     )

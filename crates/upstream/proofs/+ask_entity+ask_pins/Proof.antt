@@ -110,7 +110,6 @@ abbrev ask-pins-below : ℕ → In 5 ask-pins-kinds.ps
 ask-pins-below t =
     and 5 ask-pins-kinds.ps (falls 5 ask-pins-kinds.ps _<_ μ-ask-pins t) ask-pins.Pre
 
--- src/lib.rt:99:9
 ask-entity-returns : (t : ℕ) → ask-entity-lts.Need-returns (
   sources-of-reads.Asked,
   sources-of-reads.Learnt,
@@ -123,7 +122,6 @@ ask-entity-returns : (t : ℕ) → ask-entity-lts.Need-returns (
 ) (ask-entity-at t) ask-entity.Post
 ask-entity-returns t c = search laws
 
--- src/lib.rt:102:9
 ask-entity-returns-2 : (t : ℕ) → ask-entity-lts.Need-returns-2 (
   sources-of-reads.Asked,
   sources-of-reads.Learnt,
@@ -136,7 +134,6 @@ ask-entity-returns-2 : (t : ℕ) → ask-entity-lts.Need-returns-2 (
 ) (ask-entity-at t) ask-entity.Post
 ask-entity-returns-2 t c = search laws
 
--- src/lib.rt:104:9
 ask-entity-sources-of-requires : (t : ℕ) → ask-entity-lts.Need-sources-of-requires (
   sources-of-reads.Asked,
   sources-of-reads.Learnt,
@@ -149,7 +146,6 @@ ask-entity-sources-of-requires : (t : ℕ) → ask-entity-lts.Need-sources-of-re
 ) (ask-entity-at t) ask-entity.Post
 ask-entity-sources-of-requires t c κs = search laws
 
--- src/lib.rt:105:9
 ask-entity-step-requires : (t : ℕ) → ask-entity-lts.Need-step-requires (
   sources-of-reads.Asked,
   sources-of-reads.Learnt,
@@ -162,7 +158,6 @@ ask-entity-step-requires : (t : ℕ) → ask-entity-lts.Need-step-requires (
 ) (ask-entity-at t) ask-entity.Post
 ask-entity-step-requires t c κs = search laws
 
--- src/lib.rt:107:9
 ask-entity-tell-route-requires : (t : ℕ) → ask-entity-lts.Need-tell-route-requires (
   sources-of-reads.Asked,
   sources-of-reads.Learnt,
@@ -175,7 +170,6 @@ ask-entity-tell-route-requires : (t : ℕ) → ask-entity-lts.Need-tell-route-re
 ) (ask-entity-at t) ask-entity.Post
 ask-entity-tell-route-requires t c κs = search laws
 
--- src/lib.rt:107:9
 ask-entity-same-length : (t : ℕ) → ask-entity-lts.Need-same-length (
   sources-of-reads.Asked,
   sources-of-reads.Learnt,
@@ -188,7 +182,6 @@ ask-entity-same-length : (t : ℕ) → ask-entity-lts.Need-same-length (
 ) (ask-entity-at t) ask-entity.Post
 ask-entity-same-length t c = search laws
 
--- src/lib.rt:107:9
 ask-entity-returns-3 : (t : ℕ) → ask-entity-lts.Need-returns-3 (
   sources-of-reads.Asked,
   sources-of-reads.Learnt,
@@ -201,7 +194,6 @@ ask-entity-returns-3 : (t : ℕ) → ask-entity-lts.Need-returns-3 (
 ) (ask-entity-at t) ask-entity.Post
 ask-entity-returns-3 t c = search laws
 
--- src/lib.rt:109:5
 ask-entity-ask-pins-requires : (t : ℕ) → ask-entity-lts.Need-ask-pins-requires (
   sources-of-reads.Asked,
   sources-of-reads.Learnt,
@@ -214,7 +206,6 @@ ask-entity-ask-pins-requires : (t : ℕ) → ask-entity-lts.Need-ask-pins-requir
 ) (ask-entity-at t) ask-entity.Post
 ask-entity-ask-pins-requires t c κs = search laws
 
--- src/lib.rt:94:1
 ask-entity-same-length-2 : (t : ℕ) → ask-entity-lts.Need-same-length-2 (
   sources-of-reads.Asked,
   sources-of-reads.Learnt,
@@ -227,7 +218,6 @@ ask-entity-same-length-2 : (t : ℕ) → ask-entity-lts.Need-same-length-2 (
 ) (ask-entity-at t) ask-entity.Post
 ask-entity-same-length-2 t c = search laws
 
--- src/lib.rt:94:1
 ask-entity-returns-4 : (t : ℕ) → ask-entity-lts.Need-returns-4 (
   sources-of-reads.Asked,
   sources-of-reads.Learnt,
@@ -240,7 +230,6 @@ ask-entity-returns-4 : (t : ℕ) → ask-entity-lts.Need-returns-4 (
 ) (ask-entity-at t) ask-entity.Post
 ask-entity-returns-4 t c = search laws
 
--- src/lib.rt:118:9
 ask-pins-returns : (t : ℕ) → ask-pins-lts.Need-returns (
   ask-entity-below t,
   ask-entity.Post,
@@ -249,7 +238,6 @@ ask-pins-returns : (t : ℕ) → ask-pins-lts.Need-returns (
 ) (ask-pins-at t) ask-pins.Post
 ask-pins-returns t c = search laws
 
--- src/lib.rt:120:51
 ask-pins-shared-slice-read-ask-entity : (t : ℕ) → ask-pins-lts.Need-shared-slice-read-ask-entity (
   ask-entity-below t,
   ask-entity.Post,
@@ -258,7 +246,6 @@ ask-pins-shared-slice-read-ask-entity : (t : ℕ) → ask-pins-lts.Need-shared-s
 ) (ask-pins-at t) ask-pins.Post
 ask-pins-shared-slice-read-ask-entity t c = search laws
 
--- src/lib.rt:120:9
 ask-pins-ask-entity-requires : (t : ℕ) → ask-pins-lts.Need-ask-entity-requires (
   ask-entity-below t,
   ask-entity.Post,
@@ -267,7 +254,6 @@ ask-pins-ask-entity-requires : (t : ℕ) → ask-pins-lts.Need-ask-entity-requir
 ) (ask-pins-at t) ask-pins.Post
 ask-pins-ask-entity-requires t c κs = search laws
 
--- src/lib.rt:121:38
 ask-pins-sub-ask-pins : (t : ℕ) → ask-pins-lts.Need-sub-ask-pins (
   ask-entity-below t,
   ask-entity.Post,
@@ -276,7 +262,6 @@ ask-pins-sub-ask-pins : (t : ℕ) → ask-pins-lts.Need-sub-ask-pins (
 ) (ask-pins-at t) ask-pins.Post
 ask-pins-sub-ask-pins t c = search laws
 
--- src/lib.rt:121:38
 ask-pins-part-ask-pins-start : (t : ℕ) → ask-pins-lts.Need-part-ask-pins-start (
   ask-entity-below t,
   ask-entity.Post,
@@ -285,7 +270,6 @@ ask-pins-part-ask-pins-start : (t : ℕ) → ask-pins-lts.Need-part-ask-pins-sta
 ) (ask-pins-at t) ask-pins.Post
 ask-pins-part-ask-pins-start t c = search laws
 
--- src/lib.rt:121:38
 ask-pins-part-ask-pins-end : (t : ℕ) → ask-pins-lts.Need-part-ask-pins-end (
   ask-entity-below t,
   ask-entity.Post,
@@ -294,7 +278,6 @@ ask-pins-part-ask-pins-end : (t : ℕ) → ask-pins-lts.Need-part-ask-pins-end (
 ) (ask-pins-at t) ask-pins.Post
 ask-pins-part-ask-pins-end t c = search laws
 
--- src/lib.rt:121:5
 ask-pins-ask-pins-requires : (t : ℕ) → ask-pins-lts.Need-ask-pins-requires (
   ask-entity-below t,
   ask-entity.Post,
@@ -303,7 +286,6 @@ ask-pins-ask-pins-requires : (t : ℕ) → ask-pins-lts.Need-ask-pins-requires (
 ) (ask-pins-at t) ask-pins.Post
 ask-pins-ask-pins-requires t c κs = (less-left t _ (length (c .before .before .before .before .before .before .before .before .before .before .before .args .sources .now)) _ (search laws) (search laws) (taken-most _ _), ready-next _ _ _ _ _ _ _ (c .before .before .before .before .before .before .before .before .before .before .before .pre .1) (c .before .before .before .before .ask-entity .ensures))
 
--- src/lib.rt:113:1
 ask-pins-same-length : (t : ℕ) → ask-pins-lts.Need-same-length (
   ask-entity-below t,
   ask-entity.Post,
@@ -312,7 +294,6 @@ ask-pins-same-length : (t : ℕ) → ask-pins-lts.Need-same-length (
 ) (ask-pins-at t) ask-pins.Post
 ask-pins-same-length t c = search laws
 
--- src/lib.rt:113:1
 ask-pins-returns-2 : (t : ℕ) → ask-pins-lts.Need-returns-2 (
   ask-entity-below t,
   ask-entity.Post,

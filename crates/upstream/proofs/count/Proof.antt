@@ -6,19 +6,15 @@ use Rattle.upstream.proofs.count.Tie as tie
 
 ruleset laws = (counted, needs)
 
--- src/lib.rt:165:38
 array-borrow-prefix-none : tie.Need-array-borrow-prefix-none
 array-borrow-prefix-none c = search laws
 
--- src/lib.rt:165:38
 slice-aggregate-walk : tie.Need-slice-aggregate-walk
 slice-aggregate-walk c = search laws
 
--- src/lib.rt:165:5
 walk-requires : tie.Need-walk-requires
 walk-requires c κs = search laws
 
--- src/lib.rt:161:1
 returns : tie.Need-returns
 returns c = search laws
 

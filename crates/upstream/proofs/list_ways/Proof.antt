@@ -36,35 +36,27 @@ module _ (ws : List Way) (a : Tally) (c : Counted ws a) (l : List ℕ) where
 
 ruleset laws = (many-answer, many-list, room-answer, room-list, taken-answer, taken-list, needs)
 
--- src/lib.rt:173:9
 count-requires : tie.Need-count-requires
 count-requires c κs = search laws
 
--- src/lib.rt:175:9
 refused-requires : tie.Need-refused-requires
 refused-requires c κs = search laws
 
--- src/lib.rt:175:9
 returns : tie.Need-returns
 returns c = (search laws, search laws)
 
--- src/lib.rt:178:9
 refused-requires-2 : tie.Need-refused-requires-2
 refused-requires-2 c κs = search laws
 
--- src/lib.rt:178:9
 returns-2 : tie.Need-returns-2
 returns-2 c = (search laws, search laws)
 
--- src/lib.rt:180:5
 walk-requires : tie.Need-walk-requires
 walk-requires c κs = search laws
 
--- src/lib.rt:169:1
 same-length : tie.Need-same-length
 same-length c = search laws
 
--- src/lib.rt:169:1
 returns-3 : tie.Need-returns-3
 returns-3 c = (search laws, search laws)
 

@@ -89,63 +89,48 @@ Inv-loop list₀ at path n i₀ list i = Put list₀ at path n list i
 abbrev μ-loop : tie.MeasureT-loop
 μ-loop list₀ at path n i₀ list i = n - i
 
--- src/lib.rt:68:13
 sub-n : tie.Need-sub-n Inv-loop μ-loop
 sub-n c = search laws
 
--- src/lib.rt:69:21
 add-if1 : tie.Need-add-if1 Inv-loop μ-loop
 add-if1 c = search laws
 
--- src/lib.rt:69:21
 add-if1-2 : tie.Need-add-if1-2 Inv-loop μ-loop
 add-if1-2 c = search laws
 
--- src/lib.rt:70:9
 returns : tie.Need-returns Inv-loop μ-loop
 returns c = search laws
 
--- src/lib.rt:73:5
 loop-holds : tie.Need-loop-holds Inv-loop μ-loop
 loop-holds c = search laws
 
--- src/lib.rt:74:24
 element-copy-out-list : tie.Need-element-copy-out-list Inv-loop μ-loop
 element-copy-out-list c = search laws
 
--- src/lib.rt:74:14
 add-list : tie.Need-add-list Inv-loop μ-loop
 add-list c = search laws
 
--- src/lib.rt:74:9
 slice-write-list : tie.Need-slice-write-list Inv-loop μ-loop
 slice-write-list c = search laws
 
--- src/lib.rt:75:9
 add-i : tie.Need-add-i Inv-loop μ-loop
 add-i c = search laws
 
--- src/lib.rt:73:5
 loop-less : tie.Need-loop-less Inv-loop μ-loop
 loop-less c = search laws
 
--- src/lib.rt:73:5
 loop-again : tie.Need-loop-again Inv-loop μ-loop
 loop-again c = search laws
 
--- src/lib.rt:77:10
 add-list-2 : tie.Need-add-list-2 Inv-loop μ-loop
 add-list-2 c = search laws
 
--- src/lib.rt:77:5
 slice-write-list-2 : tie.Need-slice-write-list-2 Inv-loop μ-loop
 slice-write-list-2 c = search laws
 
--- src/lib.rt:63:1
 same-length : tie.Need-same-length Inv-loop μ-loop
 same-length c = search laws
 
--- src/lib.rt:63:1
 returns-2 : tie.Need-returns-2 Inv-loop μ-loop
 returns-2 c = search laws
 

@@ -11,7 +11,6 @@ made n p = refl
 
 ruleset laws = (made, needs)
 
--- src/lib.rt:149:1
 returns : tie.Need-returns
 returns c = search laws
 

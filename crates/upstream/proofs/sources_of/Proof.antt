@@ -14,27 +14,21 @@ named r s firsts counts at x w e = e ∙ ap (namedBy s firsts counts) (w .0)
 
 ruleset laws = (named, needs)
 
--- src/lib.rt:35:9
 index-of-requires : tie.Need-index-of-requires
 index-of-requires c κs = search laws
 
--- src/lib.rt:40:20
 mul-t6 : tie.Need-mul-t6
 mul-t6 c = search laws
 
--- src/lib.rt:40:20
 element-copy-out-t9 : tie.Need-element-copy-out-t9
 element-copy-out-t9 c = search laws
 
--- src/lib.rt:41:19
 element-copy-out-t12 : tie.Need-element-copy-out-t12
 element-copy-out-t12 c = search laws
 
--- src/lib.rt:36:5
 sources-requires : tie.Need-sources-requires
 sources-requires c κs = search laws
 
--- src/lib.rt:32:1
 returns : tie.Need-returns
 returns c = search laws
 

@@ -28,19 +28,15 @@ module _ (p : Path) (g : Standing p) (h : 0 < p .left) where
 
 ruleset laws = (room, further, needs)
 
--- src/lib.rt:55:9
 sub-ids : tie.Need-sub-ids
 sub-ids c = search laws
 
--- src/lib.rt:55:5
 array-write-ids : tie.Need-array-write-ids
 array-write-ids c = search laws
 
--- src/lib.rt:58:15
 sub-t4 : tie.Need-sub-t4
 sub-t4 c = search laws
 
--- src/lib.rt:49:1
 returns : tie.Need-returns
 returns c = search laws
 

@@ -34,31 +34,24 @@ module _ (p : Path) (t : Tally) (g : Ready p t) where
 
 ruleset laws = (small, deep, one-more, needs)
 
--- src/lib.rt:86:5
 put-route-requires : tie.Need-put-route-requires
 put-route-requires c κs = search laws
 
--- src/lib.rt:88:17
 add-t7 : tie.Need-add-t7
 add-t7 c = search laws
 
--- src/lib.rt:89:34
 sub-t8 : tie.Need-sub-t8
 sub-t8 c = search laws
 
--- src/lib.rt:89:18
 add-t9 : tie.Need-add-t9
 add-t9 c = search laws
 
--- src/lib.rt:89:18
 add-t10 : tie.Need-add-t10
 add-t10 c = search laws
 
--- src/lib.rt:81:1
 same-length : tie.Need-same-length
 same-length c = search laws
 
--- src/lib.rt:81:1
 returns : tie.Need-returns
 returns c = search laws
 

@@ -24,15 +24,12 @@ from-nothing r t ws e = e
 
 ruleset laws = (ready, from-nothing, needs)
 
--- src/lib.rt:136:5
 ask-entity-requires : tie.Need-ask-entity-requires
 ask-entity-requires c κs = search laws
 
--- src/lib.rt:125:1
 same-length : tie.Need-same-length
 same-length c = search laws
 
--- src/lib.rt:125:1
 returns : tie.Need-returns
 returns c = search laws
 
