@@ -12,7 +12,6 @@ use Prim.Native.Nat.{ℕ, zero, suc}
 use mathlib.Core.Bool.{Bool, false, not}
 use mathlib.Core.List.{List}
 use lib.Dec.{eqb}
-use lib.ListN.{length}
 use Rattle.ground.specs.Pick.{pick}
 use Rattle.ground.specs.Refuse.{none}
 use Rattle.ground.specs.Places.{firstIn}

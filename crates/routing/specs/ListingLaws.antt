@@ -5,7 +5,7 @@
 --   tables-named    ==  the tables by ID have the sources of each byte's bearer
 --   named-bytes     ==  which are bytes
 use Prim.Native.Nat.{ℕ, zero, suc, _≤_, _<_}
-use mathlib.Core.Path.{_≡_, refl, sym, ap, _∙_, subst}
+use mathlib.Core.Path.{_≡_, sym, ap, _∙_, subst}
 use mathlib.Core.Bool.{Bool, true, false, not}
 use mathlib.Core.Logic.{⊎-elim}
 use mathlib.Core.List.{List, [], Memᴰ·append-right}
@@ -13,9 +13,9 @@ use native.Mathlib.Omega.{arith}
 use lib.Dec.{eqb}
 use lib.ListN.{length, getD, take, drop, take-append-drop}
 use borrow.Author.Tests.{eq-eqb, ne-eqb, eqb-true, not-true, not-false}
-use Rattle.ground.specs.Pick.{pick, yes, no, Reads, reads-eq, decided, true≠false}
+use Rattle.ground.specs.Pick.{yes, no, Reads, reads-eq, decided, true≠false}
 use Rattle.ground.specs.Lists.{member-at, member-index}
-use Rattle.ground.specs.Places.{Finding, nothing, first, finding, FirstAt}
+use Rattle.ground.specs.Places.{Finding, nothing, first, finding}
 use Rattle.graph.specs.Members.{_∈_, along, in-take}
 use Rattle.graph.specs.Members as members
 use Rattle.graph.specs.Tables.{getD-tabulate}
@@ -23,7 +23,6 @@ use Rattle.graph.specs.Ranked.{Distinct}
 use Rattle.layout.specs.Layout.{LaidOut}
 use Rattle.edition.specs.Edition.{ownId, sources}
 use Rattle.edition.specs.Audio.{audio}
-use Rattle.entities.specs.declared.Node.{Node}
 use Rattle.entities.specs.declared.Run.{Run}
 use Rattle.entities.specs.Run.{held, nodeAt, idAt, feedsAt, sourcesOf}
 use Rattle.entities.specs.Represents.{Represents}

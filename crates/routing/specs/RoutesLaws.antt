@@ -4,7 +4,7 @@
 --   ways-only, ways-each  ==  the ways upstream of an entity, and its routes
 --   listed-one      ==  two lists of each route exactly once, in the order of pins, are the same
 --   route-upstream  ==  a route is a chain of sources
-use Prim.Native.Nat.{ℕ, zero, suc, _+_, _-_, _≤_, _<_}
+use Prim.Native.Nat.{ℕ, zero, suc, _-_, _≤_, _<_}
 use mathlib.Core.Path.{_≡_, refl, sym, ap, _∙_, subst}
 use mathlib.Core.Bool.{true, false}
 use mathlib.Core.Logic.{⊎-elim, _↔_}
@@ -12,7 +12,6 @@ use mathlib.Core.List.{List, [], _∷_, List·Memᴰ·head, List·Memᴰ·not-ni
 use native.Mathlib.Omega.{arith}
 use native.Mathlib.Nat.{zero-add, le-of-suc-le-suc}
 use lib.ListN.{length, getD}
-use Rattle.ground.specs.Numbers.{byte}
 use Rattle.ground.specs.Pick.{true≠false}
 use Rattle.ground.specs.Lists.{Some}
 use Rattle.graph.specs.Members.{_∈_, index-member}

@@ -4,7 +4,7 @@
 --   rising-one       ==  two lists that rise and have the same members are the same
 --   ways-rise        ==  the ways upstream rise
 --   ways-same        ==  sources that agree on bytes, and are bytes, have the same ways upstream from a byte
-use Prim.Native.Nat.{ℕ, zero, suc, _+_, _≤_, _<_}
+use Prim.Native.Nat.{ℕ, zero, suc, _+_, _<_}
 use mathlib.Core.Path.{_≡_, refl, sym, ap, _∙_, subst}
 use mathlib.Core.Logic.{_⊎_, inl, inr, ⊎-elim}
 use mathlib.Core.List.{List, [], _∷_, _++_, map, List·Memᴰ·head, List·Memᴰ·tail, List·Memᴰ·not-nil, List·Memᴰ·cases-cons, List·Memᴰ·append-cases, Memᴰ·append-left, Memᴰ·append-right, Memᴰ·map, Memᴰ·of-map}
@@ -12,7 +12,7 @@ use native.Mathlib.Omega.{arith}
 use native.Mathlib.Nat.{add-zero, le-of-suc-le-suc}
 use lib.ListN.{length, getD}
 use Rattle.graph.specs.Members.{_∈_}
-use Rattle.upstream.specs.Ways.{Way, ended, via, byPins, ofEntity, waysUp}
+use Rattle.upstream.specs.Ways.{Way, via, byPins, ofEntity, waysUp}
 use Rattle.routing.specs.Routes.{Before, here, later, Rising}
 
 module _ (ask : ℕ → List Way) (x : ℕ) where

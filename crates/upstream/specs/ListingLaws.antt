@@ -4,16 +4,15 @@
 --   refused-many, refused-room, taken  ==  the answer and the list, from the count
 use Prim.Native.Nat.{ℕ, suc, _+_, _-_, _≤_, _<_}
 use mathlib.Core.Path.{_≡_, refl, sym, ap, _∙_, subst}
-use mathlib.Core.Bool.{Bool, true, false}
 use mathlib.Core.Logic.{⊎-elim}
 use mathlib.Core.List.{List, [], _∷_, _++_}
 use native.Mathlib.Omega.{arith}
 use native.Mathlib.Nat.{add-zero}
 use lib.Dec.{ltb}
-use lib.ListN.{length, take, drop, length-append}
+use lib.ListN.{length, drop, length-append}
 use lib.Seq.{sets, length-sets, sets-eq}
-use borrow.Author.Tests.{lt-ltb, le-ltb, ltb-false, ltb-true}
-use Rattle.ground.specs.Pick.{pick, yes, no, decided, reads-lt}
+use borrow.Author.Tests.{lt-ltb, le-ltb}
+use Rattle.ground.specs.Pick.{yes, no, decided, reads-lt}
 use Rattle.upstream.specs.declared.Tally.{Tally}
 use Rattle.upstream.specs.Ways.{Way, written}
 use Rattle.upstream.specs.Telling.{mostRoutes, Told, heard, putIn, tell, tellAll}

@@ -6,7 +6,7 @@
 --   tell-cut        ==  where the depth is used up nothing is told
 --   tell-end        ==  an entity with no pins is told as one route
 --   tell-entity     ==  one with pins as all that is behind them
---   ways-short, behind-short  ==  no way is longer than the depth
+--   ways-short      ==  no way is longer than the depth
 --   ready-next      ==  a path is ready for what comes after ways were told
 --   sets-both       ==  a run of stores, then another
 use Prim.Native.Nat.{ℕ, zero, suc, _+_, _-_, _*_, _≤_, _<_}
@@ -15,18 +15,18 @@ use mathlib.Core.Bool.{Bool, true, false}
 use mathlib.Core.Logic.{⊎-elim}
 use mathlib.Core.List.{List, [], _∷_, _++_, map, append-assoc, List·Memᴰ·head, List·Memᴰ·tail, List·Memᴰ·not-nil, List·Memᴰ·cases-cons, Memᴰ·of-map, List·Memᴰ·append-cases}
 use native.Mathlib.Omega.{arith}
-use native.Mathlib.Nat.{add-zero, suc-mul}
+use native.Mathlib.Nat.{add-zero}
 use native.Mathlib.Numerals.{add-one}
 use lib.Dec.{ltb}
-use lib.ListN.{length, set, take, length-append}
+use lib.ListN.{length, set, length-append}
 use lib.Seq.{sets, length-take-le}
 use borrow.Author.Tests.{lt-ltb, ltb-false}
-use Rattle.ground.specs.Pick.{pick, yes, no, decided, reads-lt}
+use Rattle.ground.specs.Pick.{pick, yes}
 use Rattle.graph.specs.Members.{_∈_}
 use Rattle.upstream.specs.declared.Path.{Path}
 use Rattle.upstream.specs.declared.Tally.{Tally}
-use Rattle.upstream.specs.Ways.{Way, ended, via, byPins, ofEntity, waysUp, behindAll}
-use Rattle.upstream.specs.Telling.{mostDepth, mostRoutes, pathOf, Standing, Ready, Told, heard, putIn, tell, tellAll}
+use Rattle.upstream.specs.Ways.{Way, via, byPins, ofEntity, waysUp, behindAll}
+use Rattle.upstream.specs.Telling.{mostDepth, mostRoutes, pathOf, Ready, Told, heard, putIn, tell, tellAll}
 
 pub tell-idle : (pre : List ℕ) (t : Told) (ws : List Way) → mostRoutes < t .routes → tellAll pre t ws ≡ t
 unfolding tellAll tell
@@ -97,11 +97,6 @@ ways-short named (suc n) x w m = go (ways-short named n) (named x) m
     go : ((y : ℕ) → Short n (waysUp named n y)) → (ys : List ℕ) → w ∈ ofEntity (waysUp named n) x ys → length (w .ids) ≤ suc n
     go h [] a = ⊎-elim (λ e. rw e (omega arith)) (λ b. absurd (List·Memᴰ·not-nil b)) (List·Memᴰ·cases-cons a)
     go h (y ∷ ys) a = pins-short (waysUp named n) n h x 0 (y ∷ ys) w a
-
-pub behind-short : (ask : ℕ → List Way) (n : ℕ) → ((y : ℕ) → Short n (ask y)) → (ys : List ℕ) → Short n (behindAll ask ys)
-unfolding behindAll
-behind-short ask n h [] w m = absurd (List·Memᴰ·not-nil m)
-behind-short ask n h (y ∷ ys) w m = ⊎-elim (λ a. h y w a) (λ a. behind-short ask n h ys w a) (List·Memᴰ·append-cases (ask y) m)
 
 record Bounded (t : Told) : Type 0 where
   few : t .routes ≤ 257

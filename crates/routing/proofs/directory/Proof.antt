@@ -10,7 +10,7 @@ use lib.Dec.{eqb}
 use lib.ListN.{length, getD, set, replicate, length-set, length-replicate, getD-replicate}
 use lib.Seq.{getD-set-same, getD-set-other}
 use borrow.Author.Tests.{eq-eqb, ne-eqb}
-use Rattle.ground.specs.Pick.{pick, yes, no, reads-eq, decided}
+use Rattle.ground.specs.Pick.{yes, no, reads-eq, decided}
 use Rattle.graph.specs.Tables.{tabulate, tabulate-same, tabulate-getD}
 use Rattle.entities.specs.declared.Node.{Node}
 use Rattle.entities.specs.declared.Run.{Run}

@@ -2,14 +2,14 @@
 use borrow.Author.Needs.{needs}
 use Prim.Native.Nat.{ℕ, suc, _+_, _-_, _*_, _^_, _≤_, _<_}
 use mathlib.Core.Path.{_≡_, refl, sym, ap, _∙_}
-use mathlib.Core.List.{List, [], _∷_, _++_}
+use mathlib.Core.List.{List, [], _∷_}
 use native.Mathlib.Omega.{arith}
 use native.Mathlib.Nat.{pos-of-ne-zero, min-le-left}
 use lib.ListN.{length, getD, take, drop, length-take}
 use lib.Seq.{take-all}
 use Rattle.upstream.specs.declared.Path.{Path}
 use Rattle.upstream.specs.declared.Tally.{Tally}
-use Rattle.upstream.specs.Ways.{Way, waysUp, behindAll}
+use Rattle.upstream.specs.Ways.{waysUp, behindAll}
 use Rattle.upstream.specs.Telling.{mostRoutes, namedBy, pathOf, Standing, Further, Ready, Told, heard, tell, tellAll}
 use Rattle.upstream.specs.TellingLaws.{tell-idle, tell-both, tell-cut, tell-end, tell-entity, ready-next}
 use borrow.Fn.Kinds.{In}

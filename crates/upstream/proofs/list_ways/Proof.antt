@@ -7,7 +7,7 @@ use lib.ListN.{length}
 use Rattle.upstream.specs.declared.Listing.{Listing}
 use Rattle.upstream.specs.declared.Tally.{Tally}
 use Rattle.upstream.specs.Ways.{Way}
-use Rattle.upstream.specs.Telling.{mostRoutes, Told, heard, tellAll}
+use Rattle.upstream.specs.Telling.{mostRoutes, heard, tellAll}
 use Rattle.upstream.specs.Listing.{Counted, refusedWith, waysListing, waysList}
 use Rattle.upstream.specs.ListingLaws.{refused-many, refused-room, taken}
 use Rattle.upstream.proofs.list_ways.Statement.{statement}

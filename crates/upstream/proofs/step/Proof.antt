@@ -1,9 +1,9 @@
 -- The next place of the path is filled, and one less may follow.
 use borrow.Author.Needs.{needs}
 use Prim.Native.Nat.{ℕ, suc, _-_, _<_}
-use mathlib.Core.Path.{_≡_, refl, _∙_}
+use mathlib.Core.Path.{_≡_, _∙_}
 use native.Mathlib.Omega.{arith}
-use lib.ListN.{length, set, length-set}
+use lib.ListN.{set, length-set}
 use lib.Seq.{take-suc-set}
 use Rattle.upstream.specs.declared.Path.{Path}
 use Rattle.upstream.specs.Telling.{mostDepth, pathOf, Standing, Further}

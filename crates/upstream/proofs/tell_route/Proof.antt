@@ -1,7 +1,7 @@
 -- The route is put behind those told so far; it has as many IDs as the path.
 use borrow.Author.Needs.{needs}
 use Prim.Native.Nat.{ℕ, _+_, _-_, _^_, _≤_, _<_}
-use mathlib.Core.Path.{_≡_, refl, sym, ap, _∙_}
+use mathlib.Core.Path.{_≡_, sym, ap, _∙_}
 use mathlib.Core.List.{List, [], _∷_, _++_}
 use native.Mathlib.Omega.{arith}
 use lib.ListN.{length}
@@ -10,7 +10,7 @@ use borrow.Author.Tests.{le-ltb}
 use Rattle.ground.specs.Pick.{no}
 use Rattle.upstream.specs.declared.Path.{Path}
 use Rattle.upstream.specs.declared.Tally.{Tally}
-use Rattle.upstream.specs.Telling.{mostDepth, mostRoutes, pathOf, Ready, Told, heard, putIn, tell}
+use Rattle.upstream.specs.Telling.{mostDepth, mostRoutes, pathOf, Ready, heard, putIn, tell}
 use Rattle.upstream.proofs.tell_route.Statement.{statement}
 use Rattle.upstream.proofs.tell_route.Tie as tie
 

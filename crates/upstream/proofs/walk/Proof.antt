@@ -1,14 +1,13 @@
 -- The walk begins with no ID, 32 to follow and nothing told.
 use borrow.Author.Needs.{needs}
 use Prim.Native.Nat.{ℕ}
-use mathlib.Core.Path.{_≡_, refl}
+use mathlib.Core.Path.{_≡_}
 use mathlib.Core.List.{List, []}
 use native.Mathlib.Omega.{arith}
-use lib.ListN.{length, replicate, length-replicate}
+use lib.ListN.{replicate, length-replicate}
 use Rattle.upstream.specs.declared.Path.{Path}
-use Rattle.upstream.specs.declared.Tally.{Tally}
 use Rattle.upstream.specs.Ways.{Way}
-use Rattle.upstream.specs.Telling.{mostDepth, pathOf, Ready, Told, heard, tellAll}
+use Rattle.upstream.specs.Telling.{mostDepth, pathOf, Ready, Told, tellAll}
 use Rattle.upstream.proofs.walk.Statement.{statement}
 use Rattle.upstream.proofs.walk.Tie as tie
 
