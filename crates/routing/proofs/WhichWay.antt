@@ -2,7 +2,7 @@
 use Prim.Native.Nat.{ℕ, suc, _-_, _*_, _≤_, _<_}
 use mathlib.Core.Path.{_≡_, refl, sym, ap, _∙_, subst}
 use mathlib.Core.Bool.{Bool, true, false}
-use mathlib.Core.Logic.{_⊎_, ⊎-elim}
+use mathlib.Core.Logic.{_⊎_, inl, inr, ⊎-elim}
 use mathlib.Core.List.{List, [], _++_}
 use native.Mathlib.Omega.{arith}
 use native.Mathlib.Nat.{min-le-right}
@@ -11,7 +11,9 @@ use lib.ListN.{length, drop}
 use borrow.Author.Tests.{eq-eqb, ne-eqb, lt-ltb, le-ltb, le-leb}
 use Rattle.ground.specs.declared.Refusal.{Refusal}
 use Rattle.ground.specs.Pick.{Reads, pick, yes, no, shows, refutes, decided, reads-eq, reads-lt}
-use Rattle.ground.specs.Refuse.{none, refuse-on}
+use Rattle.ground.specs.declared.Place.{Place}
+use Rattle.ground.specs.declared.Place.the-variants.{Nowhere, At}
+use Rattle.ground.specs.Refuse.{none, refuse, refuse-on}
 use Rattle.ground.specs.Lists.{member-index}
 use Rattle.graph.specs.Members.{_∈_}
 use Rattle.graph.specs.Ranked.{ranks-all, order-short}
@@ -28,20 +30,22 @@ use Rattle.records.specs.Records.{roomFor}
 use Rattle.cutting.specs.declared.Survey.{Survey}
 use Rattle.cutting.specs.Survey.{surveyOf}
 use Rattle.topology.specs.Reading.{judgedThen, roomJudged, verdictOf}
+use Rattle.topology.specs.Verdict.{judged-chain}
 use Rattle.reader.specs.Configuration.{runOf, Configuration}
+use Rattle.reader.specs.Refusals.{Refused}
 use Rattle.reader.proofs.Surveyed.{entitiesOf, survey-kept, represented}
 use Rattle.reader.proofs.Exactly.{accepted-exactly, refused-exactly}
 use Rattle.upstream.specs.declared.Listing.{Listing}
 use Rattle.upstream.specs.Ways.{Way, written}
 use Rattle.upstream.specs.Telling.{mostDepth, mostRoutes}
 use Rattle.upstream.specs.Listing.{refusedWith, listed, waysListing, waysList}
-use Rattle.routing.specs.Routes.{OutputOf, Route, Listed}
+use Rattle.routing.specs.Routes.{OutputOf, Route, EachOnce}
 use Rattle.routing.specs.Routes as routes
 use Rattle.routing.specs.WaysLaws.{ways-rise}
 use Rattle.routing.specs.RoutesLaws.{ways-only, ways-each, listed-one, route-upstream}
 use Rattle.routing.specs.Listing.{namedIn, isOutput, waysFor, listingIn, listIn, listingOf, listOf}
 use Rattle.routing.specs.ListingLaws.{named-own, reads-output}
-use Rattle.routing.specs.WhichWay.{wholeRoom, FromOutput, Answer, WhichWay}
+use Rattle.routing.specs.WhichWay.{wholeRoom, FromOutput, RightListing, WhichWay}
 use Rattle.routing.specs.WhichWay as statement
 
 -- with that room 16 is never given
@@ -86,7 +90,7 @@ module _ (s : List ℕ) (c : Configuration s) where
               let few : held run ≤ mostEntities = min-le-right (run .count) mostEntities in
               omega arith
 
-  all-listed : (d : List ℕ) → d ∈ ds → Listed ds d (waysFor s run (ownId d))
+  all-listed : (d : List ℕ) → d ∈ ds → EachOnce ds d (waysFor s run (ownId d))
   unfolding waysFor
   all-listed d m =
       let g = represented s (c .kept) in
@@ -143,24 +147,24 @@ module _ (s : List ℕ) (c : Configuration s) where
         unfolding waysList
         holds l r = list-ways l ∙ no _ _ (le-ltb mostRoutes (length ws) h) ∙ no _ _ (le-ltb (length l) (length (written ws)) r)
 
-      answer-of : (room : ℕ) → Answer s x room (listingOf s x room)
+      answer-of : (room : ℕ) → RightListing s x room (listingOf s x room)
       answer-of room = ⊎-elim many (λ n. few (omega arith)) (decided (ltb mostRoutes (length ws)) (reads-lt mostRoutes (length ws)))
         where
-          many : mostRoutes < length ws → Answer s x room (listingOf s x room)
-          many h = subst (Answer s x room) (sym (too-many room h)) (statement.by-many c f h)
+          many : mostRoutes < length ws → RightListing s x room (listingOf s x room)
+          many h = subst (RightListing s x room) (sym (too-many room h)) (statement.by-many c f h)
 
-          few : length ws ≤ mostRoutes → Answer s x room (listingOf s x room)
+          few : length ws ≤ mostRoutes → RightListing s x room (listingOf s x room)
           few h =
               ⊎-elim
-              (λ (r : room < length (written ws)). subst (Answer s x room) (sym (too-short h room r)) (statement.by-room c f h r))
-              (λ (n : room < length (written ws) → ⊥). let r : length (written ws) ≤ room = omega arith in subst (Answer s x room) (sym (told h room r)) (statement.routes c f h r))
+              (λ (r : room < length (written ws)). subst (RightListing s x room) (sym (too-short h room r)) (statement.by-room c f h r))
+              (λ (n : room < length (written ws) → ⊥). let r : length (written ws) ≤ room = omega arith in subst (RightListing s x room) (sym (told h room r)) (statement.all-routes c f h r))
               (decided (ltb room (length (written ws))) (reads-lt room (length (written ws))))
 
-    answer-kept : (room : ℕ) → Answer s x room (listingOf s x room)
+    answer-kept : (room : ℕ) → RightListing s x room (listingOf s x room)
     answer-kept room =
         ⊎-elim
         (λ (o : (d : List ℕ) × OutputOf ds x d). answer-of (record { output = o .1; routes = all-listed (o .0) (o .1 .among) }) room)
-        (λ n. subst (Answer s x room) (sym (not-output room n)) (statement.by-id c (λ d o. n (d, o))))
+        (λ n. subst (RightListing s x room) (sym (not-output room n)) (statement.by-id c (λ d o. n (d, o))))
         (decided (isOutput run x) an-output)
 
 module _ (s : List ℕ) (x room : ℕ) where
@@ -170,23 +174,40 @@ module _ (s : List ℕ) (x room : ℕ) where
       no _ _ (ne-eqb (judgedThen s none .number) 0 (λ z. h (sym (ap (λ (r : Refusal). r .number) e) ∙ z)))
       ∙ ap (λ (r : Refusal). refusedWith (r .number) (r .place)) e
 
-  answered : Answer s x room (listingOf s x room)
+  answered : RightListing s x room (listingOf s x room)
   answered = ⊎-elim kept refused (decided (eqb (judgedThen s none .number) 0) (reads-eq (judgedThen s none .number) 0))
     where
-      kept : judgedThen s none .number ≡ 0 → Answer s x room (listingOf s x room)
+      kept : judgedThen s none .number ≡ 0 → RightListing s x room (listingOf s x room)
       kept e = answer-kept s (accepted-exactly s wholeRoom .0 (ap (λ (r : Refusal). r .number) (verdict-is s) ∙ e) .0) x room
 
-      refused : (judgedThen s none .number ≡ 0 → ⊥) → Answer s x room (listingOf s x room)
+      refused : (judgedThen s none .number ≡ 0 → ⊥) → RightListing s x room (listingOf s x room)
       refused n =
-          subst (Answer s x room) (sym (reader-refuses (judgedThen s none .number) (judgedThen s none .place) n refl))
+          subst (RightListing s x room) (sym (reader-refuses (judgedThen s none .number) (judgedThen s none .place) n refl))
           (statement.by-reader n (refused-exactly s wholeRoom (judgedThen s none .number) (judgedThen s none .place) n .0 (verdict-is s)))
 
-  one-answer : (r : Listing) → Answer s x room r → listingOf s x room ≡ r
+  one-answer : (r : Listing) → RightListing s x room r → listingOf s x room ≡ r
   one-answer r (statement.by-reader {n} {p} z f) = reader-refuses n p z (sym (verdict-is s) ∙ refused-exactly s wholeRoom n p z .1 f)
   one-answer r (statement.by-id c n) = not-output s c x room (λ o. n (o .0) (o .1))
   one-answer r (statement.by-many c f h) = too-many s c x f room h
   one-answer r (statement.by-room c f h b) = too-short s c x f h room b
-  one-answer r (statement.routes c f h b) = told s c x f h room b
+  one-answer r (statement.all-routes c f h b) = told s c x f h room b
+
+  -- behind the other rows only 16 is left
+  sixteen : (b : Place) (n p : ℕ) → (n ≡ 0 → ⊥) → (n ≡ 16 → ⊥) → refuse 16 b none ≡ record { number = n; place = p } → ⊥
+  unfolding refuse
+  sixteen Nowhere n p z f e = z (sym (ap (λ (r : Refusal). r .number) e))
+  sixteen (At q) n p z f e = f (sym (ap (λ (r : Refusal). r .number) e))
+
+  but-16 : (sheet n p : ℕ) → (n ≡ 0 → ⊥) → (n ≡ 16 → ⊥) → Refused s sheet n p → listingOf s x room ≡ refusedWith n p
+  unfolding verdictOf roomJudged
+  but-16 sheet n p z f r = go (decided (eqb (judgedThen s none .number) 0) (reads-eq (judgedThen s none .number) 0))
+    where
+      given : verdictOf s sheet ≡ record { number = n; place = p }
+      given = refused-exactly s sheet n p z .1 r
+
+      go : (judgedThen s none .number ≡ 0) ⊎ (judgedThen s none .number ≡ 0 → ⊥) → listingOf s x room ≡ refusedWith n p
+      go (inl e) = absurd (sixteen _ n p z f (sym (judged-chain s .on e (roomJudged (surveyOf s) sheet none)) ∙ given))
+      go (inr m) = reader-refuses n p z (sym (judged-chain s .stays m (roomJudged (surveyOf s) sheet none)) ∙ given)
 
 -- where a listing is refused the list stays
 ways-stay : (ws : List Way) (l : List ℕ) → (waysListing ws (length l) .number ≡ 0 → ⊥) → waysList ws l ≡ l
@@ -213,6 +234,7 @@ list-stays s x l = go (eqb (judgedThen s none .number) 0) (isOutput (surveyOf s 
 pub which-way : WhichWay
 which-way = record {
   answered = answered;
+  but-16 = but-16;
   one-answer = one-answer;
   list-holds = λ s x l c d ws f h r. holds s c x f h l r;
   list-stays = list-stays;

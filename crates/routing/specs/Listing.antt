@@ -2,7 +2,7 @@
 --   bearerBelow run n x  ==  the last of the run's first n entities that bears the ID x; a blank one where none does
 --   bearer run x         ==  .. of all its entities
 --   namedIn s run x      ==  the source IDs of the bearer of x
---   directoryOf run      ==  by ID, where the source IDs of its bearer stand, and how many there are
+--   sourcePlacesOf run      ==  by ID, where the source IDs of its bearer stand, and how many there are
 --   isOutput run x       ==  the entity that bears the ID x has no output
 --   waysFor s run x      ==  the ways upstream from x
 --   listingIn s run x room, listIn s run x l  ==  the answer where the reader refuses nothing, and the list afterwards
@@ -26,7 +26,7 @@ use Rattle.upstream.specs.declared.Listing.{Listing}
 use Rattle.upstream.specs.Ways.{Way, waysUp}
 use Rattle.upstream.specs.Telling.{mostDepth}
 use Rattle.upstream.specs.Listing.{refusedWith, waysListing, waysList}
-use Rattle.routing.specs.declared.Tables.{Tables}
+use Rattle.routing.specs.declared.SourcePlaces.{SourcePlaces}
 
 unfoldable pub bearerBelow : Run → ℕ → ℕ → Node
 bearerBelow run zero x = blankNode
@@ -38,8 +38,8 @@ bearer run x = bearerBelow run (held run) x
 unfoldable pub namedIn : List ℕ → Run → ℕ → List ℕ
 namedIn s run x = sourcesOf s (bearer run x)
 
-unfoldable pub directoryOf : Run → Tables
-directoryOf run = record { firsts = tabulate 256 (λ x. bearer run x .first); counts = tabulate 256 (λ x. bearer run x .pins) }
+unfoldable pub sourcePlacesOf : Run → SourcePlaces
+sourcePlacesOf run = record { firsts = tabulate 256 (λ x. bearer run x .first); counts = tabulate 256 (λ x. bearer run x .pins) }
 
 unfoldable pub isOutput : Run → ℕ → Bool
 isOutput run x = firstIn (bears run x) (λ i. not (feedsAt run i)) false 0 (held run)

@@ -29,11 +29,11 @@ use Rattle.entities.specs.Represents.{Represents}
 use Rattle.ids.specs.Breach.{bears}
 use Rattle.ids.specs.Rule10.{Rule10}
 use Rattle.ids.specs.Rule10Laws.{inside, distinct-run}
-use Rattle.upstream.specs.Telling.{namedBy}
-use Rattle.routing.specs.declared.Tables.{Tables}
+use Rattle.upstream.specs.Telling.{sourcesBy}
+use Rattle.routing.specs.declared.SourcePlaces.{SourcePlaces}
 use Rattle.routing.specs.Routes.{OutputOf}
 use Rattle.routing.specs.RoutesLaws.{no-output}
-use Rattle.routing.specs.Listing.{bearerBelow, bearer, namedIn, directoryOf, isOutput}
+use Rattle.routing.specs.Listing.{bearerBelow, bearer, namedIn, sourcePlacesOf, isOutput}
 
 module _ (run : Run) (distinct : Distinct (idAt run) (held run)) (i : ℕ) where
   bearer-below : (n : ℕ) → n ≤ held run → i < n → bearerBelow run n (idAt run i) ≡ nodeAt run i
@@ -94,11 +94,11 @@ module _ {s : List ℕ} {p : ℕ} {ds : List (List ℕ)} {run : Run} (k : Repres
                   true≠false (sym (not-false (feedsAt run i) e) ∙ ap (feedsAt run) (sym q) ∙ a .3);
             }
 
-pub tables-named : (s : List ℕ) (run : Run) (t : Tables) → t ≡ directoryOf run → (x : ℕ) → x < 256 → namedBy s (t .firsts) (t .counts) x ≡ namedIn s run x
-unfolding namedBy namedIn directoryOf
+pub tables-named : (s : List ℕ) (run : Run) (t : SourcePlaces) → t ≡ sourcePlacesOf run → (x : ℕ) → x < 256 → sourcesBy s (t .firsts) (t .counts) x ≡ namedIn s run x
+unfolding sourcesBy namedIn sourcePlacesOf
 tables-named s run t e x l =
-    ap (λ (u : Tables). take (getD (u .counts) x 0) (drop (getD (u .firsts) x 0) s)) e
-    ∙ ap (λ (n : ℕ). take n (drop (getD (directoryOf run .firsts) x 0) s)) (getD-tabulate 256 (λ y. bearer run y .pins) x 0 l)
+    ap (λ (u : SourcePlaces). take (getD (u .counts) x 0) (drop (getD (u .firsts) x 0) s)) e
+    ∙ ap (λ (n : ℕ). take n (drop (getD (sourcePlacesOf run .firsts) x 0) s)) (getD-tabulate 256 (λ y. bearer run y .pins) x 0 l)
     ∙ ap (λ (n : ℕ). take (bearer run x .pins) (drop n s)) (getD-tabulate 256 (λ y. bearer run y .first) x 0 l)
 
 pub named-bytes : (s : List ℕ) → ((k : ℕ) → getD s k 0 < 256) → (run : Run) (x y : ℕ) → y ∈ namedIn s run x → y < 256

@@ -5,7 +5,7 @@
 --   Route ds d w     ==  w is a route from d: it ends at an Input Terminal, or goes by one of the pins of d to the entity of the run that bears the ID there, and on from there
 --   Before p q       ==  of two ways, told by their pins, the first comes first: at the first pin where they part it takes the lower
 --   Rising ws        ==  each of the ways ws comes before all behind it: none stands twice, and they stand in the order of pins
---   Listed ds d ws   ==  ws has each route from d exactly once and nothing else, in the order of pins
+--   EachOnce ds d ws   ==  ws has each route from d exactly once and nothing else, in the order of pins
 use Prim.Native.Nat.{ℕ, _<_}
 use mathlib.Core.Path.{_≡_}
 use mathlib.Core.List.{List, [], _∷_}
@@ -40,7 +40,7 @@ abbrev pub Rising : List Way → Type 0
 Rising [] = Unit {0}
 Rising (w ∷ ws) = ((v : Way) → v ∈ ws → Before (w .pins) (v .pins)) × Rising ws
 
-pub record Listed (ds : List (List ℕ)) (d : List ℕ) (ws : List Way) : Type 0 where
+pub record EachOnce (ds : List (List ℕ)) (d : List ℕ) (ws : List Way) : Type 0 where
   pub only : (w : Way) → w ∈ ws → Route ds d w
   pub each : (w : Way) → Route ds d w → w ∈ ws
   pub rising : Rising ws

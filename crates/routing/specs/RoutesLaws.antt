@@ -25,7 +25,7 @@ use Rattle.edition.specs.Audio.{audio}
 use Rattle.ranks.specs.Rule12.{Upstream}
 use Rattle.ranks.specs.Rule12 as rules
 use Rattle.upstream.specs.Ways.{Way, ended, via, byPins, ofEntity, waysUp}
-use Rattle.routing.specs.Routes.{InputTerminal, OutputTerminal, Route, Listed}
+use Rattle.routing.specs.Routes.{InputTerminal, OutputTerminal, Route, EachOnce}
 use Rattle.routing.specs.Routes as routes
 use Rattle.routing.specs.WaysLaws.{ByPin, pins-has, pins-in, rising-one}
 
@@ -117,7 +117,7 @@ module _ (ds : List (List ℕ)) (laid : (d : List ℕ) → d ∈ ds → LaidOut 
           subst (λ (zs : List ℕ). via k (ownId d) v ∈ ofEntity (λ z. waysUp named n z) (ownId d) zs) (sym e)
           (subst (λ (i : ℕ). via i (ownId d) v ∈ byPins (λ z. waysUp named n z) (ownId d) 0 (y ∷ ys)) (zero-add k) (pins-in (λ z. waysUp named n z) (ownId d) 0 (y ∷ ys) k l v a))
 
-pub listed-one : {ds : List (List ℕ)} {d : List ℕ} {x y : List Way} → Listed ds d x → Listed ds d y → x ≡ y
+pub listed-one : {ds : List (List ℕ)} {d : List ℕ} {x y : List Way} → EachOnce ds d x → EachOnce ds d y → x ≡ y
 listed-one {x = x} {y = y} a b = rising-one x y (a .rising) (b .rising) (λ w m. b .each w (a .only w m)) (λ w m. a .each w (b .only w m))
 
 pub route-upstream : {ds : List (List ℕ)} {d : List ℕ} {w : Way} → Route ds d w → (n : ℕ) → length (w .ids) ≡ suc n → Upstream audio ds n d

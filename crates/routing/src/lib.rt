@@ -3,19 +3,19 @@
 // were written; or the refusal, the reader's but 16, then 45, 46, 49, with the list as it stood.
 ghost use mathlib.Core.Path.{_≡_};
 ghost use lib.ListN.{length};
-ghost use Rattle.routing.specs.Listing.{directoryOf, isOutput, listingIn, listIn, listingOf, listOf};
+ghost use Rattle.routing.specs.Listing.{sourcePlacesOf, isOutput, listingIn, listIn, listingOf, listOf};
 use entities::Run;
 use ground::index_of;
 use upstream::Listing;
 
 // By ID, where the source IDs of the entity that bears it stand, and how many there are.
-pub struct Tables {
+pub struct SourcePlaces {
     pub firsts: [usize; 256],
     pub counts: [u8; 256],
 }
 
-fn directory(run: Run) -> Tables
-    ensures { λ r. ⌜ r ≡ directoryOf run ⌝ }
+fn source_places(run: Run) -> SourcePlaces
+    ensures { λ r. ⌜ r ≡ sourcePlacesOf run ⌝ }
 {
     let n = entities::count(run);
     let mut firsts = [0usize; 256];
@@ -28,7 +28,7 @@ fn directory(run: Run) -> Tables
         counts[at] = node.pins;
         i += 1;
     }
-    Tables { firsts, counts }
+    SourcePlaces { firsts, counts }
 }
 
 // Whether an ID is an Output Terminal's: the entity that bears it has no output.
@@ -55,7 +55,7 @@ fn list_run(config: &[u8], run: Run, id: u8, list: &mut [u8]) -> Listing
     if !is_output(run, id) {
         return upstream::refused(45, 0);
     }
-    let tables = directory(run);
+    let tables = source_places(run);
     upstream::list_ways(config, &tables.firsts, &tables.counts, id, list)
 }
 

@@ -26,36 +26,36 @@ use Rattle.graph.specs.Members.{_∈_}
 use Rattle.upstream.specs.declared.Path.{Path}
 use Rattle.upstream.specs.declared.Tally.{Tally}
 use Rattle.upstream.specs.Ways.{Way, via, byPins, ofEntity, waysUp, behindAll}
-use Rattle.upstream.specs.Telling.{mostDepth, mostRoutes, pathOf, Ready, Told, heard, putIn, tell, tellAll}
+use Rattle.upstream.specs.Telling.{mostDepth, mostRoutes, pathOf, Ready, Progress, soFar, putIn, tell, tellAll}
 
-pub tell-idle : (pre : List ℕ) (t : Told) (ws : List Way) → mostRoutes < t .routes → tellAll pre t ws ≡ t
+pub tell-idle : (pre : List ℕ) (t : Progress) (ws : List Way) → mostRoutes < t .routes → tellAll pre t ws ≡ t
 unfolding tellAll tell
 tell-idle pre t [] h = refl
-tell-idle pre t (w ∷ ws) h = ap (λ (u : Told). tellAll pre u ws) (yes _ _ (lt-ltb _ _ h)) ∙ tell-idle pre t ws h
+tell-idle pre t (w ∷ ws) h = ap (λ (u : Progress). tellAll pre u ws) (yes _ _ (lt-ltb _ _ h)) ∙ tell-idle pre t ws h
 
-pub tell-both : (pre : List ℕ) (t : Told) (x y : List Way) → tellAll pre t (x ++ y) ≡ tellAll pre (tellAll pre t x) y
+pub tell-both : (pre : List ℕ) (t : Progress) (x y : List Way) → tellAll pre t (x ++ y) ≡ tellAll pre (tellAll pre t x) y
 unfolding tellAll
 tell-both pre t [] y = refl
 tell-both pre t (w ∷ x) y = tell-both pre (tell (pre ++ w .ids) t) x y
 
-tell-via : (pre : List ℕ) (t : Told) (k x : ℕ) (ws : List Way) → tellAll pre t (map (via k x) ws) ≡ tellAll (pre ++ x ∷ []) t ws
+tell-via : (pre : List ℕ) (t : Progress) (k x : ℕ) (ws : List Way) → tellAll pre t (map (via k x) ws) ≡ tellAll (pre ++ x ∷ []) t ws
 unfolding tellAll
 tell-via pre t k x [] = refl
 tell-via pre t k x (w ∷ ws) =
     tell-via pre (tell (pre ++ x ∷ w .ids) t) k x ws
     ∙ ap (λ (is : List ℕ). tellAll (pre ++ x ∷ []) (tell is t) ws) (sym (append-assoc pre (x ∷ []) (w .ids)))
 
-pub tell-pins : (ask : ℕ → List Way) (pre : List ℕ) (t : Told) (x k : ℕ) (ys : List ℕ)
+pub tell-pins : (ask : ℕ → List Way) (pre : List ℕ) (t : Progress) (x k : ℕ) (ys : List ℕ)
     → tellAll pre t (byPins ask x k ys) ≡ tellAll (pre ++ x ∷ []) t (behindAll ask ys)
 unfolding byPins behindAll tellAll
 tell-pins ask pre t x k [] = refl
 tell-pins ask pre t x k (y ∷ ys) =
     tell-both pre t (map (via k x) (ask y)) (byPins ask x (suc k) ys)
-    ∙ ap (λ (u : Told). tellAll pre u (byPins ask x (suc k) ys)) (tell-via pre t k x (ask y))
+    ∙ ap (λ (u : Progress). tellAll pre u (byPins ask x (suc k) ys)) (tell-via pre t k x (ask y))
     ∙ tell-pins ask pre (tellAll (pre ++ x ∷ []) t (ask y)) x (suc k) ys
     ∙ sym (tell-both (pre ++ x ∷ []) t (ask y) (behindAll ask ys))
 
-module _ (named : ℕ → List ℕ) (pre : List ℕ) (t : Told) (x : ℕ) where
+module _ (named : ℕ → List ℕ) (pre : List ℕ) (t : Progress) (x : ℕ) where
   pub tell-cut : (n : ℕ) → n ≡ 0 → t ≡ tellAll pre t (waysUp named n x)
   unfolding waysUp tellAll
   tell-cut zero e = refl
@@ -98,11 +98,11 @@ ways-short named (suc n) x w m = go (ways-short named n) (named x) m
     go h [] a = ⊎-elim (λ e. rw e (omega arith)) (λ b. absurd (List·Memᴰ·not-nil b)) (List·Memᴰ·cases-cons a)
     go h (y ∷ ys) a = pins-short (waysUp named n) n h x 0 (y ∷ ys) w a
 
-record Bounded (t : Told) : Type 0 where
+record Bounded (t : Progress) : Type 0 where
   few : t .routes ≤ 257
   short : t .written ≤ t .routes * 33
 
-bounded-tell : (is : List ℕ) (t : Told) → length is ≤ 32 → Bounded t → Bounded (tell is t)
+bounded-tell : (is : List ℕ) (t : Progress) → length is ≤ 32 → Bounded t → Bounded (tell is t)
 unfolding tell
 bounded-tell is t l b = go (ltb mostRoutes (t .routes)) refl
   where
@@ -114,7 +114,7 @@ bounded-tell is t l b = go (ltb mostRoutes (t .routes)) refl
         let s = b .short in
         record { few = omega arith; short = omega arith }
 
-bounded-all : (pre : List ℕ) (t : Told) (ws : List Way) (n : ℕ) → length pre + n ≤ 32 → Short n ws → Bounded t → Bounded (tellAll pre t ws)
+bounded-all : (pre : List ℕ) (t : Progress) (ws : List Way) (n : ℕ) → length pre + n ≤ 32 → Short n ws → Bounded t → Bounded (tellAll pre t ws)
 unfolding tellAll
 bounded-all pre t [] n l h b = b
 bounded-all pre t (w ∷ ws) n l h b =
@@ -123,12 +123,12 @@ bounded-all pre t (w ∷ ws) n l h b =
     bounded-all pre (tell (pre ++ w .ids) t) ws n l (λ v m. h v (List·Memᴰ·tail m)) (bounded-tell (pre ++ w .ids) t q b)
 
 pub ready-next : (named : ℕ → List ℕ) (p : Path) (t u : Tally) (l k : List ℕ) (x : ℕ) → Ready p t
-    → heard u k ≡ tellAll (pathOf p) (heard t l) (waysUp named (p .left) x) → Ready p u
-unfolding heard pathOf
+    → soFar u k ≡ tellAll (pathOf p) (soFar t l) (waysUp named (p .left) x) → Ready p u
+unfolding soFar pathOf
 ready-next named p t u l k x r e =
     let low = r .stands .low in
     let n : length (pathOf p) ≡ mostDepth - p .left = length-take-le (mostDepth - p .left) (p .ids) (rw (r .stands .long) (omega arith)) in
-    let b : Bounded (heard u k) = rw e (bounded-all (pathOf p) (heard t l) (waysUp named (p .left) x) (p .left) (rw n (omega arith)) (ways-short named (p .left) x) (record { few = r .few; short = r .short })) in
+    let b : Bounded (soFar u k) = rw e (bounded-all (pathOf p) (soFar t l) (waysUp named (p .left) x) (p .left) (rw n (omega arith)) (ways-short named (p .left) x) (record { few = r .few; short = r .short })) in
     record { stands = r .stands; few = b .few; short = b .short }
 
 pub sets-both : (l : List ℕ) (at : ℕ) (x y : List ℕ) → sets l at (x ++ y) ≡ sets (sets l at x) (at + length x) y

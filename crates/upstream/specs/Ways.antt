@@ -1,4 +1,4 @@
--- Ways upstream, over any sources of an ID, as deep as is told.
+-- Ways upstream from an ID, over any sources, of at most a given number of entities. A route is a way from an Output Terminal to an Input Terminal.
 --   Way             ==  the pins that a way goes by, one for each step, counted from 0, and the IDs along it
 --   ended x         ==  the way that ends at the ID x, where it begins
 --   via k x w       ==  from x by its pin k, then w

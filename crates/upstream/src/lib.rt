@@ -6,7 +6,7 @@ ghost use Prim.Native.Nat.{_+_, _*_, _≤_, _^_, _<_};
 ghost use mathlib.Core.List.{[], _∷_, _++_};
 ghost use lib.ListN.{length};
 ghost use Rattle.upstream.specs.Ways.{waysUp, behindAll};
-ghost use Rattle.upstream.specs.Telling.{namedBy, mostDepth, pathOf, Standing, Further, Ready, heard, putIn, tell, tellAll};
+ghost use Rattle.upstream.specs.Telling.{sourcesBy, mostDepth, pathOf, Standing, Further, Ready, soFar, putIn, tell, tellAll};
 ghost use Rattle.upstream.specs.Listing.{Counted, refusedWith, waysListing, waysList};
 use entities::Node;
 use ground::index_of;
@@ -37,9 +37,9 @@ pub struct Path {
     pub left: usize,
 }
 
-// The source IDs of the entity that bears an ID, by where the first stands and how many there are.
+// The source IDs of the entity that bears an ID, by where the first stands and how many there are; of a node nothing else is read.
 fn sources_of<'a>(config: &'a [u8], firsts: &[usize; 256], counts: &[u8; 256], id: u8) -> &'a [u8]
-    ensures { λ r. ⌜ now r ≡ namedBy (now (config .entry)) (now (firsts .entry)) (now (counts .entry)) id ⌝ }
+    ensures { λ r. ⌜ now r ≡ sourcesBy (now (config .entry)) (now (firsts .entry)) (now (counts .entry)) id ⌝ }
 {
     let at = index_of(id);
     entities::sources(
@@ -86,11 +86,11 @@ fn put_route(list: &mut [u8], at: usize, path: Path)
     list[at + n] = 0;
 }
 
-// One route more.
+// One route more is counted, also where it has no room: the walk that counts is lent nothing.
 fn tell_route(path: Path, told: Tally, list: &mut [u8]) -> Tally
     requires { ⌜ Ready path told ⌝ }
     requires { ⌜ told .routes ≤ 256 ⌝ }
-    ensures { λ r. ⌜ heard r (now (list .exit)) ≡ tell (pathOf path) (heard told (now (list .entry))) ⌝ }
+    ensures { λ r. ⌜ soFar r (now (list .exit)) ≡ tell (pathOf path) (soFar told (now (list .entry))) ⌝ }
 {
     put_route(list, told.written, path);
     Tally {
@@ -110,7 +110,7 @@ fn ask_entity(
     list: &mut [u8],
 ) -> Tally
     requires { ⌜ Ready path told ⌝ }
-    ensures { λ r. ⌜ heard r (now (list .exit)) ≡ tellAll (pathOf path) (heard told (now (list .entry))) (waysUp (namedBy (now (config .entry)) (now (firsts .entry)) (now (counts .entry))) (path .left) id) ⌝ }
+    ensures { λ r. ⌜ soFar r (now (list .exit)) ≡ tellAll (pathOf path) (soFar told (now (list .entry))) (waysUp (sourcesBy (now (config .entry)) (now (firsts .entry)) (now (counts .entry))) (path .left) id) ⌝ }
 {
     if path.left == 0 {
         return told;
@@ -137,7 +137,7 @@ fn ask_pins(
     list: &mut [u8],
 ) -> Tally
     requires { ⌜ Ready path told ⌝ }
-    ensures { λ r. ⌜ heard r (now (list .exit)) ≡ tellAll (pathOf path) (heard told (now (list .entry))) (behindAll (waysUp (namedBy (now (config .entry)) (now (firsts .entry)) (now (counts .entry))) (path .left)) (now (sources .entry))) ⌝ }
+    ensures { λ r. ⌜ soFar r (now (list .exit)) ≡ tellAll (pathOf path) (soFar told (now (list .entry))) (behindAll (waysUp (sourcesBy (now (config .entry)) (now (firsts .entry)) (now (counts .entry))) (path .left)) (now (sources .entry))) ⌝ }
 {
     if sources.len() == 0 {
         return told;
@@ -148,7 +148,7 @@ fn ask_pins(
 
 // Tells every way upstream from an ID, by the tables of where the source IDs stand and how many there are.
 fn walk(config: &[u8], firsts: &[usize; 256], counts: &[u8; 256], id: u8, list: &mut [u8]) -> Tally
-    ensures { λ r. ⌜ heard r (now (list .exit)) ≡ tellAll [] (heard (record { routes = 0; written = 0 }) (now (list .entry))) (waysUp (namedBy (now (config .entry)) (now (firsts .entry)) (now (counts .entry))) mostDepth id) ⌝ }
+    ensures { λ r. ⌜ soFar r (now (list .exit)) ≡ tellAll [] (soFar (record { routes = 0; written = 0 }) (now (list .entry))) (waysUp (sourcesBy (now (config .entry)) (now (firsts .entry)) (now (counts .entry))) mostDepth id) ⌝ }
 {
     let start = Path {
         ids: [0u8; 32],
@@ -175,7 +175,7 @@ pub fn refused(number: u8, place: usize) -> Listing
 
 // How many ways there are, and how many bytes they take, as far as 257 of them: a walk with nothing lent.
 fn count(config: &[u8], firsts: &[usize; 256], counts: &[u8; 256], id: u8) -> Tally
-    ensures { λ r. ⌜ Counted (waysUp (namedBy (now (config .entry)) (now (firsts .entry)) (now (counts .entry))) mostDepth id) r ⌝ }
+    ensures { λ r. ⌜ Counted (waysUp (sourcesBy (now (config .entry)) (now (firsts .entry)) (now (counts .entry))) mostDepth id) r ⌝ }
 {
     let mut none = [0u8; 1];
     walk(config, firsts, counts, id, &mut none[..0])
@@ -189,8 +189,8 @@ pub fn list_ways<'a>(
     id: u8,
     list: &mut [u8],
 ) -> Listing
-    ensures { λ r. ⌜ r ≡ waysListing (waysUp (namedBy (now (config .entry)) (now (firsts .entry)) (now (counts .entry))) mostDepth id) (length (now (list .entry))) ⌝ }
-    ensures { λ r. ⌜ now (list .exit) ≡ waysList (waysUp (namedBy (now (config .entry)) (now (firsts .entry)) (now (counts .entry))) mostDepth id) (now (list .entry)) ⌝ }
+    ensures { λ r. ⌜ r ≡ waysListing (waysUp (sourcesBy (now (config .entry)) (now (firsts .entry)) (now (counts .entry))) mostDepth id) (length (now (list .entry))) ⌝ }
+    ensures { λ r. ⌜ now (list .exit) ≡ waysList (waysUp (sourcesBy (now (config .entry)) (now (firsts .entry)) (now (counts .entry))) mostDepth id) (now (list .entry)) ⌝ }
 {
     let all = count(config, firsts, counts, id);
     if MOST_ROUTES < all.routes {

@@ -11,11 +11,11 @@ use Rattle.ground.specs.Pick.{yes, no}
 use Rattle.entities.specs.declared.Run.{Run}
 use Rattle.upstream.specs.declared.Listing.{Listing}
 use Rattle.upstream.specs.Ways.{Way, waysUp}
-use Rattle.upstream.specs.Telling.{namedBy, mostDepth}
+use Rattle.upstream.specs.Telling.{sourcesBy, mostDepth}
 use Rattle.upstream.specs.Listing.{refusedWith, waysListing, waysList}
-use Rattle.routing.specs.declared.Tables.{Tables}
+use Rattle.routing.specs.declared.SourcePlaces.{SourcePlaces}
 use Rattle.routing.specs.WaysLaws.{ways-same}
-use Rattle.routing.specs.Listing.{namedIn, directoryOf, isOutput, waysFor, listingIn, listIn}
+use Rattle.routing.specs.Listing.{namedIn, sourcePlacesOf, isOutput, waysFor, listingIn, listIn}
 use Rattle.routing.specs.ListingLaws.{tables-named, named-bytes}
 use Rattle.routing.proofs.list_run.Statement.{statement}
 use Rattle.routing.proofs.list_run.Tie as tie
@@ -29,16 +29,16 @@ module _ (s : List ℕ) (run : Run) (x : ℕ) (b : Bool) (e : b ≡ isOutput run
   unfolding listIn
   other-list h l = sym (no _ _ (sym e ∙ not-true b h))
 
-  module _ (h : not b ≡ false) (t : Tables) (q : t ≡ directoryOf run) (byte : x < 256) (bytes : (k : ℕ) → getD s k 0 < 256) where
-    ways : waysUp (namedBy s (t .firsts) (t .counts)) mostDepth x ≡ waysFor s run x
+  module _ (h : not b ≡ false) (t : SourcePlaces) (q : t ≡ sourcePlacesOf run) (byte : x < 256) (bytes : (k : ℕ) → getD s k 0 < 256) where
+    ways : waysUp (sourcesBy s (t .firsts) (t .counts)) mostDepth x ≡ waysFor s run x
     unfolding waysFor
-    ways = ways-same (namedBy s (t .firsts) (t .counts)) (namedIn s run) (tables-named s run t q) (λ y l z m. named-bytes s bytes run y z m) mostDepth x byte
+    ways = ways-same (sourcesBy s (t .firsts) (t .counts)) (namedIn s run) (tables-named s run t q) (λ y l z m. named-bytes s bytes run y z m) mostDepth x byte
 
-    answer : (room : ℕ) (r : Listing) → r ≡ waysListing (waysUp (namedBy s (t .firsts) (t .counts)) mostDepth x) room → r ≡ listingIn s run x room
+    answer : (room : ℕ) (r : Listing) → r ≡ waysListing (waysUp (sourcesBy s (t .firsts) (t .counts)) mostDepth x) room → r ≡ listingIn s run x room
     unfolding listingIn
     answer room r k = k ∙ ap (λ (w : List Way). waysListing w room) ways ∙ sym (yes _ _ (sym e ∙ not-false b h))
 
-    list : (l m : List ℕ) → m ≡ waysList (waysUp (namedBy s (t .firsts) (t .counts)) mostDepth x) l → m ≡ listIn s run x l
+    list : (l m : List ℕ) → m ≡ waysList (waysUp (sourcesBy s (t .firsts) (t .counts)) mostDepth x) l → m ≡ listIn s run x l
     unfolding listIn
     list l m k = k ∙ ap (λ (w : List Way). waysList w l) ways ∙ sym (yes _ _ (sym e ∙ not-false b h))
 
@@ -53,8 +53,8 @@ refused-requires c κs = search laws
 returns : tie.Need-returns
 returns c = (search laws, search laws)
 
-directory-requires : tie.Need-directory-requires
-directory-requires c κs = search laws
+source-places-requires : tie.Need-source-places-requires
+source-places-requires c κs = search laws
 
 list-ways-requires : tie.Need-list-ways-requires
 list-ways-requires c κs = search laws
@@ -67,8 +67,8 @@ returns-2 c =
     let out = c .before .before .before .before .before .before .before .before .before .is-output .ensures in
     let byte : c .before .before .before .before .before .before .before .before .before .before .before .before .args .id < 256 = omega (arith, c .before .before .before .before .before .before .before .before .before .before .before .before .fits .id .fits) in
     let bytes : (k : ℕ) → getD (c .before .before .before .before .before .before .before .before .before .before .before .before .args .config .now) k 0 < 256 = λ k. omega (arith, c .before .before .before .before .before .before .before .before .before .before .before .shared-slice-known .given k) in (
-      answer _ _ _ _ out (c .before .before .before .before .before .before .before .before .if1 .left) _ (c .before .before .before .before .before .before .before .directory .ensures) byte bytes _ _ (c .before .before .list-ways .ensures .0),
-      list _ _ _ _ out (c .before .before .before .before .before .before .before .before .if1 .left) _ (c .before .before .before .before .before .before .before .directory .ensures) byte bytes _ _ (c .before .before .list-ways .ensures .1),
+      answer _ _ _ _ out (c .before .before .before .before .before .before .before .before .if1 .left) _ (c .before .before .before .before .before .before .before .source-places .ensures) byte bytes _ _ (c .before .before .list-ways .ensures .0),
+      list _ _ _ _ out (c .before .before .before .before .before .before .before .before .if1 .left) _ (c .before .before .before .before .before .before .before .source-places .ensures) byte bytes _ _ (c .before .before .list-ways .ensures .1),
     )
 
 pub list-run-spec : {M : Type 1} → statement M
@@ -78,7 +78,7 @@ list-run-spec =
     is-output-requires
     refused-requires
     returns
-    directory-requires
+    source-places-requires
     list-ways-requires
     same-length
     returns-2)

@@ -10,7 +10,7 @@ use lib.Seq.{take-all}
 use Rattle.upstream.specs.declared.Path.{Path}
 use Rattle.upstream.specs.declared.Tally.{Tally}
 use Rattle.upstream.specs.Ways.{waysUp, behindAll}
-use Rattle.upstream.specs.Telling.{mostRoutes, namedBy, pathOf, Standing, Further, Ready, Told, heard, tell, tellAll}
+use Rattle.upstream.specs.Telling.{mostRoutes, sourcesBy, pathOf, Standing, Further, Ready, Progress, soFar, tell, tellAll}
 use Rattle.upstream.specs.TellingLaws.{tell-idle, tell-both, tell-cut, tell-end, tell-entity, ready-next}
 use borrow.Fn.Kinds.{In}
 use borrow.Fn.PlainCycle.{Measures, is, falls, and}
@@ -32,42 +32,42 @@ none-of (x ∷ l) e = absurd (omega arith)
 
 module _ (s firsts counts : List ℕ) where
   module _ (p : Path) (t : Tally) (l : List ℕ) (x : ℕ) where
-    cut : p .left ≡ 0 → heard t l ≡ tellAll (pathOf p) (heard t l) (waysUp (namedBy s firsts counts) (p .left) x)
-    cut e = tell-cut (namedBy s firsts counts) (pathOf p) (heard t l) x (p .left) e
+    cut : p .left ≡ 0 → soFar t l ≡ tellAll (pathOf p) (soFar t l) (waysUp (sourcesBy s firsts counts) (p .left) x)
+    cut e = tell-cut (sourcesBy s firsts counts) (pathOf p) (soFar t l) x (p .left) e
 
-    idle : mostRoutes < t .routes → heard t l ≡ tellAll (pathOf p) (heard t l) (waysUp (namedBy s firsts counts) (p .left) x)
-    unfolding heard
-    idle h = sym (tell-idle (pathOf p) (heard t l) (waysUp (namedBy s firsts counts) (p .left) x) h)
+    idle : mostRoutes < t .routes → soFar t l ≡ tellAll (pathOf p) (soFar t l) (waysUp (sourcesBy s firsts counts) (p .left) x)
+    unfolding soFar
+    idle h = sym (tell-idle (pathOf p) (soFar t l) (waysUp (sourcesBy s firsts counts) (p .left) x) h)
 
-    module _ (q : Path) (f : Further p x q) (ys : List ℕ) (e : ys ≡ namedBy s firsts counts x) (u : Tally) (k : List ℕ) where
-      ended : length ys ≡ 0 → heard u k ≡ tell (pathOf q) (heard t l) → heard u k ≡ tellAll (pathOf p) (heard t l) (waysUp (namedBy s firsts counts) (p .left) x)
+    module _ (q : Path) (f : Further p x q) (ys : List ℕ) (e : ys ≡ sourcesBy s firsts counts x) (u : Tally) (k : List ℕ) where
+      ended : length ys ≡ 0 → soFar u k ≡ tell (pathOf q) (soFar t l) → soFar u k ≡ tellAll (pathOf p) (soFar t l) (waysUp (sourcesBy s firsts counts) (p .left) x)
       ended z r =
-          r ∙ ap (λ (is : List ℕ). tell is (heard t l)) (f .behind)
-          ∙ tell-end (namedBy s firsts counts) (pathOf p) (heard t l) x (p .left) (q .left) (f .less) (sym e ∙ none-of ys z)
+          r ∙ ap (λ (is : List ℕ). tell is (soFar t l)) (f .behind)
+          ∙ tell-end (sourcesBy s firsts counts) (pathOf p) (soFar t l) x (p .left) (q .left) (f .less) (sym e ∙ none-of ys z)
 
-      more : (length ys ≡ 0 → ⊥) → heard u k ≡ tellAll (pathOf q) (heard t l) (behindAll (waysUp (namedBy s firsts counts) (q .left)) ys)
-          → heard u k ≡ tellAll (pathOf p) (heard t l) (waysUp (namedBy s firsts counts) (p .left) x)
+      more : (length ys ≡ 0 → ⊥) → soFar u k ≡ tellAll (pathOf q) (soFar t l) (behindAll (waysUp (sourcesBy s firsts counts) (q .left)) ys)
+          → soFar u k ≡ tellAll (pathOf p) (soFar t l) (waysUp (sourcesBy s firsts counts) (p .left) x)
       more z r =
-          r ∙ ap (λ (is : List ℕ). tellAll is (heard t l) (behindAll (waysUp (namedBy s firsts counts) (q .left)) ys)) (f .behind)
-          ∙ tell-entity (namedBy s firsts counts) (pathOf p) (heard t l) x (p .left) (q .left) ys (f .less) e z
+          r ∙ ap (λ (is : List ℕ). tellAll is (soFar t l) (behindAll (waysUp (sourcesBy s firsts counts) (q .left)) ys)) (f .behind)
+          ∙ tell-entity (sourcesBy s firsts counts) (pathOf p) (soFar t l) x (p .left) (q .left) ys (f .less) e z
 
   module _ (p : Path) (t : Tally) (l : List ℕ) where
-    no-pins : (ys : List ℕ) → length ys ≡ 0 → heard t l ≡ tellAll (pathOf p) (heard t l) (behindAll (waysUp (namedBy s firsts counts) (p .left)) ys)
+    no-pins : (ys : List ℕ) → length ys ≡ 0 → soFar t l ≡ tellAll (pathOf p) (soFar t l) (behindAll (waysUp (sourcesBy s firsts counts) (p .left)) ys)
     unfolding behindAll tellAll
     no-pins [] e = refl
     no-pins (y ∷ ys) e = absurd (omega arith)
 
     by-pin : (ys : List ℕ) → (length ys ≡ 0 → ⊥) → (u v : Tally) (k m : List ℕ)
-        → heard u k ≡ tellAll (pathOf p) (heard t l) (waysUp (namedBy s firsts counts) (p .left) (getD ys 0 0))
-        → heard v m ≡ tellAll (pathOf p) (heard u k) (behindAll (waysUp (namedBy s firsts counts) (p .left)) (take (length ys - 1) (drop 1 ys)))
-        → heard v m ≡ tellAll (pathOf p) (heard t l) (behindAll (waysUp (namedBy s firsts counts) (p .left)) ys)
+        → soFar u k ≡ tellAll (pathOf p) (soFar t l) (waysUp (sourcesBy s firsts counts) (p .left) (getD ys 0 0))
+        → soFar v m ≡ tellAll (pathOf p) (soFar u k) (behindAll (waysUp (sourcesBy s firsts counts) (p .left)) (take (length ys - 1) (drop 1 ys)))
+        → soFar v m ≡ tellAll (pathOf p) (soFar t l) (behindAll (waysUp (sourcesBy s firsts counts) (p .left)) ys)
     unfolding behindAll
     by-pin [] n u v k m a b = absurd (n refl)
     by-pin (y ∷ ys) n u v k m a b =
         let rest : take (suc (length ys) - 1) ys ≡ ys = take-all (suc (length ys) - 1) ys (omega arith) in
-        b ∙ ap (λ (r : List ℕ). tellAll (pathOf p) (heard u k) (behindAll (waysUp (namedBy s firsts counts) (p .left)) r)) rest
-        ∙ ap (λ (r : Told). tellAll (pathOf p) r (behindAll (waysUp (namedBy s firsts counts) (p .left)) ys)) a
-        ∙ sym (tell-both (pathOf p) (heard t l) (waysUp (namedBy s firsts counts) (p .left) y) (behindAll (waysUp (namedBy s firsts counts) (p .left)) ys))
+        b ∙ ap (λ (r : List ℕ). tellAll (pathOf p) (soFar u k) (behindAll (waysUp (sourcesBy s firsts counts) (p .left)) r)) rest
+        ∙ ap (λ (r : Progress). tellAll (pathOf p) r (behindAll (waysUp (sourcesBy s firsts counts) (p .left)) ys)) a
+        ∙ sym (tell-both (pathOf p) (soFar t l) (waysUp (sourcesBy s firsts counts) (p .left) y) (behindAll (waysUp (sourcesBy s firsts counts) (p .left)) ys))
 
 ready-here : (p q : Path) (t : Tally) (x : ℕ) → Ready p t → Further p x q → Ready q t
 ready-here p q t x r f = record { stands = f .stands; few = r .few; short = r .short }

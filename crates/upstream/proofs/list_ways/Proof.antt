@@ -7,7 +7,7 @@ use lib.ListN.{length}
 use Rattle.upstream.specs.declared.Listing.{Listing}
 use Rattle.upstream.specs.declared.Tally.{Tally}
 use Rattle.upstream.specs.Ways.{Way}
-use Rattle.upstream.specs.Telling.{mostRoutes, heard, tellAll}
+use Rattle.upstream.specs.Telling.{mostRoutes, soFar, tellAll}
 use Rattle.upstream.specs.Listing.{Counted, refusedWith, waysListing, waysList}
 use Rattle.upstream.specs.ListingLaws.{refused-many, refused-room, taken}
 use Rattle.upstream.proofs.list_ways.Statement.{statement}
@@ -27,7 +27,7 @@ module _ (ws : List Way) (a : Tally) (c : Counted ws a) (l : List ℕ) where
     room-list : length l < a .written → l ≡ waysList ws l
     room-list b = refused-room ws a c l h b .1
 
-    module _ (b : a .written ≤ length l) (u : Tally) (m : List ℕ) (e : heard u m ≡ tellAll [] (heard (record { routes = 0; written = 0 }) l) ws) where
+    module _ (b : a .written ≤ length l) (u : Tally) (m : List ℕ) (e : soFar u m ≡ tellAll [] (soFar (record { routes = 0; written = 0 }) l) ws) where
       taken-answer : record { number = 0; place = 0; routes = a .routes; written = a .written } ≡ waysListing ws (length l)
       taken-answer = taken ws a c l h b u m e .0
 

@@ -4,13 +4,13 @@ use Prim.Native.Nat.{ℕ, _<_}
 use mathlib.Core.Path.{_≡_, ap, _∙_}
 use mathlib.Core.List.{List}
 use lib.ListN.{getD, take, drop}
-use Rattle.upstream.specs.Telling.{namedBy}
+use Rattle.upstream.specs.Telling.{sourcesBy}
 use Rattle.upstream.proofs.sources_of.Statement.{statement}
 use Rattle.upstream.proofs.sources_of.Tie as tie
 
-named : (r s firsts counts : List ℕ) (at x : ℕ) → (at ≡ x) × (at < 256) → r ≡ take (getD counts at 0) (drop (getD firsts at 0) s) → r ≡ namedBy s firsts counts x
-unfolding namedBy
-named r s firsts counts at x w e = e ∙ ap (namedBy s firsts counts) (w .0)
+named : (r s firsts counts : List ℕ) (at x : ℕ) → (at ≡ x) × (at < 256) → r ≡ take (getD counts at 0) (drop (getD firsts at 0) s) → r ≡ sourcesBy s firsts counts x
+unfolding sourcesBy
+named r s firsts counts at x w e = e ∙ ap (sourcesBy s firsts counts) (w .0)
 
 ruleset laws = (named, needs)
 

@@ -10,7 +10,7 @@ use borrow.Author.Tests.{le-ltb}
 use Rattle.ground.specs.Pick.{no}
 use Rattle.upstream.specs.declared.Path.{Path}
 use Rattle.upstream.specs.declared.Tally.{Tally}
-use Rattle.upstream.specs.Telling.{mostDepth, mostRoutes, pathOf, Ready, heard, putIn, tell}
+use Rattle.upstream.specs.Telling.{mostDepth, mostRoutes, pathOf, Ready, soFar, putIn, tell}
 use Rattle.upstream.proofs.tell_route.Statement.{statement}
 use Rattle.upstream.proofs.tell_route.Tie as tie
 
@@ -22,14 +22,14 @@ module _ (p : Path) (t : Tally) (g : Ready p t) where
   deep = g .stands .low
 
   one-more : (l k : List ℕ) → t .routes ≤ 256 → k ≡ putIn l (t .written) (pathOf p ++ 0 ∷ [])
-      → heard (record { routes = t .routes + 1; written = t .written + (mostDepth - p .left) + 1 }) k ≡ tell (pathOf p) (heard t l)
-  unfolding tell heard pathOf
+      → soFar (record { routes = t .routes + 1; written = t .written + (mostDepth - p .left) + 1 }) k ≡ tell (pathOf p) (soFar t l)
+  unfolding tell soFar pathOf
   one-more l k h e =
       let a = g .stands .low in
       let b = g .stands .long in
       let n : mostDepth - p .left ≡ length (pathOf p) = sym (length-take-le (mostDepth - p .left) (p .ids) (omega arith)) in
-      ap (λ (m : ℕ). heard (record { routes = t .routes + 1; written = t .written + m + 1 }) k) n
-      ∙ ap (λ (m : List ℕ). heard (record { routes = t .routes + 1; written = t .written + length (pathOf p) + 1 }) m) e
+      ap (λ (m : ℕ). soFar (record { routes = t .routes + 1; written = t .written + m + 1 }) k) n
+      ∙ ap (λ (m : List ℕ). soFar (record { routes = t .routes + 1; written = t .written + length (pathOf p) + 1 }) m) e
       ∙ sym (no _ _ (le-ltb mostRoutes (t .routes) h))
 
 ruleset laws = (small, deep, one-more, needs)

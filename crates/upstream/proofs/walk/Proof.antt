@@ -7,7 +7,7 @@ use native.Mathlib.Omega.{arith}
 use lib.ListN.{replicate, length-replicate}
 use Rattle.upstream.specs.declared.Path.{Path}
 use Rattle.upstream.specs.Ways.{Way}
-use Rattle.upstream.specs.Telling.{mostDepth, pathOf, Ready, Told, tellAll}
+use Rattle.upstream.specs.Telling.{mostDepth, pathOf, Ready, Progress, tellAll}
 use Rattle.upstream.proofs.walk.Statement.{statement}
 use Rattle.upstream.proofs.walk.Tie as tie
 
@@ -17,7 +17,7 @@ empty = record { ids = replicate 32 0; left = mostDepth }
 ready : Ready empty (record { routes = 0; written = 0 })
 ready = record { stands = record { low = omega arith; long = length-replicate {A = ℕ} 32 0 }; few = omega arith; short = omega arith }
 
-from-nothing : (r t : Told) (ws : List Way) → r ≡ tellAll (pathOf empty) t ws → r ≡ tellAll [] t ws
+from-nothing : (r t : Progress) (ws : List Way) → r ≡ tellAll (pathOf empty) t ws → r ≡ tellAll [] t ws
 unfolding pathOf
 from-nothing r t ws e = e
 

@@ -15,9 +15,9 @@ use Rattle.graph.specs.Tables.{tabulate, tabulate-same, tabulate-getD}
 use Rattle.entities.specs.declared.Node.{Node}
 use Rattle.entities.specs.declared.Run.{Run}
 use Rattle.entities.specs.Run.{blankNode, held, nodeAt, idAt}
-use Rattle.routing.specs.Listing.{bearerBelow, bearer, directoryOf}
-use Rattle.routing.proofs.directory.Statement.{statement}
-use Rattle.routing.proofs.directory.Tie as tie
+use Rattle.routing.specs.Listing.{bearerBelow, bearer, sourcePlacesOf}
+use Rattle.routing.proofs.source_places.Statement.{statement}
+use Rattle.routing.proofs.source_places.Tie as tie
 
 module _ (run : Run) where
   bearer-here : (i k : ℕ) → k ≡ idAt run i → bearerBelow run (i + 1) k ≡ nodeAt run i
@@ -82,8 +82,8 @@ module _ (run : Run) where
       counts-are = noted-more pinsOf counts i (g .counts-are) x (w .0) (w .1);
     }
 
-    over : (n : ℕ) → n ≡ held run → n ≤ i → record { firsts = firsts; counts = counts } ≡ directoryOf run
-    unfolding directoryOf
+    over : (n : ℕ) → n ≡ held run → n ≤ i → record { firsts = firsts; counts = counts } ≡ sourcePlacesOf run
+    unfolding sourcePlacesOf
     over n m h =
         let l = g .low in
         let e : i ≡ held run = omega arith in
@@ -134,8 +134,8 @@ loop-again c = search laws
 returns : tie.Need-returns Inv-loop μ-loop
 returns c = search laws
 
-pub directory-spec : {M : Type 1} → statement M
-directory-spec =
+pub source-places-spec : {M : Type 1} → statement M
+source-places-spec =
     tie.close
     (tie.spec
     Inv-loop
