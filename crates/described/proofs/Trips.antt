@@ -288,14 +288,25 @@ module _ (s : List ℕ) (t : Configuration s) (b : Bytes s) where
   kept-rows : (m : ℕ) → length (bytesOfBoth t) ≤ m → AllKept (entityRows run (roomRows (listedOf h) (flatten run) m))
   kept-rows m r =
       let wrong-none : (d : List ℕ) → d ∈ run → WrongIn d → ⊥ = λ d i. ⊎-elim (λ x. x .0 (k .rule9 d i)) (λ x. let l = short d (in-tail d i) in omega arith) in
-      let room : length (wholeOf (listedOf h) (flatten run)) ≤ m = subst (λ (x : List ℕ). length (x ++ flatten run) ≤ m) (sym head-again) r in
-      (k .rule8,
-      (wrong-none,
-      (λ d i p. printed-unlaid d p (k .rule9 d i),
-      (t .connected .rule10,
-      (t .connected .rule11,
-      (connected-kept (represents run run-each (k .rule9) (k .rule8 .1)) (t .connected),
-      ((t .connected .cluster, t .connected .given-out, t .connected .fits), (few, (room, tt)))))))))
+      let room : length (wholeOf (listedOf h) (flatten run)) ≤ m = subst (λ (x : List ℕ). length (x ++ flatten run) ≤ m) (sym head-again) r in (
+        k .rule8,
+        (
+          wrong-none,
+          (
+            λ d i p. printed-unlaid d p (k .rule9 d i),
+            (
+              t .connected .rule10,
+              (
+                t .connected .rule11,
+                (
+                  connected-kept (represents run run-each (k .rule9) (k .rule8 .1)) (t .connected),
+                  ((t .connected .cluster, t .connected .given-out, t .connected .fits), (few, (room, tt))),
+                ),
+              ),
+            ),
+          ),
+        ),
+      )
 
   stands : take (length (bytesOfBoth t)) (drop (headerPlace (k .opened)) s) ≡ bytesOfBoth t
   unfolding flatten

@@ -74,7 +74,18 @@ fn put_input(
     let low = (locations % 256) as u8;
     let high = (locations / 256) as u8;
     let bytes = [
-        12, CLASS, 2, id, type_low, type_high, paired, channels, low, high, names, name,
+        12,
+        CLASS,
+        2,
+        id,
+        type_low,
+        type_high,
+        paired,
+        channels,
+        low,
+        high,
+        names,
+        name,
     ];
     put(&bytes, out, at);
 }
@@ -193,19 +204,64 @@ fn put_entity(numbers: Numbers, sources: &[u8], controls: &[u8], out: &mut [u8],
 {
     match numbers {
         Numbers::Unknown => {}
-        Numbers::Input { id, terminal, paired, channels, locations, names, name } => {
-            put_input(id, terminal, paired, channels, locations, names, name, out, at);
+        Numbers::Input {
+            id,
+            terminal,
+            paired,
+            channels,
+            locations,
+            names,
+            name,
+        } => {
+            put_input(
+                id,
+                terminal,
+                paired,
+                channels,
+                locations,
+                names,
+                name,
+                out,
+                at,
+            );
         }
-        Numbers::Output { id, terminal, paired, source, name } => {
+        Numbers::Output {
+            id,
+            terminal,
+            paired,
+            source,
+            name,
+        } => {
             put_output(id, terminal, paired, source, name, out, at);
         }
-        Numbers::Mixer { id, channels, locations, names, name } => {
-            put_mixer(id, sources, channels, locations, names, controls, name, out, at);
+        Numbers::Mixer {
+            id,
+            channels,
+            locations,
+            names,
+            name,
+        } => {
+            put_mixer(
+                id,
+                sources,
+                channels,
+                locations,
+                names,
+                controls,
+                name,
+                out,
+                at,
+            );
         }
         Numbers::Selector { id, name } => {
             put_selector(id, sources, name, out, at);
         }
-        Numbers::Feature { id, source, size, name } => {
+        Numbers::Feature {
+            id,
+            source,
+            size,
+            name,
+        } => {
             put_feature(id, source, size, controls, name, out, at);
         }
         Numbers::Printed { id, name } => {
