@@ -1,4 +1,6 @@
 -- Laws of the reader of fields: each kind's numbers, read from the offsets, are those of its layout, and which kind it is was told by the layout's test.
+--   two d k         ==  the two bytes of d from offset k on
+--   plainItem x     ==  an entity of which nothing varies in length
 --   two-own         ==  the two bytes of a number of two bytes are those that it was made of
 --   input-found, output-found, mixer-found, selector-found, feature-found  ==  what a kind's reader makes is what its layout finds
 --   found-unknown, found-input, found-output, found-mixer, found-selector, found-feature  ==  what was told of a descriptor says by which layout

@@ -2,6 +2,7 @@
 --   FirstIndex w ds q  ==  q is the index of the first of ds that is wrong by w
 --   indexed run r      ==  the refusal r, by the index of its entity
 --   indexed-refuse     ==  .. of refusals in a row
+--   connected-refusal  ==  what connections answers is the first of 10 to 13 that applies
 --   indexed-judged     ==  so the rules 10 to 13 as connections computes them, by index, are connectedThen
 --   index-own          ==  the index of an entity's place is its own, since places rise
 --   decides-index      ==  what decides a rule by place decides it by index

@@ -2,11 +2,11 @@
 --   short-some, short-none  ==  a length up to 255, and one past it
 --   short-told      ==  a length that is not 0 is the descriptor's, and no more than 255
 --   long-mixer, long-selector, long-feature, long-printed  ==  how long a descriptor is, by the kinds whose length varies
---   pasted-three    ==  three stretches pasted one behind another are pasted together
+--   pasted-two, pasted-three  ==  two, three stretches pasted one behind another are pasted together
 --   mixer-pasted    ==  a Mixer's parts pasted one behind another are its descriptor
 --   selector-pasted, feature-pasted, printed-pasted  ==  .. and so of the others
 --   paste-short, paste-behind, paste-done  ==  the ways out of paste
---   lay-none, lay-short, lay-behind, lay-done  ==  the ways out of lay
+--   lay-none, lay-short, lay-behind, lay-done  ==  the ways out of lay; lay-small, lay-room: what the last asks for
 use Prim.Native.Nat.{ℕ, suc, _+_, _-_, _/_, _%_, _≤_, _<_}
 use native.Mathlib.Omega.{arith}
 use mathlib.Core.Path.{_≡_, refl, sym, ap, _∙_}

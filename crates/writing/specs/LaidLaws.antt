@@ -4,7 +4,8 @@
 --   Laying ds out at i  ==  the loop has laid the first i descriptors, up to place at of the buffer out, and none of them is wrong
 --   laying-start, laying-over  ==  its start and its end
 --   too-long, wrong-here, laying-on  ==  a turn: the next descriptor passes 255 bytes or has none, has a wrong layout, or is laid behind the others
---   turn-room        ==  where it is laid, it ends inside the buffer
+--   laid-long        ==  the buffer stays as long as it was
+--   turn-room, turn-fits  ==  where it is laid, it ends inside the buffer, which has 8,160 bytes
 use Prim.Native.Nat.{ℕ, zero, suc, _+_, _-_, _*_, _≤_, _<_}
 use mathlib.Core.Path.{_≡_, refl, sym, ap, _∙_}
 use mathlib.Core.Bool.{Bool, true, false, _||_}
