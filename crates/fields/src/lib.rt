@@ -7,7 +7,7 @@ ghost use lib.ListN.{length};
 ghost use Rattle.ground.specs.Numbers.{byte};
 ghost use Rattle.layout.specs.Format.{twoOf};
 ghost use Rattle.layout.specs.Layouts as kind;
-ghost use Rattle.fields.specs.Listed.{listedWith, foundBy, foundIn, blankItem};
+ghost use Rattle.fields.specs.Listed.{KindRead, ReadAs, blankItem};
 use layout::Entity;
 use scan::byte_at;
 
@@ -98,7 +98,7 @@ fn word_of(d: &[u8], at: usize) -> u16
 }
 
 fn read_input(d: &[u8]) -> Item
-    ensures { λ r. ⌜ listedWith (now (d .entry)) r ≡ foundBy kind.input (now (d .entry)) ⌝ }
+    ensures { λ r. ⌜ KindRead kind.input (now (d .entry)) r ⌝ }
 {
     let numbers = Numbers::Input {
         id: byte_at(d, 3),
@@ -113,7 +113,7 @@ fn read_input(d: &[u8]) -> Item
 }
 
 fn read_output(d: &[u8]) -> Item
-    ensures { λ r. ⌜ listedWith (now (d .entry)) r ≡ foundBy kind.output (now (d .entry)) ⌝ }
+    ensures { λ r. ⌜ KindRead kind.output (now (d .entry)) r ⌝ }
 {
     let numbers = Numbers::Output {
         id: byte_at(d, 3),
@@ -127,7 +127,7 @@ fn read_output(d: &[u8]) -> Item
 
 fn read_mixer(d: &[u8]) -> Item
     requires { ⌜ 1 ≤ length (now d) ⌝ }
-    ensures { λ r. ⌜ listedWith (now (d .entry)) r ≡ foundBy kind.mixer (now (d .entry)) ⌝ }
+    ensures { λ r. ⌜ KindRead kind.mixer (now (d .entry)) r ⌝ }
 {
     let pins = byte_at(d, 4) as usize;
     let last = d.len() - 1;
@@ -152,7 +152,7 @@ fn read_mixer(d: &[u8]) -> Item
 }
 
 fn read_selector(d: &[u8]) -> Item
-    ensures { λ r. ⌜ listedWith (now (d .entry)) r ≡ foundBy kind.selector (now (d .entry)) ⌝ }
+    ensures { λ r. ⌜ KindRead kind.selector (now (d .entry)) r ⌝ }
 {
     let pins = byte_at(d, 4) as usize;
     let numbers = Numbers::Selector {
@@ -171,7 +171,7 @@ fn read_selector(d: &[u8]) -> Item
 
 fn read_feature(d: &[u8]) -> Item
     requires { ⌜ 1 ≤ length (now d) ⌝ }
-    ensures { λ r. ⌜ listedWith (now (d .entry)) r ≡ foundBy kind.feature (now (d .entry)) ⌝ }
+    ensures { λ r. ⌜ KindRead kind.feature (now (d .entry)) r ⌝ }
 {
     let last = d.len() - 1;
     let numbers = Numbers::Feature {
@@ -190,7 +190,7 @@ fn read_feature(d: &[u8]) -> Item
 // The entity with all its fields that a descriptor of the run is, whatever slice it is given: its sources and its control bytes or masks are
 // parts of that slice. No kind where the layout is wrong.
 pub fn read(d: &[u8]) -> Item
-    ensures { λ r. ⌜ listedWith (now (d .entry)) r ≡ foundIn (now (d .entry)) ⌝ }
+    ensures { λ r. ⌜ ReadAs (now (d .entry)) r ⌝ }
 {
     let entity = layout::read(d);
     match entity {
