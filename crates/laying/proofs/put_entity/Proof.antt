@@ -84,85 +84,97 @@ module _ (x : Numbers) (s k : List ℕ) where
     put-printed : (i n : ℕ) → x ≡ Printed i n → g ≡ pasted at (descriptorOf (printed i s n)) d → g ≡ pasted at bytes d
     put-printed i n e h = rw e h
 
-ruleset laws = (room-input, room-output, room-mixer, room-selector, room-feature, room-printed, fits-mixer, fits-selector, fits-feature, fits-printed, put-unknown, put-input, put-output, put-mixer, put-selector, put-feature, put-printed, needs)
+ruleset unknowns = (put-unknown, needs)
+
+ruleset inputs = (room-input, put-input, needs)
+
+ruleset outputs = (room-output, put-output, needs)
+
+ruleset mixers = (room-mixer, fits-mixer, put-mixer, needs)
+
+ruleset selectors = (room-selector, fits-selector, put-selector, needs)
+
+ruleset features = (room-feature, fits-feature, put-feature, needs)
+
+ruleset printeds = (room-printed, fits-printed, put-printed, needs)
 
 enum-told : tie.Need-enum-told
-enum-told c = search laws
+enum-told c = search needs
 
 enum-known-numbers : tie.Need-enum-known-numbers
-enum-known-numbers c = search laws
+enum-known-numbers c = search needs
 
 put-input-requires : tie.Need-put-input-requires
-put-input-requires c κs = search laws
+put-input-requires c κs = search inputs
 
 enum-known-numbers-2 : tie.Need-enum-known-numbers-2
-enum-known-numbers-2 c = search laws
+enum-known-numbers-2 c = search needs
 
 put-output-requires : tie.Need-put-output-requires
-put-output-requires c κs = search laws
+put-output-requires c κs = search outputs
 
 enum-known-numbers-3 : tie.Need-enum-known-numbers-3
-enum-known-numbers-3 c = search laws
+enum-known-numbers-3 c = search needs
 
 put-mixer-requires : tie.Need-put-mixer-requires
-put-mixer-requires c κs = search laws
+put-mixer-requires c κs = search mixers
 
 enum-known-numbers-4 : tie.Need-enum-known-numbers-4
-enum-known-numbers-4 c = search laws
+enum-known-numbers-4 c = search needs
 
 put-selector-requires : tie.Need-put-selector-requires
-put-selector-requires c κs = search laws
+put-selector-requires c κs = search selectors
 
 enum-known-numbers-5 : tie.Need-enum-known-numbers-5
-enum-known-numbers-5 c = search laws
+enum-known-numbers-5 c = search needs
 
 put-feature-requires : tie.Need-put-feature-requires
-put-feature-requires c κs = search laws
+put-feature-requires c κs = search features
 
 enum-known-numbers-6 : tie.Need-enum-known-numbers-6
-enum-known-numbers-6 c = search laws
+enum-known-numbers-6 c = search needs
 
 put-printed-requires : tie.Need-put-printed-requires
-put-printed-requires c κs = search laws
+put-printed-requires c κs = search printeds
 
 returns : tie.Need-returns
-returns c = search laws
+returns c = search unknowns
 
 same-length : tie.Need-same-length
-same-length c = search laws
+same-length c = search needs
 
 returns-2 : tie.Need-returns-2
-returns-2 c = search laws
+returns-2 c = search inputs
 
 same-length-2 : tie.Need-same-length-2
-same-length-2 c = search laws
+same-length-2 c = search needs
 
 returns-3 : tie.Need-returns-3
-returns-3 c = search laws
+returns-3 c = search outputs
 
 same-length-3 : tie.Need-same-length-3
-same-length-3 c = search laws
+same-length-3 c = search needs
 
 returns-4 : tie.Need-returns-4
-returns-4 c = search laws
+returns-4 c = search mixers
 
 same-length-4 : tie.Need-same-length-4
-same-length-4 c = search laws
+same-length-4 c = search needs
 
 returns-5 : tie.Need-returns-5
-returns-5 c = search laws
+returns-5 c = search selectors
 
 same-length-5 : tie.Need-same-length-5
-same-length-5 c = search laws
+same-length-5 c = search needs
 
 returns-6 : tie.Need-returns-6
-returns-6 c = search laws
+returns-6 c = search features
 
 same-length-6 : tie.Need-same-length-6
-same-length-6 c = search laws
+same-length-6 c = search needs
 
 returns-7 : tie.Need-returns-7
-returns-7 c = search laws
+returns-7 c = search printeds
 
 pub put-entity-spec : {M : Type 1} → statement M
 put-entity-spec =

@@ -41,67 +41,79 @@ module _ (x : Numbers) (s k : List ℕ) where
     of-printed : (i n : ℕ) → x ≡ Printed i n → r ≡ shortOf (7 + length s + 0) → r ≡ shortOf size
     of-printed i n e h = rw e (h ∙ ap shortOf (add-zero (7 + length s) ∙ sym (long-printed i n s)))
 
-ruleset laws = (of-unknown, of-input, of-output, of-mixer, of-selector, of-feature, of-printed, needs)
+ruleset unknowns = (of-unknown, needs)
+
+ruleset inputs = (of-input, needs)
+
+ruleset outputs = (of-output, needs)
+
+ruleset mixers = (of-mixer, needs)
+
+ruleset selectors = (of-selector, needs)
+
+ruleset features = (of-feature, needs)
+
+ruleset printeds = (of-printed, needs)
 
 enum-told : tie.Need-enum-told
-enum-told c = search laws
+enum-told c = search needs
 
 enum-told-2 : tie.Need-enum-told-2
-enum-told-2 c = search laws
+enum-told-2 c = search needs
 
 sized-requires : tie.Need-sized-requires
-sized-requires c κs = search laws
+sized-requires c κs = search needs
 
 enum-told-3 : tie.Need-enum-told-3
-enum-told-3 c = search laws
+enum-told-3 c = search needs
 
 sized-requires-2 : tie.Need-sized-requires-2
-sized-requires-2 c κs = search laws
+sized-requires-2 c κs = search needs
 
 enum-told-4 : tie.Need-enum-told-4
-enum-told-4 c = search laws
+enum-told-4 c = search needs
 
 sized-requires-3 : tie.Need-sized-requires-3
-sized-requires-3 c κs = search laws
+sized-requires-3 c κs = search needs
 
 enum-told-5 : tie.Need-enum-told-5
-enum-told-5 c = search laws
+enum-told-5 c = search needs
 
 sized-requires-4 : tie.Need-sized-requires-4
-sized-requires-4 c κs = search laws
+sized-requires-4 c κs = search needs
 
 enum-told-6 : tie.Need-enum-told-6
-enum-told-6 c = search laws
+enum-told-6 c = search needs
 
 sized-requires-5 : tie.Need-sized-requires-5
-sized-requires-5 c κs = search laws
+sized-requires-5 c κs = search needs
 
 enum-told-7 : tie.Need-enum-told-7
-enum-told-7 c = search laws
+enum-told-7 c = search needs
 
 sized-requires-6 : tie.Need-sized-requires-6
-sized-requires-6 c κs = search laws
+sized-requires-6 c κs = search needs
 
 returns : tie.Need-returns
-returns c = search laws
+returns c = search unknowns
 
 returns-2 : tie.Need-returns-2
-returns-2 c = search laws
+returns-2 c = search inputs
 
 returns-3 : tie.Need-returns-3
-returns-3 c = search laws
+returns-3 c = search outputs
 
 returns-4 : tie.Need-returns-4
-returns-4 c = search laws
+returns-4 c = search mixers
 
 returns-5 : tie.Need-returns-5
-returns-5 c = search laws
+returns-5 c = search selectors
 
 returns-6 : tie.Need-returns-6
-returns-6 c = search laws
+returns-6 c = search features
 
 returns-7 : tie.Need-returns-7
-returns-7 c = search laws
+returns-7 c = search printeds
 
 pub size-of-spec : {M : Type 1} → statement M
 size-of-spec =

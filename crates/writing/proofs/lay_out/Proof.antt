@@ -19,7 +19,21 @@ end-fits : (v : List ℕ) (l : Listing) → l .count ≤ 32 → (out : List ℕ)
     → (after : List ℕ) (size : ℕ) → Lay (descriptorOf (listedWith v (getD (l .items) i blankItem))) at out after size → (size ≡ 0 → ⊥) → Fits w64 (at + size)
 end-fits v l few out at i g h after size t z = let n = turn-fits v l few out at i g h after size t z in record { fits = omega arith }
 
-ruleset laws = (laying-start, laying-over, laid-long, too-long, turn-room, end-fits, wrong-here, laying-on, needs)
+ruleset start = (laying-start, needs)
+
+ruleset kept = (laid-long, needs)
+
+ruleset stops = (too-long, needs)
+
+ruleset fit = (end-fits, needs)
+
+ruleset rooms = (turn-room, needs)
+
+ruleset hit = (wrong-here, needs)
+
+ruleset on = (laying-on, needs)
+
+ruleset over = (laying-over, needs)
 
 abbrev Inv-loop : tie.InvT-loop
 Inv-loop varying run₀ list at₀ i₀ run at i = Laying (descriptorsOf (listOf varying list)) run at i
@@ -28,58 +42,58 @@ abbrev μ-loop : tie.MeasureT-loop
 μ-loop varying run₀ list at₀ i₀ run at i = list .count - i
 
 loop-holds : tie.Need-loop-holds Inv-loop μ-loop
-loop-holds c = search laws
+loop-holds c = search start
 
 mul-item : tie.Need-mul-item Inv-loop μ-loop
-mul-item c = search laws
+mul-item c = search needs
 
 element-copy-out-item : tie.Need-element-copy-out-item Inv-loop μ-loop
-element-copy-out-item c = search laws
+element-copy-out-item c = search needs
 
 lay-requires : tie.Need-lay-requires Inv-loop μ-loop
-lay-requires c κs = search laws
+lay-requires c κs = search needs
 
 same-length : tie.Need-same-length Inv-loop μ-loop
-same-length c = search laws
+same-length c = search kept
 
 returns : tie.Need-returns Inv-loop μ-loop
-returns c = search laws
+returns c = search stops
 
 add-end : tie.Need-add-end Inv-loop μ-loop
-add-end c = search laws
+add-end c = search fit
 
 sub-is-wrong : tie.Need-sub-is-wrong Inv-loop μ-loop
-sub-is-wrong c = search laws
+sub-is-wrong c = search rooms
 
 part-is-wrong-start : tie.Need-part-is-wrong-start Inv-loop μ-loop
-part-is-wrong-start c = search laws
+part-is-wrong-start c = search rooms
 
 part-is-wrong-end : tie.Need-part-is-wrong-end Inv-loop μ-loop
-part-is-wrong-end c = search laws
+part-is-wrong-end c = search rooms
 
 is-wrong-requires : tie.Need-is-wrong-requires Inv-loop μ-loop
-is-wrong-requires c κs = search laws
+is-wrong-requires c κs = search needs
 
 same-length-2 : tie.Need-same-length-2 Inv-loop μ-loop
-same-length-2 c = search laws
+same-length-2 c = search kept
 
 returns-2 : tie.Need-returns-2 Inv-loop μ-loop
-returns-2 c = search laws
+returns-2 c = search hit
 
 add-i : tie.Need-add-i Inv-loop μ-loop
-add-i c = search laws
+add-i c = search needs
 
 loop-less : tie.Need-loop-less Inv-loop μ-loop
-loop-less c = search laws
+loop-less c = search needs
 
 loop-again : tie.Need-loop-again Inv-loop μ-loop
-loop-again c = search laws
+loop-again c = search on
 
 same-length-3 : tie.Need-same-length-3 Inv-loop μ-loop
-same-length-3 c = search laws
+same-length-3 c = search kept
 
 returns-3 : tie.Need-returns-3 Inv-loop μ-loop
-returns-3 c = search laws
+returns-3 c = search over
 
 pub lay-out-spec : {M : Type 1} → statement M
 lay-out-spec =
