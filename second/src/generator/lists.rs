@@ -276,10 +276,13 @@ fn counts(lists: &mut Lists) {
     lists.never(&nothing(33), Way::ManyEntities, 0);
     lists.never(&nothing(255), Way::ManyEntities, 0);
     lists.never(&nothing(32), Way::KindAbsent, 0);
+    let longest = |count| List { collection: vec![], entities: vec![vec![2; FIELDS]; count] };
+    lists.refused(ROOM, &longest(33), Way::ManyEntities, 0);
+    lists.refused(ROOM, &longest(32), Way::EntityLong, 0);
 }
 
-/// Inputs of 16 channels and of so many, and a Mixer of 15 pins that eight channels leave: its length
-/// is that many more than 249, "an entity of 10+p+N" with N the channels that enter.
+/// Inputs of 16 channels and of so many, and a Mixer of 15 pins that eight channels leave, so that N
+/// is the number of channels that enter: its length, 10+p+N, is that many more than 249.
 fn long_mixer(more: u8) -> [Part; 3] {
     let sources = [vec![1; 14], vec![2]].concat();
     let mixer = mixer(3, &sources, 14 * 16 + usize::from(more), (8, 0, 0));
@@ -297,22 +300,34 @@ fn long_entities(lists: &mut Lists) {
         let head = [&[9, 0x24, 1, 0, 1][..], &total, &[1, 5]].concat();
         lists.edges(&list(&[5], &parts), &[head, run].concat());
     }
-    let long = |index: usize, length: usize, change: &dyn Fn(&mut List)| {
-        let mut list = list(&[5], &long_mixer(6));
-        list.entities[index].resize(length - 2, 0);
-        change(&mut list);
-        list
-    };
+    too_long(lists);
+    lengths_but_for_256(lists);
+    long_and_wrong(lists);
+    largest(lists);
+}
+
+/// The list of the Mixer of 255 bytes, with the entity of this index made so long, and changed.
+fn long(index: usize, length: usize, change: impl Fn(&mut List)) -> List {
+    let mut list = list(&[5], &long_mixer(6));
+    list.entities[index].resize(length - 2, 0);
+    change(&mut list);
+    list
+}
+
+/// The Mixer of 255 bytes made longer, by bytes that are none of its own and by one that is.
+fn too_long(lists: &mut Lists) {
     for length in [256, 257, 258, 268, 300, 511, 512, 513, 600, 602] {
-        lists.never(&long(2, length, &|_| {}), Way::EntityLong, 2);
+        lists.never(&long(2, length, |_| {}), Way::EntityLong, 2);
     }
     // One channel more enters, and 10+p+N is 256.
-    let mut over = long(2, 256, &|_| {});
-    over.entities[1][5] = 7;
-    lists.never(&over, Way::EntityLong, 2);
-    // Lengths that are those of the kind but for 256.
+    lists.never(&long(2, 256, |list| list.entities[1][5] = 7), Way::EntityLong, 2);
+}
+
+/// Lengths that are those of the kind but for 256, which no length byte tells from it; and 255, which
+/// leaves an entity to its kind.
+fn lengths_but_for_256(lists: &mut Lists) {
     for (index, length) in [(0, 268), (1, 268)] {
-        lists.never(&long(index, length, &|_| {}), Way::EntityLong, index);
+        lists.never(&long(index, length, |_| {}), Way::EntityLong, index);
     }
     let selector_and_feature = |at: usize, length: usize| {
         let parts = [input(1, ONE), selector(2, &[1, 1]), feature(3, 2, 1), output(4, 3)];
@@ -326,7 +341,10 @@ fn long_entities(lists: &mut Lists) {
     lists.never(&selector_and_feature(1, 255), Way::SelectorLength, 1);
     lists.never(&selector_and_feature(2, 255), Way::FeatureMasks, 2);
     lists.never(&selector_and_feature(3, 255), Way::OutputTerminalLength, 3);
-    // Whatever else is wrong with it, and with others.
+}
+
+/// Whatever else is wrong with it, or with others behind it.
+fn long_and_wrong(lists: &mut Lists) {
     let wrong: [&dyn Fn(&mut List); 6] = [
         &|list| list.entities[2][0] = 7,
         &|list| list.entities[2][0] = 0x15,
@@ -338,10 +356,9 @@ fn long_entities(lists: &mut Lists) {
     for change in wrong {
         lists.never(&long(2, 256, change), Way::EntityLong, 2);
     }
-    lists.never(&long(2, 256, &|list| list.entities[0][0] = 0), Way::KindUnknown, 0);
-    lists.never(&long(1, 256, &|list| list.entities[2][0] = 0), Way::EntityLong, 1);
-    lists.never(&long(1, FIELDS + 2, &|list| list.entities[2].clear()), Way::EntityLong, 1);
-    largest(lists);
+    lists.never(&long(2, 256, |list| list.entities[0][0] = 0), Way::KindUnknown, 0);
+    lists.never(&long(1, 256, |list| list.entities[2][0] = 0), Way::EntityLong, 1);
+    lists.never(&long(1, FIELDS + 2, |list| list.entities[2].clear()), Way::EntityLong, 1);
 }
 
 /// The most bytes that these make: thirty Mixers of 255 bytes and 247 numbers.

@@ -124,6 +124,7 @@ pub fn make() -> Vectors {
     runs.extend(wrong_words());
     runs.extend(bad_route_steps());
     runs.extend(told_ways());
+    runs.push(longest_list());
     runs.extend(bad_lists());
     Vectors { runs, reach, named, lent, pairs, moves, routes, lists }
 }
@@ -480,6 +481,15 @@ fn one_entity() -> List {
 const ONE_ENTITY: &str = "wrote 21\n\
                           09 24 01 00 01 15 00 01 05 0C 24 02 01 01 02 00\n\
                           01 00 00 00 07\nrest 0\n";
+
+/// A run of `writer` that goes on after the longest step that there is.
+fn longest_list() -> Run {
+    let longest = List { collection: vec![5; FIELDS], entities: vec![vec![2; FIELDS]; 255] };
+    let stdin = [list_bytes(ROOM, &longest), list_bytes(21, &one_entity())].concat();
+    let stdout = writer::program(&stdin);
+    assert_eq!(stdout, format!("refused 8 at 0\nrest {ROOM}\n{ONE_ENTITY}"));
+    Run::new("writer_kept_longest", stdin, stdout)
+}
 
 /// Runs of `writer` that end in what is no step: each way of it once, after a good step.
 fn bad_lists() -> Vec<Run> {
