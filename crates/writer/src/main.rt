@@ -11,7 +11,7 @@ use fields::Numbers;
 use fields::Span;
 use libc::STDIN_FILENO;
 use libc::STDOUT_FILENO;
-use writing::Listing;
+use writing::EntityList;
 use writing::Wrote;
 
 // The most bytes of room that a step may lend.
@@ -35,7 +35,7 @@ struct Entered {
 // A list that was read, if it was one.
 struct Heard {
     good: bool,
-    list: Listing,
+    list: EntityList,
 }
 
 // The slot of an entity: the last one for all those behind the 32nd.
@@ -161,13 +161,13 @@ fn read_entity(slot: &mut [u8]) -> usize
 }
 
 // Writes a list into the bytes lent, and shows them.
-fn write_into(list: Listing, varying: &[u8], numbers: &[u8], room: &mut [u8]) {
+fn write_into(list: EntityList, varying: &[u8], numbers: &[u8], room: &mut [u8]) {
     let answer = writing::write(list, varying, numbers, room);
     say_answer(answer);
     marks::show(room);
 }
 
-fn write_with(list: Listing, varying: &[u8], numbers: &[u8], m: usize)
+fn write_with(list: EntityList, varying: &[u8], numbers: &[u8], m: usize)
     requires { ⌜ m ≤ 9000 ⌝ }
 {
     let mut room = room_space();
@@ -198,7 +198,7 @@ fn read_list(count: usize, bytes: &mut [u8]) -> Heard
     while i < count {
         let entered = read_slot(bytes, slot_of(i));
         if !entered.good {
-            let list = Listing { count, items };
+            let list = EntityList { count, items };
             return Heard { good: false, list };
         }
         let item = entered.item;
@@ -207,7 +207,7 @@ fn read_list(count: usize, bytes: &mut [u8]) -> Heard
         }
         i += 1;
     }
-    let list = Listing { count, items };
+    let list = EntityList { count, items };
     Heard { good: true, list }
 }
 

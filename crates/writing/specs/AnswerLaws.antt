@@ -24,7 +24,7 @@ use Rattle.laying.specs.Paste.{pasted, pastedIn, pasted-length}
 use Rattle.laying.specs.LayingLaws.{pasted-three}
 use Rattle.indices.specs.Indices.{judgedThen}
 use Rattle.indices.specs.IndexLaws.{judged-chain}
-use Rattle.writing.specs.declared.Listing.{Listing}
+use Rattle.writing.specs.declared.EntityList.{EntityList}
 use Rattle.writing.specs.declared.Wrote.{Wrote}
 use Rattle.writing.specs.declared.Judged.{Judged}
 use Rattle.fields.specs.Listed.{Listed}
@@ -91,7 +91,7 @@ pub entities-chain : (ds : List (List ℕ)) → Chain (entitiesThen ds)
 unfolding entitiesThen
 entities-chain ds = chain-more 8 (λ e. omega arith) _ _ (chain-more 9 (λ e. omega arith) _ _ (judged-chain (flatten ds)))
 
-module _ (v : List ℕ) (l : Listing) (out : List ℕ) where
+module _ (v : List ℕ) (l : EntityList) (out : List ℕ) where
   abbrev ds : List (List ℕ)
   ds = descriptorsOf (listOf v l)
 

@@ -28,7 +28,7 @@ use Rattle.fields.specs.declared.Item.{Item}
 use Rattle.fields.specs.Listed.{Listed, wrong, descriptorOf, listedWith, blankItem}
 use Rattle.laying.specs.Paste.{pasted, pasted-length}
 use Rattle.laying.specs.Laying.{mostLong, fitsAt, laidSize, laidIn, Lay}
-use Rattle.writing.specs.declared.Listing.{Listing}
+use Rattle.writing.specs.declared.EntityList.{EntityList}
 use Rattle.writing.specs.Writing.{mostRun, listOf, descriptorsOf, WrongIn, wrongIn, breach9, LaidRun}
 
 pub reads-wrong-in : (d : List ℕ) → Reads (wrongIn d) (WrongIn d)
@@ -39,10 +39,10 @@ empty-wrong : wrongIn [] ≡ true
 unfolding wrongIn isWrong isUnknown entityOf isPrinted
 empty-wrong = refl
 
-pub listed-count : (v : List ℕ) (l : Listing) → length (descriptorsOf (listOf v l)) ≡ l .count
+pub listed-count : (v : List ℕ) (l : EntityList) → length (descriptorsOf (listOf v l)) ≡ l .count
 listed-count v l = length-map (listOf v l) descriptorOf ∙ length-map (pad blankItem (l .count) (l .items)) (listedWith v) ∙ pad-length blankItem (l .count) (l .items)
 
-pub listed-at : (v : List ℕ) (l : Listing) (i : ℕ) → i < l .count → getD (descriptorsOf (listOf v l)) i [] ≡ descriptorOf (listedWith v (getD (l .items) i blankItem))
+pub listed-at : (v : List ℕ) (l : EntityList) (i : ℕ) → i < l .count → getD (descriptorsOf (listOf v l)) i [] ≡ descriptorOf (listedWith v (getD (l .items) i blankItem))
 listed-at v l i h =
     List·getD-map descriptorOf (listOf v l) i wrong
     ∙ ap descriptorOf (List·getD-map (listedWith v) (pad blankItem (l .count) (l .items)) i blankItem ∙ ap (listedWith v) (pad-at blankItem (l .count) (l .items) i h))
@@ -70,7 +70,7 @@ pub record Laying (ds : List (List ℕ)) (out : List ℕ) (at i : ℕ) : Type 0 
   pub front : take at out ≡ flatten (take i ds)
   pub long : length out ≡ mostRun
 
-module _ (v : List ℕ) (l : Listing) (few : l .count ≤ 32) where
+module _ (v : List ℕ) (l : EntityList) (few : l .count ≤ 32) where
   abbrev ds : List (List ℕ)
   ds = descriptorsOf (listOf v l)
 

@@ -49,7 +49,7 @@ use Rattle.fields.specs.Listed.{Listed, descriptorOf, listedWith, blankItem}
 use Rattle.laying.specs.Laying.{mostLong}
 use Rattle.indices.specs.Indices.{judgedThen}
 use Rattle.indices.specs.IndexLaws.{FirstIndex, judgedRows}
-use Rattle.writing.specs.declared.Listing.{Listing}
+use Rattle.writing.specs.declared.EntityList.{EntityList}
 use Rattle.writing.specs.declared.Wrote.{Wrote}
 
 abbrev pub mostNumbers : ℕ
@@ -58,7 +58,7 @@ mostNumbers = 247
 abbrev pub mostRun : ℕ
 mostRun = 8160
 
-abbrev pub listOf : List ℕ → Listing → List Listed
+abbrev pub listOf : List ℕ → EntityList → List Listed
 listOf v l = map (listedWith v) (pad blankItem (l .count) (l .items))
 
 abbrev pub descriptorsOf : List Listed → List (List ℕ)

@@ -20,7 +20,7 @@ const MOST_RUN: usize = 8160;
 const CLASS: u8 = 0x24;
 
 // A list of entities: how many there are, and the first 32 of them. A longer list is refused by how many it has.
-pub struct Listing {
+pub struct EntityList {
     pub count: usize,
     pub items: [Item; 32],
 }
@@ -52,7 +52,7 @@ fn run_space() -> [u8; MOST_RUN]
 }
 
 // Lays the entities of a list one behind another, up to the first whose layout is wrong, if any.
-fn lay_out(list: Listing, varying: &[u8], run: &mut [u8]) -> Laid
+fn lay_out(list: EntityList, varying: &[u8], run: &mut [u8]) -> Laid
     requires { ⌜ list .count ≤ 32 ⌝ }
     requires { ⌜ length (now run) ≡ mostRun ⌝ }
     ensures { λ r. ⌜ LaidRun (descriptorsOf (listOf (now (varying .entry)) list)) (now (run .exit)) (r .wrong) (r .size) ⌝ }
@@ -94,7 +94,7 @@ fn refused(number: u8, place: usize) -> Judged
 }
 
 // The rules 8, 9, 17 and 10 to 13 of a list, whose run is laid where none is broken.
-fn judge_list(list: Listing, varying: &[u8], run: &mut [u8]) -> Judged
+fn judge_list(list: EntityList, varying: &[u8], run: &mut [u8]) -> Judged
     requires { ⌜ length (now run) ≡ mostRun ⌝ }
     ensures { λ r. ⌜ JudgedRun (descriptorsOf (listOf (now (varying .entry)) list)) (now (run .exit)) (r .refusal) (r .size) ⌝ }
 {
@@ -149,7 +149,7 @@ fn put_whole(collection: &[u8], run: &[u8], out: &mut [u8]) -> Wrote
 }
 
 // Writes header and run of a list, whose sources and control bytes or masks stand in a lent slice, with the collection list, into the lent buffer.
-pub fn write(list: Listing, varying: &[u8], collection: &[u8], out: &mut [u8]) -> Wrote
+pub fn write(list: EntityList, varying: &[u8], collection: &[u8], out: &mut [u8]) -> Wrote
     ensures { λ r. ⌜ Writes (listOf (now (varying .entry)) list) (now (collection .entry)) (now (out .entry)) (now (out .exit)) r ⌝ }
 {
     let mut run = run_space();

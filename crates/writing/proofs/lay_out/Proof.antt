@@ -9,13 +9,13 @@ use mir.Val.{Fits}
 use mir.Syntax.{w64}
 use Rattle.fields.specs.Listed.{descriptorOf, listedWith, blankItem}
 use Rattle.laying.specs.Laying.{Lay}
-use Rattle.writing.specs.declared.Listing.{Listing}
+use Rattle.writing.specs.declared.EntityList.{EntityList}
 use Rattle.writing.specs.Writing.{listOf, descriptorsOf}
 use Rattle.writing.specs.LaidLaws.{Laying, laying-start, laying-over, laid-long, too-long, turn-room, turn-fits, wrong-here, laying-on}
 use Rattle.writing.proofs.lay_out.Statement.{statement}
 use Rattle.writing.proofs.lay_out.Tie as tie
 
-end-fits : (v : List ℕ) (l : Listing) → l .count ≤ 32 → (out : List ℕ) (at i : ℕ) → Laying (descriptorsOf (listOf v l)) out at i → i < l .count
+end-fits : (v : List ℕ) (l : EntityList) → l .count ≤ 32 → (out : List ℕ) (at i : ℕ) → Laying (descriptorsOf (listOf v l)) out at i → i < l .count
     → (after : List ℕ) (size : ℕ) → Lay (descriptorOf (listedWith v (getD (l .items) i blankItem))) at out after size → (size ≡ 0 → ⊥) → Fits w64 (at + size)
 end-fits v l few out at i g h after size t z = let n = turn-fits v l few out at i g h after size t z in record { fits = omega arith }
 
