@@ -1,0 +1,3 @@
+pub mod Permutations
+pub mod Rows
+pub mod Rules
