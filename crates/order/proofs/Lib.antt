@@ -1,3 +1,4 @@
 pub mod Permutations
 pub mod Rows
 pub mod Rules
+pub mod Middle
