@@ -2,3 +2,4 @@ pub mod Permutations
 pub mod Rows
 pub mod Rules
 pub mod Middle
+pub mod Steps
