@@ -128,21 +128,27 @@ module _ (before : List (List ℕ)) (control header : List ℕ) (is-control : Au
       where
         inner : (z : List (List ℕ)) → b ≡ frontOf before control header ++ z → Side es x z d y → (rest : List (List ℕ)) × Seen b d rest
         inner z f (left w g h) = absurd (no-both d i (class-too d (along (sym g) (of-split z d w))))
-        inner z f (right w g h) = (y, record {
-          ahead = whole ds w;
-          split =
-              ap (λ (l : List (List ℕ)). frontOf before control header ++ (ds ++ l)) h
-              ∙ sym (ap (λ (l : List (List ℕ)). frontOf before control header ++ l) (append-assoc ds w (d ∷ y)))
-              ∙ sym (append-assoc (frontOf before control header) (ds ++ w) (d ∷ y));
-          among = λ c m. whole-in w c (along (f ∙ ap (λ (l : List (List ℕ)). frontOf before control header ++ l) g) m);
-        })
+        inner z f (right w g h) = (
+          y,
+          record {
+            ahead = whole ds w;
+            split =
+                ap (λ (l : List (List ℕ)). frontOf before control header ++ (ds ++ l)) h
+                ∙ sym (ap (λ (l : List (List ℕ)). frontOf before control header ++ l) (append-assoc ds w (d ∷ y)))
+                ∙ sym (append-assoc (frontOf before control header) (ds ++ w) (d ∷ y));
+            among = λ c m. whole-in w c (along (f ∙ ap (λ (l : List (List ℕ)). frontOf before control header ++ l) g) m);
+          },
+        )
 
         go : Side (frontOf before control header) (es ++ x) b d y → (rest : List (List ℕ)) × Seen b d rest
-        go (left z f g) = (z ++ (ds ++ x), record {
-          ahead = b;
-          split = ap (λ (l : List (List ℕ)). l ++ (ds ++ x)) f ∙ append-assoc b (d ∷ z) (ds ++ x);
-          among = λ c m. m;
-        })
+        go (left z f g) = (
+          z ++ (ds ++ x),
+          record {
+            ahead = b;
+            split = ap (λ (l : List (List ℕ)). l ++ (ds ++ x)) f ∙ append-assoc b (d ∷ z) (ds ++ x);
+            among = λ c m. m;
+          },
+        )
         go (right z f g) = inner z f (side es x z d y g)
 
     pub rule4-as : Rule4 (whole ds x) → Rule4 (whole es x)
@@ -209,17 +215,20 @@ module _ (before : List (List ℕ)) (control header : List ℕ) (is-control : Au
       -- before the AudioControl group
       in-front : (w : List (List ℕ)) → before ≡ b ++ i ∷ w → Side ms (g .after) w control (header ∷ (es ++ x)) → Found
       in-front w f (left v h k) = absurd (g .inside control (along (sym h) (of-split w control v)) (is-control .0))
-      in-front w f (right v h k) = (b, record {
-        after = v ++ behind;
-        split =
-            whole-split ds x
-            ∙ ap (λ (l : List (List ℕ)). l ++ behind) f
-            ∙ append-assoc b (i ∷ w) behind
-            ∙ ap (λ (l : List (List ℕ)). b ++ i ∷ (l ++ behind)) h
-            ∙ ap (λ (l : List (List ℕ)). b ++ i ∷ l) (append-assoc ms v behind);
-        inside = g .inside;
-        ends = ends-as v (subst GroupEnds k (g .ends));
-      })
+      in-front w f (right v h k) = (
+        b,
+        record {
+          after = v ++ behind;
+          split =
+              whole-split ds x
+              ∙ ap (λ (l : List (List ℕ)). l ++ behind) f
+              ∙ append-assoc b (i ∷ w) behind
+              ∙ ap (λ (l : List (List ℕ)). b ++ i ∷ (l ++ behind)) h
+              ∙ ap (λ (l : List (List ℕ)). b ++ i ∷ l) (append-assoc ms v behind);
+          inside = g .inside;
+          ends = ends-as v (subst GroupEnds k (g .ends));
+        },
+      )
 
       not-last : Class header → (z w : List (List ℕ)) → control ∷ header ∷ [] ≡ w ++ i ∷ z → ⊥
       not-last c z [] e = not-control (head-eq-of-cons-eq e)
@@ -230,15 +239,18 @@ module _ (before : List (List ℕ)) (control header : List ℕ) (is-control : Au
       -- behind the run
       in-rest : (z : List (List ℕ)) → Side es x z i (ms ++ g .after) → Found
       in-rest z (left w h k) = absurd (no-both i (a .0) (class-too i (along (sym h) (of-split z i w))))
-      in-rest z (right w h k) = (whole ds w, record {
-        after = g .after;
-        split =
-            ap (λ (l : List (List ℕ)). frontOf before control header ++ (ds ++ l)) k
-            ∙ sym (ap (λ (l : List (List ℕ)). frontOf before control header ++ l) (append-assoc ds w (i ∷ (ms ++ g .after))))
-            ∙ sym (append-assoc (frontOf before control header) (ds ++ w) (i ∷ (ms ++ g .after)));
-        inside = g .inside;
-        ends = g .ends;
-      })
+      in-rest z (right w h k) = (
+        whole ds w,
+        record {
+          after = g .after;
+          split =
+              ap (λ (l : List (List ℕ)). frontOf before control header ++ (ds ++ l)) k
+              ∙ sym (ap (λ (l : List (List ℕ)). frontOf before control header ++ l) (append-assoc ds w (i ∷ (ms ++ g .after))))
+              ∙ sym (append-assoc (frontOf before control header) (ds ++ w) (i ∷ (ms ++ g .after)));
+          inside = g .inside;
+          ends = g .ends;
+        },
+      )
 
       group-as : Class header → Found
       group-as c = go (side (frontOf before control header) (es ++ x) b i (ms ++ g .after) (g .split))

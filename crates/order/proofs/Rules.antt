@@ -1,16 +1,19 @@
 -- The rules on the run, 8 to 13, 15 and 16: none of them sees the order of the descriptors.
 --   blind-8, blind-recognised, blind-withdrawn, blind-10, blind-11, blind-12, blind-13  ==  rule by rule
 --   agree-one      ==  clusters that connect the run in the one order and in the other are the same; agree-back: .. the other way
---   stands-as, terminal-as  ==  with such clusters the controls that stand are the same, and the Terminals; rule15-as: so is rule 15
+--   stands-as, terminal-as  ==  with such clusters the controls that stand are the same, and the Terminals; rule15-as: so is rule 15;
+--                      controls-no-more: and no more stand in the one
 use Prim.Native.Nat.{ℕ, _≤_}
 use mathlib.Core.Path.{_≡_, sym, ap, _∙_, subst}
 use mathlib.Core.Logic.{_⊎_, inl, inr}
 use mathlib.Core.List.{List}
+use lib.ListN.{length}
 use Rattle.ground.specs.Lists.{Some, split-of, of-split}
 use Rattle.ground.specs.First.{Sound}
 use Rattle.graph.specs.Members.{_∈_, along}
 use Rattle.layout.specs.declared.Cluster.{Cluster}
-use Rattle.edition.specs.Edition.{ownId}
+use Rattle.layout.specs.Layout.{LaidOut}
+use Rattle.edition.specs.Edition.{ownId, DistinctIds}
 use Rattle.edition.specs.Audio.{audio}
 use Rattle.entities.specs.Run.{mostEntities}
 use Rattle.cutting.specs.Rules1to9.{Rule8, Recognised, NoneWithdrawn}
@@ -25,8 +28,9 @@ use Rattle.terminals.specs.Terminals.{Terminal}
 use Rattle.terminals.specs.Said.{IsTerminal}
 use Rattle.table.specs.declared.Control.{Control}
 use Rattle.masks.specs.Order.{Pairs}
-use Rattle.controls.specs.Standing.{Carries, Stands}
-use Rattle.controls.specs.Rule15.{Rule15}
+use Rattle.controls.specs.Controls.{controlsOf}
+use Rattle.controls.specs.Standing.{Carries, Stands, stands-of, control-stands}
+use Rattle.controls.specs.Rule15.{Rule15, pairs-fit, controls-apart}
 use Rattle.order.specs.Permuted.{Permuted, Blind, Agree}
 use Rattle.order.proofs.Permutations.{permuted-back, permuted-in, permuted-length, permuted-members, permuted-pairs, pairs-of, pairs-each}
 
@@ -89,3 +93,9 @@ module _ (ds es : List (List ℕ)) (p : Permuted ds es) (c e : ℕ → Cluster) 
 
 pub rule15-as : (ds es : List (List ℕ)) → Permuted ds es → (c e : ℕ → Cluster) → Agree ds c e → Rule15 ds c → Rule15 es e
 rule15-as ds es p c e agree r = record { listed = r .listed; few = r .few; every = λ x h. r .every x (stands-as es ds (permuted-back p) e c (agree-back ds es p c e agree) x h) }
+
+-- as many controls stand: none stands twice, and each of the one's is one of the other's
+pub controls-no-more : (ds es : List (List ℕ)) → Permuted ds es → (c e : ℕ → Cluster) → Agree ds c e
+    → ((d : List ℕ) → d ∈ ds → LaidOut d) → ((d : List ℕ) → d ∈ es → LaidOut d) → DistinctIds ds → length (controlsOf ds c) ≤ length (controlsOf es e)
+controls-no-more ds es p c e agree laid laid′ distinct =
+    pairs-fit (controlsOf es e) (controls-apart ds c laid distinct) (λ x m. control-stands e es laid′ x .1 (stands-as ds es p c e agree x (stands-of c ds x m)))

@@ -1,0 +1,226 @@
+-- Document 02, No. 10, proved: order really doesn't matter. The number by the rows, which are alike (`rows-alike`); the sheet's records one by one, each by
+-- its descriptor and the cluster on its ID; the tables by the controls that stand; the answers by the same controls (`run-same`, of crate order).
+use Prim.Native.Nat.{ℕ, _*_, _≤_}
+use mathlib.Core.Path.{_≡_, refl, sym, ap, _∙_, subst}
+use mathlib.Core.List.{List, [], _∷_, _++_, map, flatten, append-assoc, List·Memᴰ·head, List·Memᴰ·tail, List·Memᴰ·not-nil, Memᴰ·append-left}
+use lib.ListN.{length, drop, length-map}
+use native.Mathlib.Omega.{arith}
+use Rattle.ground.specs.declared.Refusal.{Refusal}
+use Rattle.ground.specs.Lists.{flatten-append}
+use Rattle.graph.specs.Members.{_∈_, along}
+use Rattle.layout.specs.declared.Cluster.{Cluster}
+use Rattle.ground.specs.Numbers.{byte}
+use Rattle.edition.specs.Edition.{ownId}
+use Rattle.table.specs.declared.Control.{Control}
+use Rattle.table.specs.declared.Table.{Table}
+use Rattle.table.specs.Keys.{InTable}
+use Rattle.sound.specs.Fresh.{fresh-sound}
+use Rattle.sound.specs.Meaning.{Sound}
+use Rattle.ids.specs.OwnIds.{distinct-ids}
+use Rattle.controls.specs.Controls.{controlsOf}
+use Rattle.controls.specs.Growth.{tableOf}
+use Rattle.controls.specs.Standing.{Stands}
+use Rattle.records.specs.Records.{recordSize, recordIn}
+use Rattle.records.specs.Sheet.{recordsOf, record-long}
+use Rattle.topology.specs.declared.Reading.{Reading}
+use Rattle.topology.specs.Reading.{verdictOf, readingOf, sheetOf}
+use Rattle.reader.specs.Configuration.{runOf, Configuration, Rule16}
+use Rattle.reader.specs.Refusals.{tableOfRows, Shown}
+use Rattle.reader.proofs.Exactly.{answers, accepted-exactly}
+use Rattle.reader.proofs.Shows.{number-told, answer-shows, sheet-shows, controls-stand, controls-counted}
+use Rattle.reader.proofs.Tables.{reader-table}
+use Rattle.request.specs.declared.State.{State}
+use Rattle.request.specs.declared.Answer.{Answer}
+use Rattle.deed.specs.Doing.{laid}
+use Rattle.request.specs.Outcome.{Outcome, numberOf, bytesOf, answerOf, Answered}
+use Rattle.request.specs.Plugged.{stateOf}
+use Rattle.runs.specs.Runs.{Step, stepOf, after, Wired}
+use Rattle.runs.specs.Runs.Step.{load, request}
+use Rattle.runs.proofs.Alone.{run-sound}
+use Rattle.order.specs.Permuted.{Permuted, Agree}
+use Rattle.order.specs.Alike.{SameControls, SameState}
+use Rattle.order.proofs.Permutations.{permuted-back, permuted-length, permuted-map}
+use Rattle.order.proofs.Rows.{alike-number}
+use Rattle.order.proofs.Rules.{agree-one, agree-back, stands-as, controls-no-more}
+use Rattle.order.proofs.Steps.{number-same, bytes-same, run-same}
+use Rattle.demands.specs.AnyOrder.{Shuffled, SameSheets, SameAnswers, SameReading, reordered, AnyOrder}
+use Rattle.demands.proofs.Shuffled.{shuffled-back, runs-shuffled, control-same, rows-alike}
+
+same-verdict : (s s′ : List ℕ) (room : ℕ) → Shuffled s s′ → readingOf s room .number ≡ readingOf s′ room .number
+same-verdict s s′ room h =
+    number-told s room
+    ∙ alike-number (tableOfRows s room) (tableOfRows s′ room) (verdictOf s room) (verdictOf s′ room) (rows-alike h room) (answers s room) (answers s′ room)
+    ∙ sym (number-told s′ room)
+
+-- the sheet's records, one by one
+recorded : (ℕ → Cluster) → List ℕ → List ℕ
+recorded cluster d = recordIn d (cluster (ownId d))
+
+records-flat : (ds : List (List ℕ)) (cluster : ℕ → Cluster) → recordsOf ds cluster ≡ flatten (map (recorded cluster) ds)
+unfolding recordsOf recorded flatten
+records-flat [] cluster = refl
+records-flat (d ∷ ds) cluster = ap (λ (l : List ℕ). recordIn d (cluster (ownId d)) ++ l) (records-flat ds cluster)
+
+records-long : (ds : List (List ℕ)) (cluster : ℕ → Cluster) (r : List ℕ) → r ∈ map (recorded cluster) ds → length r ≡ recordSize
+unfolding recorded
+records-long [] cluster r m = absurd (List·Memᴰ·not-nil m)
+records-long (d ∷ ds) cluster r (List·Memᴰ·head e) = ap length e ∙ record-long d (cluster (ownId d))
+records-long (d ∷ ds) cluster r (List·Memᴰ·tail m) = records-long ds cluster r m
+
+-- the same number and bytes, as the entry points tell them
+answers-same : (st st′ : State) → SameState st st′ → Sound (st .table) → Sound (st′ .table) → SameAnswers st st′
+unfolding answerOf
+answers-same st st′ same a b = record {
+  load = λ k range w r r′ x y. (
+    ap (λ (z : Answer). z .number) x ∙ number-same st st′ same a b (load k range w) ∙ sym (ap (λ (z : Answer). z .number) y),
+    ap (λ (z : Answer). z .written) x ∙ ap length (bytes-same st st′ same a b (load k range w)) ∙ sym (ap (λ (z : Answer). z .written) y),
+  );
+  request = λ setup d c r r′ e e′ x y. (
+    ap (λ (z : Answer). z .number) (x .result) ∙ number-same st st′ same a b (request setup d (length c)) ∙ sym (ap (λ (z : Answer). z .number) (y .result)),
+    ap (λ (z : Answer). z .written) (x .result) ∙ ap length (bytes-same st st′ same a b (request setup d (length c))) ∙ sym (ap (λ (z : Answer). z .written) (y .result)),
+    x .lent ∙ ap (λ (z : List ℕ). laid z c) (bytes-same st st′ same a b (request setup d (length c))) ∙ sym (y .lent),
+  );
+}
+
+-- both are accepted
+module _ (s s′ : List ℕ) (h : Shuffled s s′) (t : Configuration s) (t′ : Configuration s′) where
+  abbrev run : List (List ℕ)
+  run = runOf (t .kept)
+
+  abbrev run′ : List (List ℕ)
+  run′ = runOf (t′ .kept)
+
+  abbrev cluster : ℕ → Cluster
+  cluster = t .connected .cluster
+
+  abbrev cluster′ : ℕ → Cluster
+  cluster′ = t′ .connected .cluster
+
+  permuted : Permuted run run′
+  permuted = runs-shuffled h (t .kept) (t′ .kept)
+
+  agree : Agree run cluster cluster′
+  agree = agree-one run run′ permuted (t .connected) (t′ .connected)
+
+  agree′ : Agree run′ cluster′ cluster
+  agree′ = agree-back run run′ permuted cluster cluster′ agree
+
+  as-many : length (controlsOf run cluster) ≡ length (controlsOf run′ cluster′)
+  as-many =
+      let a = controls-no-more run run′ permuted cluster cluster′ agree (t .kept .rule9) (t′ .kept .rule9) (distinct-ids run (t .connected .rule10)) in
+      let b = controls-no-more run′ run (permuted-back permuted) cluster′ cluster agree′ (t′ .kept .rule9) (t .kept .rule9) (distinct-ids run′ (t′ .connected .rule10)) in
+      omega arith
+
+  module _ (d d′ : List ℕ) (r : Rule16 run (length d)) (r′ : Rule16 run′ (length d′)) where
+    abbrev one : Reading
+    one = readingOf s (length d)
+
+    abbrev other : Reading
+    other = readingOf s′ (length d′)
+
+    interface : one .control ≡ other .control
+    interface =
+        ap (λ (x : Reading). x .control) (answer-shows s t (length d) r)
+        ∙ ap (λ (x : List ℕ). byte x 2) (control-same h (t .kept) (t′ .kept))
+        ∙ sym (ap (λ (x : Reading). x .control) (answer-shows s′ t′ (length d′) r′))
+
+    entities : one .entities ≡ other .entities
+    entities =
+        ap (λ (x : Reading). x .entities) (answer-shows s t (length d) r) ∙ permuted-length permuted ∙ sym (ap (λ (x : Reading). x .entities) (answer-shows s′ t′ (length d′) r′))
+
+    controls : one .controls ≡ other .controls
+    controls = ap (λ (x : Reading). x .controls) (answer-shows s t (length d) r) ∙ as-many ∙ sym (ap (λ (x : Reading). x .controls) (answer-shows s′ t′ (length d′) r′))
+
+    table : SameControls (one .table) (other .table)
+    table = record {
+      count = sym (controls-counted s (length d)) ∙ controls ∙ controls-counted s′ (length d′);
+      each = λ x. (
+        λ m. controls-stand s′ t′ (length d′) r′ x .1 (stands-as run run′ permuted cluster cluster′ agree x (controls-stand s t (length d) r x .0 m)),
+        λ m. controls-stand s t (length d) r x .1 (stands-as run′ run (permuted-back permuted) cluster′ cluster agree′ x (controls-stand s′ t′ (length d′) r′ x .0 m)),
+      );
+    }
+
+    sheets : SameSheets s s′ d d′
+    unfolding recorded
+    sheets =
+        let n : length (map (recorded cluster) run) ≡ length run = length-map run (recorded cluster) in
+        let p = permuted-length permuted in
+        record {
+          records = map (recorded cluster) run;
+          records′ = map (recorded cluster′) run′;
+          counted = n ∙ sym (ap (λ (x : Reading). x .entities) (answer-shows s t (length d) r));
+          long = records-long run cluster;
+          permuted = permuted-map (recorded cluster) (recorded cluster′) (λ e m. ap (recordIn e) (agree e m)) permuted;
+          sheet =
+              sheet-shows s t d r
+              ∙ ap (λ (l : List ℕ). l ++ drop (length run * recordSize) d) (records-flat run cluster)
+              ∙ ap (λ (k : ℕ). flatten (map (recorded cluster) run) ++ drop (k * recordSize) d) (sym n);
+          sheet′ =
+              sheet-shows s′ t′ d′ r′
+              ∙ ap (λ (l : List ℕ). l ++ drop (length run′ * recordSize) d′) (records-flat run′ cluster′)
+              ∙ ap (λ (k : ℕ). flatten (map (recorded cluster′) run′) ++ drop (k * recordSize) d′) (sym (n ∙ p));
+        }
+
+    same-state : SameState (stateOf one) (stateOf other)
+    same-state = record { interface = interface; controls = table }
+
+    same-run : (steps : List Step) → Wired steps → SameState (after (stateOf one) steps) (after (stateOf other) steps)
+    same-run steps w =
+        run-same steps w (stateOf one) (stateOf other) same-state (fresh-sound (one .table) (reader-table s (length d))) (fresh-sound (other .table) (reader-table s′ (length d′)))
+
+    reading : SameReading s s′ d d′
+    reading = record {
+      interface = interface;
+      entities = entities;
+      controls = controls;
+      sheets = sheets;
+      table = table;
+      answers = λ steps w.
+          answers-same (after (stateOf one) steps) (after (stateOf other) steps) (same-run steps w)
+          (run-sound (stateOf one) steps w (fresh-sound (one .table) (reader-table s (length d))))
+          (run-sound (stateOf other) steps w (fresh-sound (other .table) (reader-table s′ (length d′))));
+      tables = λ steps w. same-run steps w .controls;
+    }
+
+-- a configuration that is accepted, and its run in another order
+module _ (s : List ℕ) (t : Configuration s) where
+  abbrev behind : List (List ℕ)
+  behind = t .kept .rule6 .later ++ t .kept .rule6 .after
+
+  abbrev upTo : List (List ℕ) → List (List ℕ)
+  upTo ds = t .kept .opened .before ++ (t .kept .opened .control ∷ t .kept .rule5 .header ∷ ds)
+
+  parts : t .kept .opened .descriptors ≡ upTo (runOf (t .kept)) ++ behind
+  parts =
+      t .kept .opened .split
+      ∙ ap (λ (x : List (List ℕ)). t .kept .opened .before ++ t .kept .opened .control ∷ x) (t .kept .rule5 .stands ∙ ap (λ (x : List (List ℕ)). t .kept .rule5 .header ∷ x) (t .kept .rule6 .split))
+      ∙ sym (append-assoc (t .kept .opened .before) (t .kept .opened .control ∷ t .kept .rule5 .header ∷ runOf (t .kept)) behind)
+
+  reorders : (es : List (List ℕ)) → Permuted (runOf (t .kept)) es → Shuffled s (reordered t es)
+  reorders es p = record {
+    before = t .kept .opened .before;
+    control = t .kept .opened .control;
+    header = t .kept .rule5 .header;
+    run = runOf (t .kept);
+    run′ = es;
+    behind = flatten behind;
+    bytes = sym (t .kept .opened .rule3 .whole) ∙ ap flatten parts ∙ flatten-append (upTo (runOf (t .kept))) behind;
+    bytes′ = refl;
+    cut = λ d m. t .kept .opened .rule3 .each d (along (sym parts) (Memᴰ·append-left behind m));
+    is-control = t .kept .opened .is-control;
+    class = t .kept .rule6 .class;
+    permuted = p;
+  }
+
+-- THE THEOREM
+same-number : (s s′ d d′ : List ℕ) → Shuffled s s′ → length d ≡ length d′ → readingOf s (length d) .number ≡ readingOf s′ (length d′) .number
+same-number s s′ d d′ h l = same-verdict s s′ (length d) h ∙ ap (λ (n : ℕ). readingOf s′ n .number) l
+
+same-reading : (s s′ d d′ : List ℕ) → Shuffled s s′ → length d ≡ length d′ → readingOf s (length d) .number ≡ 0 → SameReading s s′ d d′
+same-reading s s′ d d′ h l e =
+    let t = accepted-exactly s (length d) .0 (sym (number-told s (length d)) ∙ e) in
+    let t′ = accepted-exactly s′ (length d′) .0 (sym (number-told s′ (length d′)) ∙ sym (same-number s s′ d d′ h l) ∙ e) in
+    reading s s′ h (t .0) (t′ .0) d d′ (t .1) (t′ .1)
+
+pub any-order : AnyOrder
+any-order = record { same-number = same-number; same-reading = same-reading; every-order = reorders }
