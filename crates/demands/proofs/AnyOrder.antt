@@ -1,71 +1,49 @@
 -- Document 02, No. 10, proved: order really doesn't matter. The number by the rows, which are alike (`rows-alike`); the sheet's records one by one, each by
 -- its descriptor and the cluster on its ID; the tables by the controls that stand; the answers by the same controls (`run-same`, of crate order).
-use Prim.Native.Nat.{ℕ, _*_, _≤_}
-use mathlib.Core.Path.{_≡_, refl, sym, ap, _∙_, subst}
-use mathlib.Core.List.{List, [], _∷_, _++_, map, flatten, append-assoc, List·Memᴰ·head, List·Memᴰ·tail, List·Memᴰ·not-nil, Memᴰ·append-left}
-use lib.ListN.{length, drop, length-map}
+use Prim.Native.Nat.{ℕ, _*_}
+use mathlib.Core.Path.{_≡_, refl, sym, ap, _∙_}
+use mathlib.Core.List.{List, _∷_, _++_, flatten, append-assoc, Memᴰ·append-left}
+use lib.ListN.{length, drop}
 use native.Mathlib.Omega.{arith}
-use Rattle.ground.specs.declared.Refusal.{Refusal}
 use Rattle.ground.specs.Lists.{flatten-append}
-use Rattle.graph.specs.Members.{_∈_, along}
+use Rattle.graph.specs.Members.{along}
 use Rattle.layout.specs.declared.Cluster.{Cluster}
 use Rattle.ground.specs.Numbers.{byte}
-use Rattle.edition.specs.Edition.{ownId}
-use Rattle.table.specs.declared.Control.{Control}
-use Rattle.table.specs.declared.Table.{Table}
-use Rattle.table.specs.Keys.{InTable}
 use Rattle.sound.specs.Fresh.{fresh-sound}
 use Rattle.sound.specs.Meaning.{Sound}
 use Rattle.ids.specs.OwnIds.{distinct-ids}
 use Rattle.controls.specs.Controls.{controlsOf}
-use Rattle.controls.specs.Growth.{tableOf}
-use Rattle.controls.specs.Standing.{Stands}
-use Rattle.records.specs.Records.{recordSize, recordIn}
-use Rattle.records.specs.Sheet.{recordsOf, record-long}
+use Rattle.records.specs.Records.{recordSize}
 use Rattle.topology.specs.declared.Reading.{Reading}
 use Rattle.topology.specs.Reading.{verdictOf, readingOf, sheetOf}
 use Rattle.reader.specs.Configuration.{runOf, Configuration, Rule16}
-use Rattle.reader.specs.Refusals.{tableOfRows, Shown}
+use Rattle.reader.specs.Refusals.{tableOfRows}
 use Rattle.reader.proofs.Exactly.{answers, accepted-exactly}
 use Rattle.reader.proofs.Shows.{number-told, answer-shows, sheet-shows, controls-stand, controls-counted}
 use Rattle.reader.proofs.Tables.{reader-table}
 use Rattle.request.specs.declared.State.{State}
 use Rattle.request.specs.declared.Answer.{Answer}
 use Rattle.deed.specs.Doing.{laid}
-use Rattle.request.specs.Outcome.{Outcome, numberOf, bytesOf, answerOf, Answered}
+use Rattle.request.specs.Outcome.{answerOf}
 use Rattle.request.specs.Plugged.{stateOf}
-use Rattle.runs.specs.Runs.{Step, stepOf, after, Wired}
+use Rattle.runs.specs.Runs.{Step, after, Wired}
 use Rattle.runs.specs.Runs.Step.{load, request}
 use Rattle.runs.proofs.Alone.{run-sound}
 use Rattle.order.specs.Permuted.{Permuted, Agree}
 use Rattle.order.specs.Alike.{SameControls, SameState}
-use Rattle.order.proofs.Permutations.{permuted-back, permuted-length, permuted-map}
+use Rattle.order.specs.Blind.{recordsIn}
+use Rattle.order.proofs.Permutations.{permuted-back, permuted-length}
 use Rattle.order.proofs.Rows.{alike-number}
-use Rattle.order.proofs.Rules.{agree-one, agree-back, stands-as, controls-no-more}
+use Rattle.order.proofs.Rules.{agree-one, agree-back, records-flat, records-long, records-counted, controls-no-more, blind-rules}
 use Rattle.order.proofs.Steps.{number-same, bytes-same, run-same}
 use Rattle.demands.specs.AnyOrder.{Shuffled, SameSheets, SameAnswers, SameReading, reordered, AnyOrder}
-use Rattle.demands.proofs.Shuffled.{shuffled-back, runs-shuffled, control-same, rows-alike}
+use Rattle.demands.proofs.Shuffled.{runs-shuffled, control-same, rows-alike}
 
 same-verdict : (s s′ : List ℕ) (room : ℕ) → Shuffled s s′ → readingOf s room .number ≡ readingOf s′ room .number
 same-verdict s s′ room h =
     number-told s room
     ∙ alike-number (tableOfRows s room) (tableOfRows s′ room) (verdictOf s room) (verdictOf s′ room) (rows-alike h room) (answers s room) (answers s′ room)
     ∙ sym (number-told s′ room)
-
--- the sheet's records, one by one
-recorded : (ℕ → Cluster) → List ℕ → List ℕ
-recorded cluster d = recordIn d (cluster (ownId d))
-
-records-flat : (ds : List (List ℕ)) (cluster : ℕ → Cluster) → recordsOf ds cluster ≡ flatten (map (recorded cluster) ds)
-unfolding recordsOf recorded flatten
-records-flat [] cluster = refl
-records-flat (d ∷ ds) cluster = ap (λ (l : List ℕ). recordIn d (cluster (ownId d)) ++ l) (records-flat ds cluster)
-
-records-long : (ds : List (List ℕ)) (cluster : ℕ → Cluster) (r : List ℕ) → r ∈ map (recorded cluster) ds → length r ≡ recordSize
-unfolding recorded
-records-long [] cluster r m = absurd (List·Memᴰ·not-nil m)
-records-long (d ∷ ds) cluster r (List·Memᴰ·head e) = ap length e ∙ record-long d (cluster (ownId d))
-records-long (d ∷ ds) cluster r (List·Memᴰ·tail m) = records-long ds cluster r m
 
 -- the same number and bytes, as the entry points tell them
 answers-same : (st st′ : State) → SameState st st′ → Sound (st .table) → Sound (st′ .table) → SameAnswers st st′
@@ -135,31 +113,30 @@ module _ (s s′ : List ℕ) (h : Shuffled s s′) (t : Configuration s) (t′ :
     table = record {
       count = sym (controls-counted s (length d)) ∙ controls ∙ controls-counted s′ (length d′);
       each = λ x. (
-        λ m. controls-stand s′ t′ (length d′) r′ x .1 (stands-as run run′ permuted cluster cluster′ agree x (controls-stand s t (length d) r x .0 m)),
-        λ m. controls-stand s t (length d) r x .1 (stands-as run′ run (permuted-back permuted) cluster′ cluster agree′ x (controls-stand s′ t′ (length d′) r′ x .0 m)),
+        λ m. controls-stand s′ t′ (length d′) r′ x .1 (blind-rules .controls x run run′ permuted cluster cluster′ agree (controls-stand s t (length d) r x .0 m)),
+        λ m. controls-stand s t (length d) r x .1 (blind-rules .controls x run′ run (permuted-back permuted) cluster′ cluster agree′ (controls-stand s′ t′ (length d′) r′ x .0 m)),
       );
     }
 
     sheets : SameSheets s s′ d d′
-    unfolding recorded
     sheets =
-        let n : length (map (recorded cluster) run) ≡ length run = length-map run (recorded cluster) in
-        let p = permuted-length permuted in
+        let n = records-counted run cluster in
         record {
-          records = map (recorded cluster) run;
-          records′ = map (recorded cluster′) run′;
+          records = recordsIn run cluster;
+          records′ = recordsIn run′ cluster′;
           counted = n ∙ sym (ap (λ (x : Reading). x .entities) (answer-shows s t (length d) r));
           long = records-long run cluster;
-          permuted = permuted-map (recorded cluster) (recorded cluster′) (λ e m. ap (recordIn e) (agree e m)) permuted;
-          sheet =
-              sheet-shows s t d r
-              ∙ ap (λ (l : List ℕ). l ++ drop (length run * recordSize) d) (records-flat run cluster)
-              ∙ ap (λ (k : ℕ). flatten (map (recorded cluster) run) ++ drop (k * recordSize) d) (sym n);
-          sheet′ =
-              sheet-shows s′ t′ d′ r′
-              ∙ ap (λ (l : List ℕ). l ++ drop (length run′ * recordSize) d′) (records-flat run′ cluster′)
-              ∙ ap (λ (k : ℕ). flatten (map (recorded cluster′) run′) ++ drop (k * recordSize) d′) (sym (n ∙ p));
+          permuted = blind-rules .records run run′ permuted cluster cluster′ agree;
+          sheet = shows s t d r n;
+          sheet′ = shows s′ t′ d′ r′ (n ∙ permuted-length permuted);
         }
+      where
+        shows : (z : List ℕ) (c : Configuration z) (l : List ℕ) → Rule16 (runOf (c .kept)) (length l) → {k : ℕ} → k ≡ length (runOf (c .kept))
+            → sheetOf z l ≡ flatten (recordsIn (runOf (c .kept)) (c .connected .cluster)) ++ drop (k * recordSize) l
+        shows z c l q {k} e =
+            sheet-shows z c l q
+            ∙ ap (λ (x : List ℕ). x ++ drop (length (runOf (c .kept)) * recordSize) l) (records-flat (runOf (c .kept)) (c .connected .cluster))
+            ∙ ap (λ (m : ℕ). flatten (recordsIn (runOf (c .kept)) (c .connected .cluster)) ++ drop (m * recordSize) l) (sym e)
 
     same-state : SameState (stateOf one) (stateOf other)
     same-state = record { interface = interface; controls = table }

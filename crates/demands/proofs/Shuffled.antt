@@ -1,42 +1,41 @@
 -- Two configurations that differ only in the order of the descriptors of the run: row by row the rule is kept by the one exactly where it is by the
 -- other. The rules 1 and 2 ask for the length and for bytes before the run; a cutting of the one is a cutting of the other; the rest is said of
--- cuttings (crate order: `rule4-as` and the others), of runs that are permutations of each other (`blind-10` and the others) and of the clusters that
--- connect them, which are the same on each ID (`agree-one`).
+-- cuttings (crate order, `rule4-as` and the others), of runs that are permutations of each other (`blind-rules`) and of the clusters that connect
+-- them, which are the same on each ID (`agree-one`).
 --   shuffled-back    ==  the two, the other way
 --   runs-shuffled, control-same  ==  of two configurations that keep the rules 1 to 9: their runs are permutations of each other, and the AudioControl
 --                        interface is the same
 --   rows-alike       ==  THE LAW: the papers' tables of refusals of the two are alike
 use Prim.Native.Nat.{ℕ, _+_, _*_, _≤_, _<_}
 use mathlib.Core.Path.{_≡_, refl, sym, ap, _∙_, subst}
-use mathlib.Core.Logic.{_↔_, ⊎-elim}
-use mathlib.Core.List.{List, [], _∷_, _++_, flatten, append-assoc, append-cancel-left, head-eq-of-cons-eq, tail-eq-of-cons-eq, List·Memᴰ·head, List·Memᴰ·tail, List·Memᴰ·append-cases, Memᴰ·append-left, Memᴰ·append-right, List·Permᴰ·cons, Permᴰ·append-left}
+use mathlib.Core.Logic.{⊎-elim}
+use mathlib.Core.List.{List, [], _∷_, _++_, flatten, append-assoc, append-cancel-left, head-eq-of-cons-eq, tail-eq-of-cons-eq, List·Memᴰ·head, List·Memᴰ·tail, List·Memᴰ·append-cases, Memᴰ·append-right, List·Permᴰ·cons, Permᴰ·append-left}
 use lib.ListN.{length, drop, getD, length-append, List·getD-append}
 use lib.Seq.{getD-take, getD-drop}
 use native.Mathlib.Omega.{arith}
-use Rattle.ground.specs.Numbers.{byte, word}
+use Rattle.ground.specs.Numbers.{byte}
 use Rattle.ground.specs.Lists.{total, total-append, length-flatten, flatten-append}
-use Rattle.ground.specs.Rows.{Rows}
-use Rattle.graph.specs.Members.{_∈_, along}
-use Rattle.scan.specs.Cutting.{Descriptor, Cutting, Rule3, rest}
+use Rattle.graph.specs.Members.{along}
+use Rattle.scan.specs.Cutting.{Cutting, Rule3, rest}
 use Rattle.scan.specs.CuttingLaws.{rest-of, cutting-rest, cutting-one}
 use Rattle.search.specs.Want.{Class}
 use Rattle.layout.specs.declared.Cluster.{Cluster}
 use Rattle.edition.specs.Audio.{audio}
-use Rattle.opening.specs.Rules1and2.{mostBytes, Rule1, Rule2}
+use Rattle.opening.specs.Rules1and2.{Rule1, Rule2}
 use Rattle.collection.specs.Rule7.{Rule7}
 use Rattle.groups.specs.Rules5and6.{Header, Rule5, listedOf, Rule6}
 use Rattle.cutting.specs.Rules1to9.{laidOut, Opening, Opened, opened, Kept, groupRows}
 use Rattle.clusters.specs.Rule13.{Connected}
 use Rattle.connections.specs.JudgementLaws.{connected-with}
 use Rattle.streaming.specs.Rule14.{Rule14}
-use Rattle.reader.specs.Configuration.{runOf, Streams, FewControls, Rule16}
+use Rattle.reader.specs.Configuration.{runOf, Streams}
 use Rattle.reader.specs.Refusals.{runRows, keptRows, tableOfRows}
 use Rattle.records.specs.Records.{recordSize}
 use Rattle.reader.proofs.Surveyed.{represented}
 use Rattle.order.specs.Permuted.{Permuted, Agree}
 use Rattle.order.specs.Alike.{AlikeRows}
 use Rattle.order.proofs.Permutations.{permuted-back, permuted-in, permuted-length, permuted-total}
-use Rattle.order.proofs.Rules.{blind-8, blind-recognised, blind-withdrawn, blind-10, blind-11, blind-12, blind-13, agree-one, agree-back, rule15-as}
+use Rattle.order.proofs.Rules.{agree-one, agree-back, blind-rules}
 use Rattle.order.proofs.Middle.{frontOf, wholeOf, control-one, opening-as, rule5-as, rule6-as, rule7-as, rule14-as, runs-permuted}
 use Rattle.demands.specs.AnyOrder.{Shuffled}
 
@@ -237,7 +236,7 @@ module _ {s s′ : List ℕ} (h : Shuffled s s′) (room : ℕ) where
         (streams-to h k k′ (c .cluster) (c′ .cluster) a, streams-to back k′ k (c′ .cluster) (c .cluster) b),
         λ x x′. (
           refl,
-          (rule15-as (runOf k) (runOf k′) p (c .cluster) (c′ .cluster) a, rule15-as (runOf k′) (runOf k) (permuted-back p) (c′ .cluster) (c .cluster) b),
+          (blind-rules .few (runOf k) (runOf k′) p (c .cluster) (c′ .cluster) a, blind-rules .few (runOf k′) (runOf k) (permuted-back p) (c′ .cluster) (c .cluster) b),
           λ y y′. (
             refl,
             (subst (λ (n : ℕ). n * recordSize ≤ room) (permuted-length p), subst (λ (n : ℕ). n * recordSize ≤ room) (sym (permuted-length p))),
@@ -251,16 +250,16 @@ module _ {s s′ : List ℕ} (h : Shuffled s s′) (room : ℕ) where
       let p = runs-shuffled h k k′ in
       let q = permuted-back p in (
         refl,
-        (blind-10 (runOf k) (runOf k′) p, blind-10 (runOf k′) (runOf k) q),
+        (blind-rules .ids (runOf k) (runOf k′) p, blind-rules .ids (runOf k′) (runOf k) q),
         λ a a′. (
           refl,
-          (blind-11 (runOf k) (runOf k′) p, blind-11 (runOf k′) (runOf k) q),
+          (blind-rules .sources (runOf k) (runOf k′) p, blind-rules .sources (runOf k′) (runOf k) q),
           λ b b′. (
             refl,
-            (blind-12 (runOf k) (runOf k′) p, blind-12 (runOf k′) (runOf k) q),
+            (blind-rules .ranks (runOf k) (runOf k′) p, blind-rules .ranks (runOf k′) (runOf k) q),
             λ c c′. (
               refl,
-              (blind-13 (runOf k) (runOf k′) p, blind-13 (runOf k′) (runOf k) q),
+              (blind-rules .clusters (runOf k) (runOf k′) p, blind-rules .clusters (runOf k′) (runOf k) q),
               λ e e′. run-alike k k′ (connected-with (represented s k) a b c e) (connected-with (represented s′ k′) a′ b′ c′ e′),
             ),
           ),
@@ -281,13 +280,13 @@ module _ {s s′ : List ℕ} (h : Shuffled s s′) (room : ℕ) where
             (rule7-to h o o′ e e′, rule7-to back o′ o e′ e),
             λ c c′. (
               refl,
-              (blind-8 (t .run) (t′ .run) p, blind-8 (t′ .run) (t .run) q),
+              (blind-rules .counted (t .run) (t′ .run) p, blind-rules .counted (t′ .run) (t .run) q),
               λ m m′. (
                 refl,
-                (blind-recognised (t .run) (t′ .run) p, blind-recognised (t′ .run) (t .run) q),
+                (blind-rules .recognised (t .run) (t′ .run) p, blind-rules .recognised (t′ .run) (t .run) q),
                 λ l l′. (
                   refl,
-                  (blind-withdrawn (t .run) (t′ .run) p, blind-withdrawn (t′ .run) (t .run) q),
+                  (blind-rules .withdrawn (t .run) (t′ .run) p, blind-rules .withdrawn (t′ .run) (t .run) q),
                   λ w w′. kept-alike (record { opened = o; rule5 = e; rule6 = t; rule7 = c; rule8 = m; rule9 = laidOut audio (t .run) l w }) (record { opened = o′; rule5 = e′; rule6 = t′; rule7 = c′; rule8 = m′; rule9 = laidOut audio (t′ .run) l′ w′ }),
                 ),
               ),

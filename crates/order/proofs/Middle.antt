@@ -10,8 +10,8 @@
 --   run-front, runs-permuted  ==  the run begins with ds; so the two runs are permutations of each other
 use Prim.Native.Nat.{ℕ, _+_}
 use mathlib.Core.Path.{_≡_, refl, sym, ap, _∙_, subst}
-use mathlib.Core.Logic.{_⊎_, inl, inr, ⊎-elim}
-use mathlib.Core.List.{List, [], _∷_, _++_, append-assoc, nil≢cons, head-eq-of-cons-eq, tail-eq-of-cons-eq, List·Memᴰ·head, List·Memᴰ·tail, List·Memᴰ·append-cases, Memᴰ·append-left, Memᴰ·append-right, Permᴰ·append-left, Permᴰ·append-right}
+use mathlib.Core.Logic.{⊎-elim}
+use mathlib.Core.List.{List, [], _∷_, _++_, append-assoc, nil≢cons, head-eq-of-cons-eq, tail-eq-of-cons-eq, List·Memᴰ·head, List·Memᴰ·tail, List·Memᴰ·append-cases, Memᴰ·append-right, Permᴰ·append-left, Permᴰ·append-right}
 use lib.ListN.{length}
 use native.Mathlib.Omega.{arith}
 use Rattle.ground.specs.Numbers.{byte, word}
@@ -27,7 +27,7 @@ use Rattle.cutting.specs.Rules1to9.{Opening}
 use Rattle.streaming.specs.Rule14.{Described, StreamKept, no-endpoints, endpoints, Group, Rule14}
 use Rattle.order.specs.Permuted.{Permuted, Agree}
 use Rattle.order.proofs.Permutations.{permuted-back, permuted-in, permuted-total}
-use Rattle.order.proofs.Rules.{terminal-as}
+use Rattle.order.proofs.Rules.{blind-rules}
 
 module _ {A : Type 0} where
   pub data Side (p q x : List A) (d : A) (y : List A) : Type 0 where
@@ -272,7 +272,7 @@ module _ (before : List (List ℕ)) (control header : List ℕ) (is-control : Au
         described-as d = record {
           general = d .general;
           terminal = d .terminal;
-          among = terminal-as run other q c e agree (d .terminal) (d .among);
+          among = blind-rules .terminals (d .terminal) run other q c e agree (d .among);
           borne = d .borne;
           streaming = d .streaming;
           format = d .format;

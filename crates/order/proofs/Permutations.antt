@@ -1,12 +1,12 @@
 -- Laws of another order.
 --   permuted-back     ==  .. the other way
 --   permuted-in, permuted-members  ==  the members are the same
---   permuted-length, permuted-total, permuted-map  ==  there are as many, and their lengths together are the same; what is made of each element alike is the same in that order
+--   permuted-length, permuted-total  ==  there are as many, and their lengths together are the same
 --   permuted-pairs    ==  what is so of each two elements, either way round, stays so
 --   pairs-each, pairs-of  ==  each two elements of a list, by where they stand
 use Prim.Native.Nat.{ℕ, _+_}
 use mathlib.Core.Path.{_≡_, refl, sym, ap, _∙_, subst}
-use mathlib.Core.List.{List, [], _∷_, _++_, map, List·Memᴰ·head, List·Memᴰ·tail, List·Memᴰ·not-nil, List·Permᴰ·nil, List·Permᴰ·cons, List·Permᴰ·swap, List·Permᴰ·trans, Permᴰ·symm}
+use mathlib.Core.List.{List, [], _∷_, _++_, List·Memᴰ·head, List·Memᴰ·tail, List·Memᴰ·not-nil, List·Permᴰ·nil, List·Permᴰ·cons, List·Permᴰ·swap, List·Permᴰ·trans, Permᴰ·symm}
 use lib.ListN.{length}
 use native.Mathlib.Omega.{arith}
 use Rattle.ground.specs.Lists.{total}
@@ -33,19 +33,6 @@ module _ {A : Type 0} where
   permuted-length (List·Permᴰ·cons e p) = let h = permuted-length p in omega arith
   permuted-length (List·Permᴰ·swap e f) = refl
   permuted-length (List·Permᴰ·trans p q) = permuted-length p ∙ permuted-length q
-
-  map-alike : {B : Type 0} (f g : A → B) (l : List A) → ((a : A) → a ∈ l → f a ≡ g a) → Permuted (map f l) (map g l)
-  map-alike f g [] h = List·Permᴰ·nil
-  map-alike f g (a ∷ l) h = List·Permᴰ·cons (h a (List·Memᴰ·head refl)) (map-alike f g l (λ b i. h b (List·Memᴰ·tail i)))
-
-  map-permuted : {B : Type 0} (g : A → B) {l m : List A} → Permuted l m → Permuted (map g l) (map g m)
-  map-permuted g List·Permᴰ·nil = List·Permᴰ·nil
-  map-permuted g (List·Permᴰ·cons e p) = List·Permᴰ·cons (ap g e) (map-permuted g p)
-  map-permuted g (List·Permᴰ·swap e f) = List·Permᴰ·swap (ap g e) (ap g f)
-  map-permuted g (List·Permᴰ·trans p q) = List·Permᴰ·trans (map-permuted g p) (map-permuted g q)
-
-  pub permuted-map : {B : Type 0} (f g : A → B) {l m : List A} → ((a : A) → a ∈ l → f a ≡ g a) → Permuted l m → Permuted (map f l) (map g m)
-  permuted-map f g {l} h p = List·Permᴰ·trans (map-alike f g l h) (map-permuted g p)
 
   module _ (R : A → A → Type 0) where
     pub permuted-pairs : ((a b : A) → R a b → R b a) → {l m : List A} → Permuted l m → Pairs R l → Pairs R m

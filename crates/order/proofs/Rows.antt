@@ -1,7 +1,6 @@
 -- Two tables of refusals that are alike give the same number, whatever the places.
 --   alike-number   ==  THE LAW, for any two tables and what is put together by them
 use mathlib.Core.Path.{_≡_, refl, sym, ap, _∙_}
-use mathlib.Core.Logic.{_↔_}
 use Prim.Native.Nat.{ℕ}
 use native.Mathlib.Omega.{arith}
 use Rattle.ground.specs.declared.Place.{Place}

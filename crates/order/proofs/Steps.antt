@@ -1,24 +1,22 @@
 -- Two states of the box with the same controls in another order answer every load and request alike, and are left with the same controls. The rows of
 -- the papers' table speak of the controls that are in the table, and the addressed ones are taken by channel: so none of it sees the order.
 --   same-back        ==  the same controls, the other way
---   addressed-as     ==  who is addressed in the one table is addressed in the other; addressed-same: the same list
+--   blind-tables     ==  THE LAW of what is asked of a table; addressed-same: who is addressed is the same list
 --   number-same      ==  each step has the same number in both
 --   bytes-same       ==  .. and is answered with the same bytes
 --   next-same        ==  so each step leaves such states
 --   run-same         ==  THE LAW: and every run does
 use Prim.Native.Nat.{ℕ, _<_}
 use mathlib.Core.Path.{_≡_, refl, sym, ap, _∙_, subst}
-use mathlib.Core.List.{List, [], _∷_, map, List·Memᴰ·head, List·Memᴰ·tail, List·Memᴰ·not-nil, List·Memᴰ·eq-of-singleton}
-use mathlib.Core.Logic.{_↔_}
+use mathlib.Core.List.{List, [], _∷_, List·Memᴰ·head, List·Memᴰ·tail, List·Memᴰ·not-nil, List·Memᴰ·eq-of-singleton}
 use native.Mathlib.Omega.{arith}
-use lib.ListN.{length, length-map, take}
-use Rattle.ground.specs.Numbers.{byte, word, Bytes}
+use lib.ListN.{length, length-map}
+use Rattle.ground.specs.Numbers.{byte, word}
 use Rattle.graph.specs.Members.{_∈_}
 use Rattle.setting.specs.declared.Range.{Range}
 use Rattle.setting.specs.declared.Sort.{Sort}
 use Rattle.table.specs.declared.Control.{Control}
 use Rattle.table.specs.declared.Table.{Table}
-use Rattle.table.specs.declared.Sense.{Sense}
 use Rattle.table.specs.declared.Sense.the-variants.{Ranged}
 use Rattle.table.specs.Controls.{at, placed, senseOf}
 use Rattle.table.specs.Keys.{Key, Bears, StandsAt, InTable}
@@ -36,9 +34,9 @@ use Rattle.request.specs.Outcome.Outcome.{refused, got, done}
 use Rattle.request.specs.Stored.{storedAt, Apart, alone, apart}
 use Rattle.request.specs.Load.{loadOf}
 use Rattle.request.specs.Request.{requestOf}
-use Rattle.runs.specs.Runs.{namedBy, addressedBy, Step, stepOf, next, after, sent, Wired}
+use Rattle.runs.specs.Runs.{namedBy, addressedBy, Step, stepOf, next, after, Wired}
 use Rattle.runs.specs.Runs.Step.{load, request}
-use Rattle.runs.specs.RequestRows.{Row, given, passed, Owned, Names, Addressed, Along, RangedThere, addressedRows, askedRows, requestRows, loadRows, stepRows}
+use Rattle.runs.specs.RequestRows.{Row, given, passed, Names, Along, addressedRows, requestRows, loadRows, stepRows}
 use Rattle.runs.proofs.Taken.{places, LoadTaken, SetTaken, GetTaken, load-taken, set-taken, get-taken, load-not-got}
 use Rattle.runs.proofs.Addressing.{places-apart, places-low, places-inside, names-among, among-names, addressed-found, addressed-one}
 use Rattle.runs.proofs.Stored.{Pair, front, behind, pair-in, stored-count, stored-other, stored-here, At, stored, kept, stored-at}
@@ -47,6 +45,7 @@ use Rattle.runs.proofs.Refusals.{LoadNumber, load-30, load-20, load-21, Request
 use Rattle.runs.proofs.Rows.{step-rows, step-row-one}
 use Rattle.runs.proofs.Alone.{step-sound}
 use Rattle.order.specs.Alike.{SameControls, SameState}
+use Rattle.order.specs.Blind.{BlindTables}
 
 pub same-back : {t u : Table} → SameControls t u → SameControls u t
 same-back h = record { count = sym (h .count); each = λ x. (h .each x .1, h .each x .0) }
@@ -55,25 +54,22 @@ row-as : {n : ℕ} {When Where : Type 0} {rest last : ℕ → Type 0} (m : ℕ) 
 row-as m f g h (given w e) = given (f w) e
 row-as m f g h (passed n r) = passed (λ w. n (g w)) (h r)
 
-module _ (t u : Table) (same : SameControls t u) where
-  owned-as : (x : ℕ) → Owned t x → Owned u x
-  owned-as x o =
+pub blind-tables : BlindTables
+blind-tables = record {
+  unit = λ x t u same o.
       let k = same .each (at t (o .index)) .0 (record { index = o .index; inside = o .inside; is = refl }) in
-      record { index = k .index; inside = k .inside; unit = ap (λ (c : Control). c .unit) (k .is) ∙ o .unit }
-
-  ranged-as : (k : Key) → RangedThere t k → RangedThere u k
-  ranged-as k r = record { control = r .control; there = same .each (r .control) .0 (r .there); bears = r .bears; ranged = r .ranged }
-
-  pub addressed-as : (s : List ℕ) (cs : List Control) → Addressed t s cs → Addressed u s cs
-  addressed-as s cs a = record {
+      record { index = k .index; inside = k .inside; unit = ap (λ (c : Control). c .unit) (k .is) ∙ o .unit };
+  addressed = λ s cs t u same a. record {
     each = λ c. (λ m. let h = a .each c .0 m in (same .each c .0 (h .0), h .1), λ h. a .each c .1 (same .each c .1 (h .0), h .1));
     rising = a .rising;
-  }
+  };
+  ranged = λ k t u same r. record { control = r .control; there = same .each (r .control) .0 (r .there); bears = r .bears; ranged = r .ranged };
+}
 
--- what is addressed is the same list, and each of it stands in both
+-- what is addressed is the same list
 module _ (t u : Table) (same : SameControls t u) (sound : Sound t) (whole : Sound u) where
   pub addressed-same : (s : List ℕ) → addressedBy t s ≡ addressedBy u s
-  addressed-same s = addressed-one u s (addressedBy t s) (addressedBy u s) (addressed-as t u same s (addressedBy t s) (addressed-found t s sound)) (addressed-found u s whole)
+  addressed-same s = addressed-one u s (addressedBy t s) (addressedBy u s) (blind-tables .addressed s (addressedBy t s) t u same (addressed-found t s sound)) (addressed-found u s whole)
 
 module _ (st su : State) (same : SameState st su) (sound : Sound (st .table)) (whole : Sound (su .table)) where
   abbrev t : Table
@@ -86,7 +82,7 @@ module _ (st su : State) (same : SameState st su) (sound : Sound (st .table)) (w
   back = same-back (same .controls)
 
   along-as : (s d : List ℕ) (room m : ℕ) → Along t s (addressedRows s d room) m → Along u s (addressedRows s d room) m
-  along-as s d room m (cs, a) = (cs, (addressed-as t u (same .controls) s cs (a .0), a .1))
+  along-as s d room m (cs, a) = (cs, (blind-tables .addressed s cs t u (same .controls) (a .0), a .1))
 
   request-as : (s d : List ℕ) (room m : ℕ) → requestRows st s d room m → requestRows su s d room m
   unfolding requestRows
@@ -94,13 +90,13 @@ module _ (st su : State) (same : SameState st su) (sound : Sound (st .table)) (w
       row-as m (λ n w. n sound) (λ n w. n whole)
       (row-as m (λ x. x) (λ x. x)
       (row-as m (λ n e. n (e ∙ sym (same .interface))) (λ n e. n (e ∙ same .interface))
-      (row-as m (λ n o. n (owned-as u t back (byte s 5) o)) (λ n o. n (owned-as t u (same .controls) (byte s 5) o)) (along-as s d room m))))
+      (row-as m (λ n o. n (blind-tables .unit (byte s 5) u t back o)) (λ n o. n (blind-tables .unit (byte s 5) t u (same .controls) o)) (along-as s d room m))))
 
   load-as : (k : Key) (range : Range) (w m : ℕ) → loadRows st k range w m → loadRows su k range w m
   unfolding loadRows
   load-as k range w m =
       row-as m (λ n h. n sound) (λ n h. n whole)
-      (row-as m (λ n r. n (ranged-as u t back k r)) (λ n r. n (ranged-as t u (same .controls) k r)) (row-as m (λ x. x) (λ x. x) (λ e. e)))
+      (row-as m (λ n r. n (blind-tables .ranged k u t back r)) (λ n r. n (blind-tables .ranged k t u (same .controls) r)) (row-as m (λ x. x) (λ x. x) (λ e. e)))
 
   step-as : (step : Step) (m : ℕ) → stepRows st step m → stepRows su step m
   step-as (load k range w) m = load-as k range w m

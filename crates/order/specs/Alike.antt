@@ -3,7 +3,6 @@
 --                         other's is; the places are left open
 --   SameControls t u  ==  two tables of controls hold the same controls, in any order: as many, and each of the one in the other
 --   SameState st su   ==  two states of the box with one AudioControl number and the same controls
-use Prim.Native.Nat.{ℕ}
 use mathlib.Core.Path.{_≡_}
 use mathlib.Core.Logic.{_↔_}
 use Rattle.ground.specs.Rows.{Rows, end, row}

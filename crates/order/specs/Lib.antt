@@ -1,2 +1,3 @@
 pub mod Permuted
 pub mod Alike
+pub mod Blind

@@ -1,6 +1,5 @@
 -- "Order carries no meaning: a source may stand after its user" (document 01); "the same records in another order" (document 02, No. 10).
 --   Permuted l m      ==  m is l in another order: each element as often (the kit's permutations)
---   Blind Rule        ==  a rule on the run's descriptors that does not see their order
 --   Agree ds c e      ==  the clusters c and e on IDs are the same on each descriptor of ds
 use Prim.Native.Nat.{ℕ}
 use mathlib.Core.Path.{_≡_}
@@ -11,9 +10,6 @@ use Rattle.edition.specs.Edition.{ownId}
 
 abbrev pub Permuted : {A : Type 0} → List A → List A → Type 0
 Permuted l m = List·Permᴰ l m
-
-abbrev pub Blind : (List (List ℕ) → Type 0) → Type 0
-Blind Rule = (ds es : List (List ℕ)) → Permuted ds es → Rule ds → Rule es
 
 abbrev pub Agree : List (List ℕ) → (ℕ → Cluster) → (ℕ → Cluster) → Type 0
 Agree ds c e = (d : List ℕ) → d ∈ ds → c (ownId d) ≡ e (ownId d)
