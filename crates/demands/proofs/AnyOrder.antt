@@ -4,15 +4,12 @@ use Prim.Native.Nat.{ℕ, _*_}
 use mathlib.Core.Path.{_≡_, refl, sym, ap, _∙_}
 use mathlib.Core.List.{List, _∷_, _++_, flatten, append-assoc, Memᴰ·append-left}
 use lib.ListN.{length, drop}
-use native.Mathlib.Omega.{arith}
 use Rattle.ground.specs.Lists.{flatten-append}
 use Rattle.graph.specs.Members.{along}
 use Rattle.layout.specs.declared.Cluster.{Cluster}
 use Rattle.ground.specs.Numbers.{byte}
 use Rattle.sound.specs.Fresh.{fresh-sound}
 use Rattle.sound.specs.Meaning.{Sound}
-use Rattle.ids.specs.OwnIds.{distinct-ids}
-use Rattle.controls.specs.Controls.{controlsOf}
 use Rattle.records.specs.Records.{recordSize}
 use Rattle.topology.specs.declared.Reading.{Reading}
 use Rattle.topology.specs.Reading.{verdictOf, readingOf, sheetOf}
@@ -34,7 +31,7 @@ use Rattle.order.specs.Alike.{SameControls, SameState}
 use Rattle.order.specs.Blind.{recordsIn}
 use Rattle.order.proofs.Permutations.{permuted-back, permuted-length}
 use Rattle.order.proofs.Rows.{alike-number}
-use Rattle.order.proofs.Rules.{agree-one, agree-back, records-flat, records-long, records-counted, controls-no-more, blind-rules}
+use Rattle.order.proofs.Rules.{agree-one, agree-back, records-flat, records-long, records-counted, blind-rules}
 use Rattle.order.proofs.Steps.{number-same, bytes-same, run-same}
 use Rattle.demands.specs.AnyOrder.{Shuffled, SameSheets, SameAnswers, SameReading, reordered, AnyOrder}
 use Rattle.demands.proofs.Shuffled.{runs-shuffled, control-same, rows-alike}
@@ -83,12 +80,6 @@ module _ (s s′ : List ℕ) (h : Shuffled s s′) (t : Configuration s) (t′ :
   agree′ : Agree run′ cluster′ cluster
   agree′ = agree-back run run′ permuted cluster cluster′ agree
 
-  as-many : length (controlsOf run cluster) ≡ length (controlsOf run′ cluster′)
-  as-many =
-      let a = controls-no-more run run′ permuted cluster cluster′ agree (t .kept .rule9) (t′ .kept .rule9) (distinct-ids run (t .connected .rule10)) in
-      let b = controls-no-more run′ run (permuted-back permuted) cluster′ cluster agree′ (t′ .kept .rule9) (t .kept .rule9) (distinct-ids run′ (t′ .connected .rule10)) in
-      omega arith
-
   module _ (d d′ : List ℕ) (r : Rule16 run (length d)) (r′ : Rule16 run′ (length d′)) where
     abbrev one : Reading
     one = readingOf s (length d)
@@ -107,7 +98,7 @@ module _ (s s′ : List ℕ) (h : Shuffled s s′) (t : Configuration s) (t′ :
         ap (λ (x : Reading). x .entities) (answer-shows s t (length d) r) ∙ permuted-length permuted ∙ sym (ap (λ (x : Reading). x .entities) (answer-shows s′ t′ (length d′) r′))
 
     controls : one .controls ≡ other .controls
-    controls = ap (λ (x : Reading). x .controls) (answer-shows s t (length d) r) ∙ as-many ∙ sym (ap (λ (x : Reading). x .controls) (answer-shows s′ t′ (length d′) r′))
+    controls = ap (λ (x : Reading). x .controls) (answer-shows s t (length d) r) ∙ blind-rules .as-many run run′ permuted cluster cluster′ agree (t .kept .rule9) (t .connected .rule10) ∙ sym (ap (λ (x : Reading). x .controls) (answer-shows s′ t′ (length d′) r′))
 
     table : SameControls (one .table) (other .table)
     table = record {

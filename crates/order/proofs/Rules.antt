@@ -2,13 +2,13 @@
 -- rule 8 for how many there are.
 --   agree-one      ==  clusters that connect the run in the one order and in the other are the same; agree-back: .. the other way
 --   records-long, records-counted, records-flat  ==  the sheet's records are 32 bytes each, one for each descriptor, and they are what the sheet shows
---   controls-no-more  ==  with such clusters no more controls stand in the one order than in the other
 --   blind-rules    ==  THE LAW
 use Prim.Native.Nat.{ℕ, suc, _≤_}
 use mathlib.Core.Path.{_≡_, refl, sym, ap, _∙_, subst}
 use mathlib.Core.Logic.{_⊎_, inl, inr}
 use mathlib.Core.List.{List, [], _∷_, _++_, flatten, List·Memᴰ·head, List·Memᴰ·tail, List·Memᴰ·not-nil, List·Permᴰ·nil, List·Permᴰ·cons, List·Permᴰ·swap, List·Permᴰ·trans}
 use lib.ListN.{length}
+use native.Mathlib.Omega.{arith}
 use Rattle.ground.specs.Lists.{Some, split-of, of-split}
 use Rattle.ground.specs.First.{Sound}
 use Rattle.graph.specs.Members.{_∈_, along}
@@ -17,7 +17,7 @@ use Rattle.layout.specs.Layout.{LaidOut}
 use Rattle.edition.specs.Edition.{ownId, DistinctIds}
 use Rattle.edition.specs.Audio.{audio}
 use Rattle.entities.specs.Run.{mostEntities}
-use Rattle.cutting.specs.Rules1to9.{Rule8, Recognised, NoneWithdrawn}
+use Rattle.cutting.specs.Rules1to9.{Rule8, Rule9, Recognised, NoneWithdrawn}
 use Rattle.ids.specs.Rule10.{Rule10}
 use Rattle.ids.specs.OwnIds.{distinct-ids}
 use Rattle.sources.specs.Rule11.{Rule11}
@@ -133,10 +133,18 @@ records-counted [] cluster = refl
 records-counted (d ∷ ds) cluster = ap suc (records-counted ds cluster)
 
 -- as many controls stand: none stands twice, and each of the one's is one of the other's
-pub controls-no-more : (ds es : List (List ℕ)) → Permuted ds es → (c e : ℕ → Cluster) → Agree ds c e
+controls-no-more : (ds es : List (List ℕ)) → Permuted ds es → (c e : ℕ → Cluster) → Agree ds c e
     → ((d : List ℕ) → d ∈ ds → LaidOut d) → ((d : List ℕ) → d ∈ es → LaidOut d) → DistinctIds ds → length (controlsOf ds c) ≤ length (controlsOf es e)
 controls-no-more ds es p c e agree laid laid′ distinct =
     pairs-fit (controlsOf es e) (controls-apart ds c laid distinct) (λ x m. control-stands e es laid′ x .1 (stands-as x ds es p c e agree (stands-of c ds x m)))
+
+as-many-as : (ds es : List (List ℕ)) → Permuted ds es → (c e : ℕ → Cluster) → Agree ds c e → Rule9 audio ds → Rule10 ds → length (controlsOf ds c) ≡ length (controlsOf es e)
+as-many-as ds es p c e agree laid own =
+    let q = permuted-back p in
+    let laid′ : Rule9 audio es = λ d m. laid d (permuted-in q m) in
+    let a = controls-no-more ds es p c e agree laid laid′ (distinct-ids ds own) in
+    let b = controls-no-more es ds q e c (agree-back ds es p c e agree) laid′ laid (distinct-ids es (blind-10 ds es p own)) in
+    omega arith
 
 pub blind-rules : BlindRules
 blind-rules = record {
@@ -150,5 +158,6 @@ blind-rules = record {
   terminals = terminal-as;
   controls = stands-as;
   few = rule15-as;
+  as-many = as-many-as;
   records = λ ds es p c e agree. subst (λ (l : List (List ℕ)). Permuted l (recordsIn es e)) (sym (records-alike ds c e agree)) (records-moved e p);
 }
