@@ -36,7 +36,7 @@ use Rattle.order.specs.Permuted.{Permuted, Agree}
 use Rattle.order.specs.Alike.{AlikeRows}
 use Rattle.order.proofs.Permutations.{permuted-back, permuted-in, permuted-length, permuted-total}
 use Rattle.order.proofs.Rules.{agree-one, agree-back, blind-rules}
-use Rattle.order.proofs.Middle.{frontOf, wholeOf, control-one, opening-as, rule5-as, rule6-as, rule7-as, rule14-as, runs-permuted}
+use Rattle.order.proofs.Middle.{Reordering, frontOf, wholeOf, control-one, opening-as, rule5-as, rule6-as, rule7-as, rule14-as, runs-permuted}
 use Rattle.demands.specs.AnyOrder.{Shuffled}
 
 abbrev pub shuffled-back : {s s′ : List ℕ} → Shuffled s s′ → Shuffled s′ s
@@ -55,13 +55,26 @@ shuffled-back h = record {
   permuted = permuted-back (h .permuted);
 }
 
+-- the two orders of the run's descriptors
+abbrev reordering : {s s′ : List ℕ} → Shuffled s s′ → Reordering
+reordering h = record {
+  before = h .before;
+  control = h .control;
+  header = h .header;
+  one = h .run;
+  other = h .run′;
+  is-control = h .is-control;
+  class = h .class;
+  permuted = h .permuted;
+}
+
 -- the bytes of the one, part by part
 module _ {s s′ : List ℕ} (h : Shuffled s s′) where
   abbrev ahead : List (List ℕ)
-  ahead = frontOf (h .before) (h .control) (h .header)
+  ahead = frontOf (reordering h)
 
   abbrev whole : List (List ℕ) → List (List ℕ)
-  whole x = wholeOf (h .before) (h .control) (h .header) (h .run) x
+  whole x = wholeOf (reordering h) x
 
   listed : List (List ℕ)
   listed = h .before ++ (h .control ∷ h .header ∷ h .run)
@@ -153,7 +166,7 @@ module _ {s s′ : List ℕ} (h : Shuffled s s′) where
   opening-to : (cs es : List (List ℕ)) → Parted cs es → Opening cs → Opening es
   opening-to cs es p o =
       subst Opening (sym (p .right))
-      (opening-as (h .before) (h .control) (h .header) (h .is-control) (h .run) (h .run′) (h .permuted) (h .class) (p .tail) (subst Opening (p .left) o))
+      (opening-as (reordering h) (p .tail) (subst Opening (p .left) o))
 
 header-class : (x : List ℕ) → Header x → Class x
 header-class x r = sym (getD-take 4 (drop 1 x) 0 0 (omega arith) ∙ getD-drop 1 x 0 0) ∙ ap (λ (y : List ℕ). getD y 0 0) (r .opening)
@@ -168,14 +181,14 @@ module _ {s s′ : List ℕ} (h : Shuffled s s′) (o : Opened s) (o′ : Opened
 
   mine : (o .before ≡ h .before) × (o .control ≡ h .control) × (o .tail ≡ h .header ∷ (h .run ++ x))
   unfolding x
-  mine = control-one (h .before) (h .control) (h .header) (h .is-control) (h .run) (both .tail) (o .descriptors) (o .before) (o .control) (o .tail) (both .left) (o .rule4) (o .split) (o .is-control)
+  mine = control-one (reordering h) (both .tail) (o .descriptors) (o .before) (o .control) (o .tail) (both .left) (o .rule4) (o .split) (o .is-control)
 
   theirs : (o′ .before ≡ h .before) × (o′ .control ≡ h .control) × (o′ .tail ≡ h .header ∷ (h .run′ ++ x))
   unfolding x
-  theirs = control-one (h .before) (h .control) (h .header) (h .is-control) (h .run′) (both .tail) (o′ .descriptors) (o′ .before) (o′ .control) (o′ .tail) (both .right) (o′ .rule4) (o′ .split) (o′ .is-control)
+  theirs = control-one (reordering (shuffled-back h)) (both .tail) (o′ .descriptors) (o′ .before) (o′ .control) (o′ .tail) (both .right) (o′ .rule4) (o′ .split) (o′ .is-control)
 
   rule5-to : Rule5 (o .tail) → Rule5 (o′ .tail)
-  rule5-to = rule5-as (h .before) (h .control) (h .header) (h .is-control) (h .run) (h .run′) (h .permuted) (h .class) x (o .tail) (o′ .tail) (mine .2) (theirs .2)
+  rule5-to = rule5-as (reordering h) x (o .tail) (o′ .tail) (mine .2) (theirs .2)
 
   module _ (e : Rule5 (o .tail)) (e′ : Rule5 (o′ .tail)) where
     header-mine : h .header ≡ e .header
@@ -192,19 +205,19 @@ module _ {s s′ : List ℕ} (h : Shuffled s s′) (o : Opened s) (o′ : Opened
 
     rule6-to : Rule6 (e .header) (e .others) → Rule6 (e′ .header) (e′ .others)
     rule6-to =
-        rule6-as (h .before) (h .control) (h .header) (h .is-control) (h .run) (h .run′) (h .permuted) (h .class) x
+        rule6-as (reordering h) x
         (e .header) (e′ .header) (e .others) (e′ .others) (sym header-mine ∙ header-theirs) others-mine others-theirs
 
     rule7-to : Rule7 (o .descriptors) (listedOf (e .header)) → Rule7 (o′ .descriptors) (listedOf (e′ .header))
     unfolding x
     rule7-to r =
         subst (λ (cs : List (List ℕ)). Rule7 cs (listedOf (e′ .header))) (sym (both .right))
-        (rule7-as (h .before) (h .control) (h .header) (h .is-control) (h .run) (h .run′) (h .permuted) (h .class) (both .tail) (listedOf (e′ .header))
+        (rule7-as (reordering h) (both .tail) (listedOf (e′ .header))
         (subst (λ (cs : List (List ℕ)). Rule7 cs (listedOf (e′ .header))) (both .left) (subst (λ (y : List ℕ). Rule7 (o .descriptors) (listedOf y)) (sym header-mine ∙ header-theirs) r)))
 
     runs : (t : Rule6 (e .header) (e .others)) (t′ : Rule6 (e′ .header) (e′ .others)) → Permuted (t .run) (t′ .run)
     runs t t′ =
-        runs-permuted (h .before) (h .control) (h .header) (h .is-control) (h .run) (h .run′) (h .permuted) (h .class) x
+        runs-permuted (reordering h) x
         (e .header) (e′ .header) (e .others) (e′ .others) others-mine others-theirs t t′
 
 module _ {s s′ : List ℕ} (h : Shuffled s s′) (k : Kept s) (k′ : Kept s′) where
@@ -219,7 +232,7 @@ module _ {s s′ : List ℕ} (h : Shuffled s s′) (k : Kept s) (k′ : Kept s�
       let p = parted h (k .opened .descriptors) (k′ .opened .descriptors) (k .opened .rule3) (k′ .opened .rule3) in
       let l : Class (h .header) = subst Class (sym (header-mine h (k .opened) (k′ .opened) (k .rule5) (k′ .rule5))) (header-class (k .rule5 .header) (k .rule5 .right)) in
       subst (Rule14 (runOf k′) e) (sym (p .right))
-      (rule14-as (h .before) (h .control) (h .header) (h .is-control) (h .run) (h .run′) (h .permuted) (h .class) (p .tail) l (runOf k) (runOf k′) runs-shuffled c e agree
+      (rule14-as (reordering h) (p .tail) l (runOf k) (runOf k′) runs-shuffled c e agree
       (subst (Rule14 (runOf k) c) (p .left) r))
 
 module _ {s s′ : List ℕ} (h : Shuffled s s′) (room : ℕ) where
