@@ -57,8 +57,10 @@ row-as m f g h (passed n r) = passed (λ w. n (g w)) (h r)
 pub blind-tables : BlindTables
 blind-tables = record {
   unit = λ x t u same o.
-      let k = same .each (at t (o .index)) .0 (record { index = o .index; inside = o .inside; is = refl }) in
-      record { index = k .index; inside = k .inside; unit = ap (λ (c : Control). c .unit) (k .is) ∙ o .unit };
+      let i = o .inside in
+      let k = same .each (at t (o .index)) .0 (record { index = o .index; inside = omega arith; is = refl }) in
+      let j = k .inside in
+      record { index = k .index; inside = omega arith; unit = ap (λ (c : Control). c .unit) (k .is) ∙ o .unit };
   addressed = λ s cs t u same a. record {
     each = λ c. (λ m. let h = a .each c .0 m in (same .each c .0 (h .0), h .1), λ h. a .each c .1 (same .each c .1 (h .0), h .1));
     rising = a .rising;
