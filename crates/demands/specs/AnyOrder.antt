@@ -2,14 +2,14 @@
 -- are accepted or both are refused with the same number, though places may differ. If accepted, the sheets hold the same records in another order,
 -- and the same run of loads and requests gets the same answers." It speaks of what the reader answers and leaves (readingOf, sheetOf) and of what
 -- loads and requests come to (loadOf, requestOf), as they stand.
---   Shuffled s s′        ==  the two differ only in the order of the descriptors of the run: the same bytes before (descriptors, the AudioControl
---                            interface's, the one behind it) and behind, and between them descriptors of type 24 that are permutations of each
---                            other. That either is accepted is not asked
+--   Shuffled s s′        ==  the two differ only in the order of the descriptors of the run, or of its first ones: the same bytes before (descriptors,
+--                            the AudioControl interface's, the one behind it) and behind, and between them descriptors of type 24 that are
+--                            permutations of each other (Permuted, of crate order). That either keeps a rule is not asked
 --   SameSheets s s′ d d′ ==  of the lent sheets d and d′: the same records, of 32 bytes each, in another order, and past the last the bytes as lent
 --   SameAnswers st st′   ==  in the two states every load, and every request with the same reply lent, has the same number, writes as many bytes and
 --                            leaves the same reply
---   SameReading s s′ d d′  ==  the same AudioControl number and counts, such sheets, the same controls in another order, and, after every run of loads
---                            and requests whose data are bytes, the same answers and the same controls
+--   SameReading s s′ d d′  ==  the same AudioControl number and counts, such sheets, the same controls in any order (SameControls, of crate order), and,
+--                            after every run of loads and requests whose data are bytes, the same answers and the same controls
 --   reordered t es       ==  the bytes of the configuration t with es in place of its run
 --   AnyOrder             ==  THE STATEMENT. every-order: each configuration that is accepted, and its run in any other order, are two such
 use Prim.Native.Nat.{ℕ, _*_}
