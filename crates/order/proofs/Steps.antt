@@ -22,8 +22,9 @@ use Rattle.table.specs.Controls.{at, placed, senseOf}
 use Rattle.table.specs.Keys.{Key, Bears, StandsAt, InTable}
 use Rattle.sound.specs.Meaning.{Sound, sound-counted}
 use Rattle.setup.specs.declared.Part.{Part}
-use Rattle.setup.specs.declared.Part.the-variants.{Cur, Min, Max, Res}
-use Rattle.setup.specs.Setup.{codeOf}
+use Rattle.setup.specs.declared.Target.{Target}
+use Rattle.setup.specs.declared.Asked.the-variants as asks
+use Rattle.setup.specs.Setup.{codeOf, targetOf, askedBy}
 use Rattle.setup.specs.Asking.{set-no-get}
 use Rattle.answers.specs.Answers.{allSet, cutTo}
 use Rattle.loads.specs.Load.{loadedWith}
@@ -44,6 +45,7 @@ use Rattle.runs.proofs.Shares.{set-long}
 use Rattle.runs.proofs.Refusals.{LoadNumber, load-30, load-20, load-21, RequestNumber, load-numbers, request-numbers}
 use Rattle.runs.proofs.Rows.{step-rows, step-row-one}
 use Rattle.runs.proofs.Alone.{step-sound}
+use Rattle.runs.proofs.InTurn.{get-asks}
 use Rattle.order.specs.Alike.{SameControls, SameState}
 use Rattle.order.specs.Blind.{BlindTables}
 
@@ -119,28 +121,13 @@ module _ (st su : State) (same : SameState st su) (sound : Sound (st .table)) (w
       go _ load-20 i = omega arith
       go _ load-21 i = omega arith
 
-  part-one : (a b : Part) → codeOf a ≡ codeOf b → a ≡ b
-  part-one Cur Cur e = refl
-  part-one Cur Min e = absurd (omega arith)
-  part-one Cur Max e = absurd (omega arith)
-  part-one Cur Res e = absurd (omega arith)
-  part-one Min Cur e = absurd (omega arith)
-  part-one Min Min e = refl
-  part-one Min Max e = absurd (omega arith)
-  part-one Min Res e = absurd (omega arith)
-  part-one Max Cur e = absurd (omega arith)
-  part-one Max Min e = absurd (omega arith)
-  part-one Max Max e = refl
-  part-one Max Res e = absurd (omega arith)
-  part-one Res Cur e = absurd (omega arith)
-  part-one Res Min e = absurd (omega arith)
-  part-one Res Max e = absurd (omega arith)
-  part-one Res Res e = refl
+  part-one : (g : Target) (a b : Part) → codeOf a ≡ codeOf b → a ≡ b
+  part-one g a b e = let i : asks.Get a g ≡ asks.Get b g = sym (get-asks g a) ∙ ap (askedBy g 0xA1) e ∙ get-asks g b in cc
 
   got-same : (s b c : List ℕ) → GetTaken t s b → GetTaken u s c → b ≡ c
   got-same s b c x y =
       x .given
-      ∙ ap (λ (p : Part). cutTo (word s 6) p (addressedBy t s)) (part-one (x .part) (y .part) (sym (x .code) ∙ y .code))
+      ∙ ap (λ (p : Part). cutTo (word s 6) p (addressedBy t s)) (part-one (targetOf s) (x .part) (y .part) (sym (x .code) ∙ y .code))
       ∙ ap (cutTo (word s 6) (y .part)) (addressed-same t u (same .controls) sound whole s)
       ∙ sym (y .given)
 
