@@ -170,46 +170,34 @@ module _ (re : Reordering) (x : List (List ℕ)) where
   whole-in : (w : List (List ℕ)) (d : List ℕ) → d ∈ wholeOf (reordering-back re) w → d ∈ wholeOf re w
   whole-in w d m = permuted-in (Permᴰ·append-left front (Permᴰ·append-right w (permuted-back (re .permuted)))) m
 
-  -- what is not of type 24 stands in both, behind the same descriptors
-  record Seen (b : List (List ℕ)) (d : List ℕ) (y : List (List ℕ)) : Type 0 where
-    ahead : List (List ℕ)
-    split : whole ≡ ahead ++ d ∷ y
-    among : (e : List ℕ) → e ∈ b → e ∈ ahead
+  -- an interface descriptor is none of the moved ones: it stands ahead of them or beyond
+  data Stands (b : List (List ℕ)) (d : List ℕ) (y : List (List ℕ)) : Type 0 where
+    ahead : (z : List (List ℕ)) → front ≡ b ++ d ∷ z → y ≡ z ++ (es ++ x) → Stands b d y
+    beyond : (w : List (List ℕ)) → b ≡ wholeOf (reordering-back re) w → x ≡ w ++ d ∷ y → Stands b d y
 
-  rule4-sees : (b : List (List ℕ)) (d : List ℕ) (y : List (List ℕ)) → moved ≡ b ++ d ∷ y → Interface d
-      → (rest : List (List ℕ)) × Seen b d rest
-  rule4-sees b d y e i = go (side (front) (es ++ x) b d y e)
+  stands : (b : List (List ℕ)) (d : List ℕ) (y : List (List ℕ)) → moved ≡ b ++ d ∷ y → Interface d → Stands b d y
+  stands b d y e i = go (side front (es ++ x) b d y e)
     where
-      inner : (z : List (List ℕ)) → b ≡ front ++ z → Side es x z d y → (rest : List (List ℕ)) × Seen b d rest
+      inner : (z : List (List ℕ)) → b ≡ front ++ z → Side es x z d y → Stands b d y
       inner z f (left w g h) = absurd (no-both d i (class-too d (along (sym g) (of-split z d w))))
-      inner z f (right w g h) = (
-        y,
-        record {
-          ahead = wholeOf re w;
-          split = whole-at w d y h;
-          among = λ c m. whole-in w c (along (f ∙ ap (λ (l : List (List ℕ)). front ++ l) g) m);
-        },
-      )
+      inner z f (right w g h) = beyond w (f ∙ ap (λ (l : List (List ℕ)). front ++ l) g) h
 
-      go : Side (front) (es ++ x) b d y → (rest : List (List ℕ)) × Seen b d rest
-      go (left z f g) = (
-        z ++ (ds ++ x),
-        record {
-          ahead = b;
-          split = ap (λ (l : List (List ℕ)). l ++ (ds ++ x)) f ∙ append-assoc b (d ∷ z) (ds ++ x);
-          among = λ c m. m;
-        },
-      )
+      go : Side front (es ++ x) b d y → Stands b d y
+      go (left z f g) = ahead z f g
       go (right z f g) = inner z f (side es x z d y g)
 
-  pub rule4-as : Rule4 (whole) → Rule4 (moved)
+  pub rule4-as : Rule4 whole → Rule4 moved
   unfolding Sound
   rule4-as r = record {
-    right = λ b d y e w. let k = rule4-sees b d y e (interface-of w) in r .right (k .1 .ahead) d (k .0) (k .1 .split) (wrong-in (k .1 .among) w);
+    right = λ b d y e w. right-too b d y (stands b d y e (interface-of w)) w;
     control = record { one = control; among = along (sym moved-split) (of-split before control (header ∷ (es ++ x))); has = re .is-control };
   }
+    where
+      right-too : (b : List (List ℕ)) (d : List ℕ) (y : List (List ℕ)) → Stands b d y → WrongInterface b d → ⊥
+      right-too b d y (ahead z f g) w = r .right b d (z ++ (ds ++ x)) (ap (λ (l : List (List ℕ)). l ++ (ds ++ x)) f ∙ append-assoc b (d ∷ z) (ds ++ x)) w
+      right-too b d y (beyond v f g) w = r .right (wholeOf re v) d y (whole-at v d y g) (wrong-in (λ c m. whole-in v c (along f m)) w)
 
-  pub opening-as : Opening (whole) → Opening (moved)
+  pub opening-as : Opening whole → Opening moved
   opening-as o = record { rule4 = rule4-as (o .rule4); before = before; control = control; tail = header ∷ (es ++ x); split = moved-split; is-control = re .is-control }
 
   pub rule5-as : (t u : List (List ℕ)) → t ≡ header ∷ (ds ++ x) → u ≡ header ∷ (es ++ x) → Rule5 t → Rule5 u
@@ -241,7 +229,7 @@ module _ (re : Reordering) (x : List (List ℕ)) where
             subst (λ (z : List ℕ). word z 5 ≡ length z + total (es ++ a .0)) q (omega arith);
       }
 
-  pub rule7-as : (l : List ℕ) → Rule7 (whole) l → Rule7 (moved) l
+  pub rule7-as : (l : List ℕ) → Rule7 whole l → Rule7 moved l
   rule7-as l r = record {
     distinct = r .distinct;
     known = λ k m. some-in (λ d i. permuted-in (Permᴰ·append-left (front) (Permᴰ·append-right x (re .permuted))) i) (r .known k m);
@@ -249,9 +237,9 @@ module _ (re : Reordering) (x : List (List ℕ)) where
   }
 
   -- a streaming group stands in both, with the same descriptors in it
-  module _ (b : List (List ℕ)) (i : List ℕ) (ms : List (List ℕ)) (g : Group (moved) b i ms) (a : Audio 2 i) where
+  module _ (b : List (List ℕ)) (i : List ℕ) (ms : List (List ℕ)) (g : Group moved b i ms) (a : Audio 2 i) where
     abbrev Found : Type 0
-    Found = (ahead : List (List ℕ)) × Group (whole) ahead i ms
+    Found = (ahead : List (List ℕ)) × Group whole ahead i ms
 
     abbrev behind : List (List ℕ)
     behind = control ∷ (header ∷ (ds ++ x))
@@ -287,33 +275,20 @@ module _ (re : Reordering) (x : List (List ℕ)) where
     not-last c z (y ∷ u ∷ []) e = nil≢cons (tail-eq-of-cons-eq (tail-eq-of-cons-eq e))
     not-last c z (y ∷ u ∷ v ∷ w) e = nil≢cons (tail-eq-of-cons-eq (tail-eq-of-cons-eq e))
 
-    -- behind the run
-    in-rest : (z : List (List ℕ)) → Side es x z i (ms ++ g .after) → Found
-    in-rest z (left w h k) = absurd (no-both i (a .0) (class-too i (along (sym h) (of-split z i w))))
-    in-rest z (right w h k) = (
-      wholeOf re w,
-      record {
-        after = g .after;
-        split = whole-at w i (ms ++ g .after) k;
-        inside = g .inside;
-        ends = g .ends;
-      },
-    )
-
     group-as : Class header → Found
-    group-as c = go (side (front) (es ++ x) b i (ms ++ g .after) (g .split))
+    group-as c = go (stands b i (ms ++ g .after) (g .split) (a .0))
       where
         first : (z : List (List ℕ)) → ms ++ g .after ≡ z ++ (es ++ x) → Side before (control ∷ header ∷ []) b i z → Found
         first z h (left w f k) =
             in-front w f (side ms (g .after) w control (header ∷ (es ++ x)) (h ∙ ap (λ (l : List (List ℕ)). l ++ (es ++ x)) k ∙ append-assoc w (control ∷ header ∷ []) (es ++ x)))
         first z h (right w f k) = absurd (not-last c z w k)
 
-        go : Side (front) (es ++ x) b i (ms ++ g .after) → Found
-        go (left z f h) = first z h (side before (control ∷ header ∷ []) b i z f)
-        go (right z f h) = in-rest z (side es x z i (ms ++ g .after) h)
+        go : Stands b i (ms ++ g .after) → Found
+        go (ahead z f h) = first z h (side before (control ∷ header ∷ []) b i z f)
+        go (beyond w f k) = (wholeOf re w, record { after = g .after; split = whole-at w i (ms ++ g .after) k; inside = g .inside; ends = g .ends })
 
   pub rule14-as : Class header → (run other : List (List ℕ)) → Permuted run other → (c e : ℕ → Cluster) → Agree run c e
-      → Rule14 run c (whole) → Rule14 other e (moved)
+      → Rule14 run c whole → Rule14 other e moved
   rule14-as h run other q c e agree r b i ms g a = let k = group-as b i ms g a h in stream-as (r (k .0) i ms (k .1) a)
     where
       described-as : {g f : List ℕ} → Described run c g f → Described other e g f

@@ -9,7 +9,7 @@ use mathlib.Core.Path.{_≡_, refl, sym, ap, _∙_, subst}
 use mathlib.Core.List.{List, [], _∷_, _++_, List·Memᴰ·head, List·Memᴰ·tail, List·Memᴰ·not-nil, List·Permᴰ·nil, List·Permᴰ·cons, List·Permᴰ·swap, List·Permᴰ·trans, Permᴰ·symm}
 use lib.ListN.{length}
 use native.Mathlib.Omega.{arith}
-use Rattle.ground.specs.Lists.{total}
+use Rattle.ground.specs.Lists.{total, of-split}
 use Rattle.graph.specs.Members.{_∈_}
 use Rattle.masks.specs.Order.{Pairs, none, more}
 use Rattle.clusters.specs.Collection.{SameMembers}
@@ -52,11 +52,7 @@ module _ {A : Type 0} where
 
     pub pairs-each : (x : List A) (a : A) (y : List A) → Pairs R (x ++ a ∷ y) → (b : A) → b ∈ x → R b a
     pairs-each [] a y h b i = absurd (List·Memᴰ·not-nil i)
-    pairs-each (c ∷ x) a y (more f h) b (List·Memᴰ·head q) = subst (λ (z : A). R z a) (sym q) (f a (inside x))
-      where
-        inside : (x : List A) → a ∈ (x ++ a ∷ y)
-        inside [] = List·Memᴰ·head refl
-        inside (d ∷ x) = List·Memᴰ·tail (inside x)
+    pairs-each (c ∷ x) a y (more f h) b (List·Memᴰ·head q) = subst (λ (z : A). R z a) (sym q) (f a (of-split x a y))
     pairs-each (c ∷ x) a y (more f h) b (List·Memᴰ·tail i) = pairs-each x a y h b i
 
 pub permuted-members : {ds es : List (List ℕ)} → Permuted ds es → SameMembers ds es
