@@ -9,8 +9,8 @@
 --   isNamed u ch s c, named-reads  ==  the test of that
 --   SeatedOn t u ch s c p  ==  .. and that is channel c; seat-named, named-seat: exactly that one has the channel's seat
 --   addressed-named, named-addressed  ==  the addressed indices are exactly those of the controls that are named
---   Upward t ps       ==  the channels of the controls at these indices rise strictly along the list
---   addressed-rising  ==  .. as those of the addressed controls do
+--   channelAt t p     ==  the channel of the control at index p
+--   addressed-rising  ==  the channels of the addressed controls rise along the list
 --   addressed-few     ==  no more are addressed than mostAddressed
 use Prim.Native.Nat.{ℕ, zero, suc, _+_, _≤_, _<_}
 use mathlib.Core.Path.{_≡_, refl, sym, ap, _∙_}
@@ -22,6 +22,7 @@ use native.Mathlib.Nat.{add-zero}
 use lib.Dec.{eqb, ltb}
 use lib.ListN.{length, length-append}
 use Rattle.ground.specs.Pick.{pick, Reads, decided, yes, reads-same, reads-true, reads-eq, reads-lt, reads-and}
+use Rattle.ground.specs.Rising.{Rising, none, more}
 use Rattle.table.specs.declared.Control.{Control}
 use Rattle.table.specs.declared.Table.{Table}
 use Rattle.table.specs.declared.Sense.{Sense}
@@ -193,16 +194,15 @@ module _ (t : Table) (u ch s : ℕ) where
         let l = sound-channel (senseOf (at t p .selector)) (at t p) (sound .each p (h .inside)) in
         of-seated 0 mostAddressed (at t p .channel) p (omega arith) (omega arith) (named-seat p h)
 
-pub data Upward (t : Table) : List ℕ → Type 0 where
-  none : Upward t []
-  more : {p : ℕ} {ps : List ℕ} → ((q : ℕ) → List·Memᴰ q ps → at t p .channel < at t q .channel) → Upward t ps → Upward t (p ∷ ps)
+abbrev pub channelAt : Table → ℕ → ℕ
+channelAt t p = at t p .channel
 
 module _ (t : Table) (u ch s : ℕ) where
-  one-up : (c : ℕ) (x : Seat) → seatAt t u ch s c ≡ x → (l : List ℕ) → ((q : ℕ) → List·Memᴰ q l → c < at t q .channel) → Upward t l → Upward t (indicesOf x ++ l)
+  one-up : (c : ℕ) (x : Seat) → seatAt t u ch s c ≡ x → (l : List ℕ) → ((q : ℕ) → List·Memᴰ q l → c < at t q .channel) → Rising (channelAt t) l → Rising (channelAt t) (indicesOf x ++ l)
   one-up c absent e l h g = g
-  one-up c (seat p) e l h g = more {p = p} (λ q m. let a = seat-named t u ch s c p e .on in let b = h q m in omega arith) g
+  one-up c (seat p) e l h g = more {x = p} (λ q m. let a = seat-named t u ch s c p e .on in let b = h q m in omega arith) g
 
-  seats-up : (c n : ℕ) → Upward t (seatsFrom t u ch s c n)
+  seats-up : (c n : ℕ) → Rising (channelAt t) (seatsFrom t u ch s c n)
   unfolding seatsFrom
   seats-up c zero = none
   seats-up c (suc n) =
@@ -214,7 +214,7 @@ module _ (t : Table) (u ch s : ℕ) where
       omega arith)
       (seats-up (suc c) n)
 
-  pub addressed-rising : Upward t (addressedIn t u ch s)
+  pub addressed-rising : Rising (channelAt t) (addressedIn t u ch s)
   addressed-rising = seats-up 0 mostAddressed
 
   pub addressed-few : length (addressedIn t u ch s) ≤ mostAddressed

@@ -21,10 +21,10 @@ missingBy true = 34
 missingBy false = 33
 
 abbrev pub noneSought : ℕ → Sought
-noneSought n = record { number = n; count = 0; places = replicate mostAddressed 0 }
+noneSought n = record { number = n; count = 0; indices = replicate mostAddressed 0 }
 
 abbrev pub toldOf : Bool → List ℕ → Sought
-toldOf b ps = record { number = pick (ltb 0 (length ps)) 0 (missingBy b); count = length ps; places = pad 0 mostAddressed ps }
+toldOf b ps = record { number = pick (ltb 0 (length ps)) 0 (missingBy b); count = length ps; indices = pad 0 mostAddressed ps }
 
 abbrev pub soughtFor : Table → ℕ → List ℕ → Sought
 soughtFor t u ps = toldOf (unitIn t u) ps

@@ -17,22 +17,22 @@ use table::Table;
 pub const MOST: usize = 17;
 
 // What a request asks of a table: 30, 33 or 34 where the table is none, or the unit or the control is missing; else 0. The addressed
-// controls stand at the first `count` of `places`, from the lowest channel up; the rest are 0.
+// controls stand at the first `count` of `indices`, from the lowest channel up; the rest are 0.
 pub struct Sought {
     pub number: u8,
     pub count: usize,
-    pub places: [u8; MOST],
+    pub indices: [u8; MOST],
 }
 
 // No control is addressed, for the reason of this number.
 fn none(number: u8) -> Sought
     ensures { λ r. ⌜ r ≡ noneSought number ⌝ }
 {
-    let places = [0u8; MOST];
+    let indices = [0u8; MOST];
     Sought {
         number,
         count: 0,
-        places,
+        indices,
     }
 }
 
@@ -83,13 +83,13 @@ fn seated(seat: u8, index: usize, control: Control, unit: u8, channel: u8, selec
 fn told(seats: &[u8; MOST], owned: bool) -> Sought
     ensures { λ r. ⌜ r ≡ toldOf owned (seatedIn (now (seats .entry)) mostAddressed) ⌝ }
 {
-    let mut places = [0u8; MOST];
+    let mut indices = [0u8; MOST];
     let mut count = 0;
     let mut of = 0;
     while of < MOST {
         let seat = seats[of];
         if 0 < seat {
-            places[count] = seat - 1;
+            indices[count] = seat - 1;
             count += 1;
         }
         of += 1;
@@ -98,7 +98,7 @@ fn told(seats: &[u8; MOST], owned: bool) -> Sought
     Sought {
         number,
         count,
-        places,
+        indices,
     }
 }
 

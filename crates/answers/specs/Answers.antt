@@ -6,8 +6,10 @@
 --   allTake cs d           ==  each control takes the number that is sent to it
 --   allSet cs d            ==  each control with what is stored for that number
 --   blockOf part cs        ==  the bytes of that part of each control, one after another, each at its size
---   misfits cs n d         ==  37, of a Set: "wLength is not the control's size, or Set data is not that long"
---   setNumber u t z n l, getNumber k u z room  ==  the rows in their order, from what each asks of all controls together; 0 where none is given
+--   wrongSize z n l        ==  37, of a Set: "wLength is not the control's size, or Set data is not that long"; misfits cs n d: of these controls
+--   setRows deny o u t z n l, getRows deny o k u z room  ==  the rows in their order, from what each asks of all controls together: what deny
+--                              makes of the number of the first that is given, and o where none is
+--   setNumber u t z n l, getNumber k u z room  ==  .. as a number, 0 where none is given
 --   setOf cs n d           ==  36, 37, 38, or the controls as the Set leaves them; n is wLength
 --   cutTo n part cs        ==  the bytes to be sent: "the first wLength bytes of the value, or all of it if wLength is larger"
 --   getOf part cs n room   ==  35, 36, 39: "the reply buffer is shorter than the bytes to be sent", or those bytes; room is the reply's length
@@ -22,7 +24,8 @@ use Rattle.table.specs.declared.Control.{Control}
 use Rattle.table.specs.declared.Sense.{Sense}
 use Rattle.table.specs.Controls.{senseOf, sizeOf}
 use Rattle.setup.specs.declared.Part.{Part}
-use Rattle.deed.specs.Doing.{Doing, lowFirst}
+use Rattle.deed.specs.Doing.{Doing}
+use Rattle.deed.specs.Reply.{lowFirst}
 use Rattle.deed.specs.Doing.Doing.{denied, given, changed}
 use Rattle.answers.specs.declared.SetAsks.{SetAsks}
 use Rattle.answers.specs.declared.GetAsks.{GetAsks}
@@ -65,27 +68,30 @@ unfoldable pub blockOf : Part → List Control → List ℕ
 blockOf part [] = []
 blockOf part (c ∷ cs) = lowFirst (sizeIn c) (partOf part c) ++ blockOf part cs
 
+abbrev pub wrongSize : ℕ → ℕ → ℕ → Bool
+wrongSize z n l = not (eqb n z) || not (eqb l z)
+
 abbrev pub misfits : List Control → ℕ → List ℕ → Bool
-misfits cs n d = not (eqb n (sizesOf cs)) || not (eqb (length d) (sizesOf cs))
+misfits cs n d = wrongSize (sizesOf cs) n (length d)
+
+abbrev pub setRows : {A : Type 0} → (ℕ → A) → A → Bool → Bool → ℕ → ℕ → ℕ → A
+setRows deny o u t z n l = pick u (deny 36) (pick (wrongSize z n l) (deny 37) (pick t o (deny 38)))
+
+abbrev pub getRows : {A : Type 0} → (ℕ → A) → A → Bool → Bool → ℕ → ℕ → A
+getRows deny o k u z room = pick k (deny 35) (pick u (deny 36) (pick (ltb room z) (deny 39) o))
 
 unfoldable pub setNumber : Bool → Bool → ℕ → ℕ → ℕ → ℕ
-setNumber u t z n l = pick u 36 (pick (not (eqb n z) || not (eqb l z)) 37 (pick t 0 38))
+setNumber u t z n l = setRows (λ number. number) 0 u t z n l
 
 unfoldable pub getNumber : Bool → Bool → ℕ → ℕ → ℕ
-getNumber k u z room = pick k 35 (pick u 36 (pick (ltb room z) 39 0))
+getNumber k u z room = getRows (λ number. number) 0 k u z room
 
 unfoldable pub setOf : List Control → ℕ → List ℕ → Doing
-setOf cs n d =
-    pick (any (λ c. unready (heldBy c) c) cs) (denied 36)
-    (pick (misfits cs n d) (denied 37)
-    (pick (allTake cs d) (changed (allSet cs d)) (denied 38)))
+setOf cs n d = setRows denied (changed (allSet cs d)) (any (λ c. unready (heldBy c) c) cs) (allTake cs d) (sizesOf cs) n (length d)
 
 abbrev pub cutTo : ℕ → Part → List Control → List ℕ
 cutTo n part cs = take n (blockOf part cs)
 
 unfoldable pub getOf : Part → List Control → ℕ → ℕ → Doing
 getOf part cs n room =
-    pick (any (λ c. lacking (heldBy c) part) cs) (denied 35)
-    (pick (any (λ c. unready (heldBy c) c) cs) (denied 36)
-    (pick (ltb room (length (cutTo n part cs))) (denied 39)
-    (given (cutTo n part cs))))
+    getRows denied (given (cutTo n part cs)) (any (λ c. lacking (heldBy c) part) cs) (any (λ c. unready (heldBy c) c) cs) (length (cutTo n part cs)) room

@@ -24,7 +24,8 @@ use Rattle.table.specs.declared.Sense.the-variants.{Unknown, YesNo, Ranged, Pin
 use Rattle.table.specs.Controls.{sizeOf}
 use Rattle.setup.specs.declared.Part.{Part}
 use lib.Dec.{eqb, ltb}
-use Rattle.deed.specs.Doing.{Doing, bytesIn, lowFirst, low-first-long}
+use Rattle.deed.specs.Doing.{Doing, bytesIn}
+use Rattle.deed.specs.Reply.{lowFirst, low-first-long}
 use Rattle.deed.specs.Doing.Doing.{denied, given, changed}
 use Rattle.answers.specs.Held.{lacking, partOf, unready, valueIn, takes, storedFor, withCur}
 use Rattle.answers.specs.Answers.{heldBy, sizeIn, sizesOf, sentTo, restOf, allTake, allSet, blockOf, misfits, cutTo, setNumber, getNumber, setOf, getOf}

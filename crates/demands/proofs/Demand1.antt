@@ -14,7 +14,7 @@ use Rattle.reader.proofs.Exactly.{accepted-exactly, refused-exactly}
 use Rattle.reader.proofs.Shows.{number-told}
 use Rattle.request.specs.declared.State.{State}
 use Rattle.request.specs.declared.Answer.{Answer}
-use Rattle.deed.specs.Doing.{laid}
+use Rattle.deed.specs.Reply.{laid}
 use Rattle.request.specs.Outcome.{Outcome, numberOf, bytesOf, answerOf, Answered}
 use Rattle.request.specs.Outcome.Outcome.{refused, got, done}
 use Rattle.request.specs.Load.{loadOf}

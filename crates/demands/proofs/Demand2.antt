@@ -11,6 +11,7 @@ use Rattle.request.specs.declared.State.{State}
 use Rattle.request.specs.declared.Plugged.{Plugged}
 use Rattle.request.specs.Plugged.{PluggedIn}
 use Rattle.runs.specs.Runs.{Step, after, Wired}
+use Rattle.runs.proofs.Addressing.{addressed-found}
 use Rattle.runs.proofs.Alone.{alone, run-interface, run-sound}
 use Rattle.runs.proofs.Answers.{next-get, get-keeps, next-set, set-silent, next-load, get-answers}
 use Rattle.runs.proofs.Moved.{whole-run}
@@ -24,6 +25,7 @@ runs-so st h run w =
     record {
       sound = s;
       interface = run-interface st run;
+      addressed = λ setup. addressed-found (after st run .table) setup s;
       numbers = step-rows (after st run);
       next-get = next-get (after st run);
       get-keeps = get-keeps (after st run);

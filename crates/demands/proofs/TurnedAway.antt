@@ -13,10 +13,10 @@ use Rattle.setting.specs.Setting.{fitsOf, legalOf, wholeSteps, onGrid, availabl
 use Rattle.table.specs.Controls.{senseOf, answersTo}
 use Rattle.table.specs.First.{foundIn}
 use Rattle.single.specs.Tests.{narrowOf, soundYesNo, soundPin, soundRanged, soundBy, soundControl}
-use Rattle.sound.specs.Sound.{firstThere, soundPlace, soundOf}
+use Rattle.sound.specs.Sound.{firstThere, soundAt, soundOf}
 use Rattle.address.specs.Addressed.{wantsChannel, seatsFrom, unitIn}
 use Rattle.setup.specs.Setup.{getAsked, askedBy, askedOf}
-use Rattle.deed.specs.Doing.{laid, lowFirst}
+use Rattle.deed.specs.Reply.{laid, lowFirst}
 use Rattle.answers.specs.Held.{lacking, unready, valueIn}
 use Rattle.answers.specs.Answers.{sizesOf, allTake, allSet, blockOf, setOf, getOf}
 use Rattle.topology.specs.declared.Reading.{Reading}
@@ -71,7 +71,7 @@ record Mutes : Type 0 where
   two-sets : bytesOf (requestOf (muted (muted caseState 1) 0) getMute [] 1) ≡ 0 ∷ []
 
 mutes : Mutes
-unfolding requestOf answerAsked doneAt elsewhereBy storedAt wantsChannel seatsFrom askedOf askedBy getAsked setOf getOf any sizesOf allTake allSet blockOf valueIn unready lacking lowFirst soundOf soundPlace firstThere soundControl soundBy soundYesNo soundPin soundRanged narrowOf foundIn unitIn firstIn somewhere everywhere senseOf answersTo fitsOf legalOf availableOf onGrid wholeSteps nearer closestHeight closestSetting closestTo
+unfolding requestOf answerAsked doneAt elsewhereBy storedAt wantsChannel seatsFrom askedOf askedBy getAsked setOf getOf any sizesOf allTake allSet blockOf valueIn unready lacking lowFirst soundOf soundAt firstThere soundControl soundBy soundYesNo soundPin soundRanged narrowOf foundIn unitIn firstIn somewhere everywhere senseOf answersTo fitsOf legalOf availableOf onGrid wholeSteps nearer closestHeight closestSetting closestTo
 mutes = record { answered = refl; one-set = refl; two-sets = refl }
 
 module _ (answers : State → List ℕ → List ℕ → List ℕ → Answer) (leaves : State → List ℕ → List ℕ → List ℕ → List ℕ) where

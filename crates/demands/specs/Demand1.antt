@@ -25,7 +25,7 @@ use Rattle.topology.specs.Reading.{readingOf, sheetOf}
 use Rattle.reader.specs.Refusals.{Refused, Shown}
 use Rattle.request.specs.declared.State.{State}
 use Rattle.request.specs.declared.Answer.{Answer}
-use Rattle.deed.specs.Doing.{laid}
+use Rattle.deed.specs.Reply.{laid}
 use Rattle.request.specs.Outcome.{numberOf, answerOf, Answered}
 use Rattle.request.specs.Load.{loadOf}
 use Rattle.request.specs.Request.{requestOf}

@@ -4,13 +4,14 @@
 -- reading is stands in Demand3; here are the runs that begin with a plug-in.
 --   now-is st run   ==  the state that the run leaves; Accepted st run step: the next step is accepted in it
 --   EveryRun st run ==  what is true of every run of loads and requests from the state st. Refusal 30 has nothing against the table it
---                       leaves, and the AudioControl number is what it was. Of the next step: it has the number of the first row of
---                       the papers' table that applies, 0 where none does; an accepted Get returns the first wLength bytes of the
---                       addressed controls', and no Get changes the table; an accepted Set stores in each the closest available
---                       setting to its own value, and no Set writes to the reply; an accepted load stores the range and that; every
---                       other control is as it was; and a request of several controls is the single requests one after another.
---                       Over the whole run: each control is what its last accepted load and Set made it, and so each accepted Get
---                       is answered
+--                       leaves, the AudioControl number is what it was, and the controls that the words of a run find addressed
+--                       (addressedBy, by which numbersIn goes) are those of the papers' words, Addressed. Of the next step: it has the
+--                       number of the first row of the papers' table that applies, 0 where none does; an accepted Get returns the
+--                       first wLength bytes of the addressed controls', and no Get changes the table; an accepted Set stores in each
+--                       the closest available setting to its own value, and no Set writes to the reply; an accepted load stores the
+--                       range and that; every other control is as it was; and a request of several controls is the single requests
+--                       one after another. Over the whole run: each control is what its last accepted load and Set made it, and so
+--                       each accepted Get is answered
 --   Demand2         ==  whatever is plugged in, the table is as document 01 has it before any load: first values, nothing loaded, spare
 --                       places zero; and all that is true of every run from that state whose data are bytes (Wired), as every lent
 --                       slice's are
@@ -28,7 +29,7 @@ use Rattle.request.specs.declared.State.{State}
 use Rattle.request.specs.declared.Plugged.{Plugged}
 use Rattle.request.specs.Outcome.{numberOf, bytesOf}
 use Rattle.request.specs.Plugged.{PluggedIn}
-use Rattle.runs.specs.Runs.{Step, stepOf, next, after, rangesIn, numbersIn, told, Wired}
+use Rattle.runs.specs.Runs.{addressedBy, Step, stepOf, next, after, rangesIn, numbersIn, told, Wired}
 use Rattle.runs.specs.Runs.Step.{load, request}
 use Rattle.runs.specs.RequestRows.{Addressed, stepRows}
 use Rattle.runs.specs.InTurn.{InTurn}
@@ -45,6 +46,7 @@ module _ (st : State) (run : List Step) where
   pub record EveryRun : Type 0 where
     pub sound : Sound (now-is .table)
     pub interface : now-is .control ≡ st .control
+    pub addressed : (setup : List ℕ) → Addressed (now-is .table) setup (addressedBy (now-is .table) setup)
     pub numbers : (step : Step) → stepRows now-is step (numberOf (stepOf now-is step))
     pub next-get : (setup «data» : List ℕ) (room : ℕ) → AsksGet setup → Accepted (request setup «data» room)
         → GetGiven (now-is .table) setup (bytesOf (stepOf now-is (request setup «data» room)))

@@ -11,8 +11,8 @@ use native.Mathlib.Omega.{arith}
 use borrow.Author.Tests.{lt-ltb}
 use Rattle.ground.specs.Pick.{yes}
 use Rattle.graph.specs.Members.{_∈_}
-use Rattle.differences.specs.InTurn.{inTurn, of-turn, AtMostOne, turn-few, Rising, turn-rising}
-use Rattle.differences.specs.InTurn.Rising.{none as nothing, more}
+use Rattle.ground.specs.Rising.{Rising, none as nothing, more}
+use Rattle.differences.specs.InTurn.{inTurn, of-turn, AtMostOne, turn-few, turn-rising}
 use Rattle.differences.specs.Lines.{Line, lineId, lastId, lineAt, linesOf, firstAbove}
 use Rattle.differences.specs.LinesLaws.{line-own, line-few, passed}
 use Rattle.differences.specs.Exact.{toldThen, called, EveryCall}

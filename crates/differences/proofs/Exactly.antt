@@ -13,7 +13,8 @@ use Rattle.ground.specs.Numbers.{byte, Bytes}
 use Rattle.ground.specs.Lists.{Some}
 use Rattle.graph.specs.Members.{_∈_, along}
 use Rattle.legal.specs.Sheet.{recordsIn, idOf, Sheet}
-use Rattle.differences.specs.InTurn.{in-turn, of-turn, turn-rising, rising-one}
+use Rattle.ground.specs.Rising.{rising-one}
+use Rattle.differences.specs.InTurn.{in-turn, of-turn, turn-rising}
 use Rattle.differences.specs.Mended.{compared-same, mended, mended-byte, mended-id}
 use Rattle.differences.specs.Lines.{Line, lineId, lastId, recordOf, differing, changedLine, lineOf, lineAt, linesOf}
 use Rattle.differences.specs.Lines.Line.{leftOnly, rightOnly, changed}

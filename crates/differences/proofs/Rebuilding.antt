@@ -1,4 +1,5 @@
 -- The right sheet's set of records, built again from the left one's records and the lines.
+--   own-record     ==  the record of an ID in a sheet is the one that bears it
 --   rebuilt-right  ==  THE THEOREM, for every two sheets
 use Prim.Native.Nat.{ℕ, _≤_, _<_}
 use mathlib.Core.Path.{_≡_, refl, sym, ap, _∙_}
@@ -14,7 +15,7 @@ use Rattle.graph.specs.Members.{_∈_, along}
 use Rattle.legal.specs.Sheet.{recordsIn, idOf, Sheet}
 use Rattle.differences.specs.Mended.{mended}
 use Rattle.differences.specs.Lines.{Line, lineId, lastId, recordOf, lineAt, linesOf}
-use Rattle.differences.specs.Rebuilt.{Handed, handed, named, untouched, if-any, brought, rebuilt, Rebuilt}
+use Rattle.differences.specs.Rebuilt.{Handed, handed, OwnRecord, named, untouched, if-any, brought, rebuilt, Rebuilt}
 use Rattle.differences.specs.LinesLaws.{line-own}
 use Rattle.differences.specs.InTurn.{of-turn}
 use Rattle.differences.proofs.Records.{found-is, record-found, id-above, id-below}
@@ -62,6 +63,9 @@ of-brought (k ∷ hs) {b} m =
     held : (x : Option (List ℕ)) → b ∈ if-any x → x ≡ some b
     held none n = absurd (List·Memᴰ·not-nil n)
     held (some c) n = ⊎-elim (λ (e : b ≡ c). ap (λ (d : List ℕ). some d) (sym e)) (λ t. absurd (List·Memᴰ·not-nil t)) (List·Memᴰ·cases-cons n)
+
+pub own-record : (r : List ℕ) → Sheet r → OwnRecord r
+own-record r right i b = (λ e. found-is r i e, λ m. ap (recordOf r) (sym (m .1)) ∙ record-found r right (m .0))
 
 module _ (l r : List ℕ) where
   abbrev given : List Handed

@@ -25,7 +25,8 @@ use Rattle.graph.specs.Borne.{bears}
 use Rattle.records.specs.Records.{recordSize}
 use Rattle.legal.specs.Sheet.{countIn, recordAt, recordsBy, recordsIn, idOf, idAt, Sheet}
 use Rattle.legal.specs.SheetLaws.{record-id, in-records, records-long}
-use Rattle.differences.specs.InTurn.{inTurn, in-turn, of-turn, AtMostOne, Rising, turn-rising}
+use Rattle.ground.specs.Rising.{Rising}
+use Rattle.differences.specs.InTurn.{inTurn, in-turn, of-turn, AtMostOne, turn-rising}
 use Rattle.differences.specs.InTurn.AtMostOne.{nothing, one}
 use Rattle.differences.specs.Mended.{SameByte, same-compared, comparedAs, reads-same-byte, mended, mended-long, mended-byte}
 use Rattle.differences.specs.Lines.{lastId, recordOf, differs, differing}

@@ -20,7 +20,7 @@ use Rattle.differences.specs.WhatChanged.JudgedPair.{by-left, by-right}
 use Rattle.differences.proofs.Exactly.{LineSays, line-of, lines-exact, no-line}
 use Rattle.differences.proofs.Exactly.LineSays.{says-left, says-right, says-changed}
 use Rattle.differences.proofs.Calls.{every-call}
-use Rattle.differences.proofs.Rebuilding.{rebuilt-right}
+use Rattle.differences.proofs.Rebuilding.{own-record, rebuilt-right}
 
 module _ (l r : List ℕ) where
   pair-judged : JudgedPair l r (pairNumber l r)
@@ -62,4 +62,5 @@ what-changed = record {
   exact = λ l r s. lines-exact l r (s .left) (s .right) (s .left-bytes) (s .right-bytes);
   no-line = λ l r s. no-line l r (s .left) (s .right) (s .left-bytes) (s .right-bytes);
   rebuilt = λ l r s. rebuilt-right l r (s .left) (s .right) (s .left-bytes) (s .right-bytes);
+  own-record = λ l r s. own-record r (s .right);
 }

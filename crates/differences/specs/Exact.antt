@@ -16,10 +16,10 @@ use mathlib.Core.Logic.{_↔_}
 use mathlib.Core.List.{List, [], _∷_, map}
 use Rattle.ground.specs.Numbers.{byte}
 use Rattle.ground.specs.Lists.{Some}
+use Rattle.ground.specs.Rising.{Rising}
 use Rattle.graph.specs.Members.{_∈_}
 use Rattle.records.specs.Records.{recordSize}
 use Rattle.legal.specs.Sheet.{recordsIn, idOf}
-use Rattle.differences.specs.InTurn.{Rising}
 use Rattle.differences.specs.Mended.{SameByte, mended}
 use Rattle.differences.specs.Lines.{Line, lineId, lastId, linesOf, firstAbove}
 use Rattle.differences.specs.Lines.Line.{leftOnly, rightOnly, changed}

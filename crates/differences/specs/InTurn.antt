@@ -4,9 +4,7 @@
 --   turn-same        ==  functions that agree at these numbers give the same
 --   AtMostOne l      ==  l has no member or one
 --   turn-few         ==  where t gives at most one at a number, k numbers give at most k
---   Rising key l     ==  the keys rise along l, so that no key stands twice
 --   turn-rising      ==  where t gives at most one at a number, and its key is that number, the keys rise
---   rising-one       ==  rising numbers with the same members are the same
 use Prim.Native.Nat.{ℕ, zero, suc, _+_, _≤_, _<_}
 use mathlib.Core.Path.{_≡_, refl, sym, ap, _∙_}
 use mathlib.Core.Logic.{_⊎_, inl, inr, ⊎-elim, _↔_}
@@ -14,6 +12,7 @@ use mathlib.Core.List.{List, [], _∷_, _++_, List·Memᴰ·head, List·Memᴰ·
 use lib.ListN.{length}
 use native.Mathlib.Omega.{arith}
 use native.Mathlib.Nat.{eq-or-lt-of-le}
+use Rattle.ground.specs.Rising.{Rising, none, more}
 use Rattle.graph.specs.Members.{_∈_, along}
 
 module _ {X : Type 0} where
@@ -58,10 +57,6 @@ module _ {X : Type 0} where
       go [] nothing h = omega arith
       go (x ∷ []) one h = omega arith
 
-  pub data Rising (key : X → ℕ) : List X → Type 0 where
-    none : Rising key []
-    more : {x : X} {l : List X} → ((y : X) → y ∈ l → key x < key y) → Rising key l → Rising key (x ∷ l)
-
   pub turn-rising : (key : X → ℕ) (t : ℕ → List X) → ((j : ℕ) → AtMostOne (t j)) → ((j : ℕ) (x : X) → x ∈ t j → key x ≡ j)
       → (i k : ℕ) → Rising key (inTurn t i k)
   unfolding inTurn
@@ -79,24 +74,3 @@ module _ {X : Type 0} where
               let e : key x ≡ i = o x (List·Memᴰ·head refl) in
               let f : key y ≡ a .0 = own (a .0) y (a .3) in
               omega arith
-
-pub rising-one : {x y : List ℕ} → Rising (λ n. n) x → Rising (λ n. n) y → ((n : ℕ) → n ∈ x ↔ n ∈ y) → x ≡ y
-rising-one none none h = refl
-rising-one none (more {x = b} f r) h = absurd (List·Memᴰ·not-nil (h b .1 (List·Memᴰ·head refl)))
-rising-one (more {x = a} f r) none h = absurd (List·Memᴰ·not-nil (h a .0 (List·Memᴰ·head refl)))
-rising-one (more {x = a} {l = x} f r) (more {x = b} {l = y} g s) h =
-    rw heads (ap (λ (l : List ℕ). b ∷ l) (rising-one r s (λ n. (to n, of n))))
-  where
-    first : (a ≡ b) ⊎ (a ∈ y) → (b ≡ a) ⊎ (b ∈ x) → a ≡ b
-    first (inl e) q = e
-    first (inr m) (inl e) = sym e
-    first (inr m) (inr k) = let p = g a m in let q = f b k in absurd (omega arith)
-
-    heads : a ≡ b
-    heads = first (List·Memᴰ·cases-cons (h a .0 (List·Memᴰ·head refl))) (List·Memᴰ·cases-cons (h b .1 (List·Memᴰ·head refl)))
-
-    to : (n : ℕ) → n ∈ x → n ∈ y
-    to n m = ⊎-elim (λ (e : n ≡ b). let p = f n m in let q = heads in absurd (omega arith)) (λ k. k) (List·Memᴰ·cases-cons (h n .0 (List·Memᴰ·tail m)))
-
-    of : (n : ℕ) → n ∈ y → n ∈ x
-    of n m = ⊎-elim (λ (e : n ≡ a). let p = g n m in let q = heads in absurd (omega arith)) (λ k. k) (List·Memᴰ·cases-cons (h n .1 (List·Memᴰ·tail m)))

@@ -2,6 +2,7 @@
 -- 02, No. 4), up to a Selector's kind, 05 or 15 hex (No. 6).
 --   Handed          ==  a line with the right one's record; a line for an ID that stands on the left only has none
 --   handed r ls     ==  the lines ls, each with the record of its ID in r
+--   OwnRecord r     ==  the record of an ID in r is the one that bears it, and there is none exactly where no record does, whatever finds it
 --   named hs a      ==  the test that one of the lines bears the ID of the record a
 --   untouched rs hs ==  those of the records rs whose ID no line bears
 --   if-any x        ==  the record x, if there is one
@@ -10,6 +11,7 @@
 --                       handed over comes in
 --   Rebuilt l r     ==  for the sheets l and r it has exactly the records of r, but for that byte
 use Prim.Native.Nat.{ℕ}
+use mathlib.Core.Path.{_≡_}
 use mathlib.Core.Bool.{Bool}
 use mathlib.Core.Option.{Option, none, some}
 use mathlib.Core.Logic.{_↔_}
@@ -28,6 +30,9 @@ pub record Handed : Type 0 where
 
 abbrev pub handed : List ℕ → List Line → List Handed
 handed r ls = map (λ x. record { line = x; after = recordOf r (lineId x) }) ls
+
+abbrev pub OwnRecord : List ℕ → Type 0
+OwnRecord r = (i : ℕ) (b : List ℕ) → (recordOf r i ≡ some b) ↔ (b ∈ recordsIn r × (idOf b ≡ i))
 
 abbrev pub named : List Handed → List ℕ → Bool
 named hs a = any (λ h. eqb (lineId (h .line)) (idOf a)) hs

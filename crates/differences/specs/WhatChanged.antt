@@ -5,7 +5,8 @@
 --   WhatChanged       ==  the number of two slices is the paper's, and there is no other (refused, one-number); what `next` tells is a line, the
 --                         first above the number asked for (told-whole), and calls from 0 on tell every line (every-call); the lines of two
 --                         sheets are exact (exact), are none exactly for the same set of records (no-line), and the right sheet's records
---                         can be built again from them (rebuilt)
+--                         can be built again from them (rebuilt), with the record of each line's ID, which is the one that bears it
+--                         (own-record)
 use Prim.Native.Nat.{ℕ}
 use mathlib.Core.Path.{_≡_}
 use mathlib.Core.List.{List}
@@ -13,7 +14,7 @@ use Rattle.ground.specs.Numbers.{Bytes}
 use Rattle.legal.specs.Sheet.{Sheet, Judged}
 use Rattle.differences.specs.Lines.{linesOf, firstAbove, told, lineTold, pairNumber}
 use Rattle.differences.specs.Exact.{Exact, NoLine, EveryCall}
-use Rattle.differences.specs.Rebuilt.{Rebuilt}
+use Rattle.differences.specs.Rebuilt.{Rebuilt, OwnRecord}
 
 pub data JudgedPair (l r : List ℕ) (n : ℕ) : Type 0 where
   by-left : Judged l n → (n ≡ 0 → ⊥) → JudgedPair l r n
@@ -33,3 +34,4 @@ pub record WhatChanged : Type 0 where
   pub exact : (l r : List ℕ) → Sheets l r → Exact l r
   pub no-line : (l r : List ℕ) → Sheets l r → NoLine l r
   pub rebuilt : (l r : List ℕ) → Sheets l r → Rebuilt l r
+  pub own-record : (l r : List ℕ) → Sheets l r → OwnRecord r

@@ -4,6 +4,7 @@
 --   tabulateFrom i k f  ==  f i, .. f (i + k - 1)
 --   below n             ==  0, 1, .. n - 1
 --   getD-tabulate, length-tabulate  ==  what stands in a table, and its length
+--   tabulate-more       ==  a table with one place more
 --   tabulate-same, map-tabulate     ==  tables of functions that agree, and a mapped table
 --   tabulate-getD       ==  the table of a list's own places is that list
 --   lt-below, below-lt, length-below  ==  the members of below n are the numbers below n
@@ -46,6 +47,16 @@ module _ {X : Type 0} where
 
   pub length-tabulate : (k : ℕ) (f : ℕ → X) → length (tabulate k f) ≡ k
   length-tabulate = length-tabulateFrom 0
+
+  from-more : (i k : ℕ) (f : ℕ → X) → tabulateFrom i (suc k) f ≡ tabulateFrom i k f ++ f (i + k) ∷ []
+  unfolding tabulateFrom
+  from-more i zero f = ap (λ (j : ℕ). f j ∷ []) (sym (add-zero i))
+  from-more i (suc k) f =
+      let q : suc i + k ≡ i + suc k = omega arith in
+      ap (λ (l : List X). f i ∷ l) (from-more (suc i) k f ∙ ap (λ (j : ℕ). tabulateFrom (suc i) k f ++ f j ∷ []) q)
+
+  pub tabulate-more : (k : ℕ) (f : ℕ → X) → tabulate (suc k) f ≡ tabulate k f ++ f k ∷ []
+  tabulate-more k f = from-more 0 k f ∙ ap (λ (j : ℕ). tabulate k f ++ f j ∷ []) (zero-add k)
 
   tabulateFrom-same : (i k : ℕ) (f g : ℕ → X) → ((j : ℕ) → j < i + k → f j ≡ g j) → tabulateFrom i k f ≡ tabulateFrom i k g
   unfolding tabulateFrom

@@ -21,6 +21,7 @@
 --   total-one  ==  the lengths of the parts up to an index, and that part's own
 --   total-rises  ==  where each part has an element, more parts are longer together
 --   pad-length, pad-blank, pad-at, pad-front  ==  how many places; all of them spare; one of them; the taken ones
+--   pad-full, pad-more  ==  all places taken; more spare places behind them
 --   pad-set    ==  filling the next spare place; past the last place nothing changes
 use Prim.Native.Nat.{ℕ, zero, suc, _+_, _-_, _≤_, _<_, min}
 use mathlib.Core.Path.{_≡_, refl, sym, ap, _∙_}
@@ -242,3 +243,18 @@ front-one P (a ∷ x) y [] y′ e h h′ k k′ = absurd (go k′ e)
 front-one P (a ∷ x) y (a′ ∷ x′) y′ e h h′ k k′ =
     let r = front-one P x y x′ y′ (tail-eq-of-cons-eq e) (λ b m. h b (List·Memᴰ·tail m)) (λ b m. h′ b (List·Memᴰ·tail m)) k k′ in
     (rw (head-eq-of-cons-eq e, r .0) refl, r .1)
+
+pub pad-full : {A : Type 0} (b : A) (n : ℕ) (l : List A) → n ≤ length l → take n l ≡ pad b n l
+unfolding pad
+pad-full b zero l h = refl
+pad-full b (suc n) [] h = absurd (omega arith)
+pad-full b (suc n) (x ∷ l) h = ap (λ r. x ∷ r) (pad-full b n l (le-of-suc-le-suc h))
+
+pub pad-more : {A : Type 0} (b : A) (n : ℕ) (l : List A) (m : ℕ) → length l ≤ n → pad b n l ++ replicate m b ≡ pad b (n + m) l
+unfolding pad
+pad-more b zero [] m h = let q : 0 + m ≡ m = omega arith in pad-blank b m ∙ ap (λ (k : ℕ). pad b k []) (sym q)
+pad-more b zero (x ∷ l) m h = absurd (omega arith)
+pad-more b (suc n) [] m h = let q : suc n + m ≡ suc (n + m) = omega arith in ap (λ r. b ∷ r) (pad-more b n [] m (omega arith)) ∙ sym (ap (λ (k : ℕ). pad b k []) q)
+pad-more b (suc n) (x ∷ l) m h =
+    let q : suc n + m ≡ suc (n + m) = omega arith in
+    ap (λ r. x ∷ r) (pad-more b n l m (le-of-suc-le-suc h)) ∙ sym (ap (λ (k : ℕ). pad b k (x ∷ l)) q)

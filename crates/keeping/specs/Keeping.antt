@@ -6,19 +6,20 @@
 use Prim.Native.Nat.{ℕ, _≤_}
 use mathlib.Core.Path.{_≡_}
 use mathlib.Core.Bool.{Bool}
-use mathlib.Core.List.{List, map}
+use mathlib.Core.List.{List, [], map}
 use lib.ListN.{length, getD}
 use Rattle.layout.specs.declared.Cluster.{Cluster}
 use Rattle.layout.specs.Layout.{entityOf}
 use Rattle.entities.specs.declared.Node.{Node}
 use Rattle.entities.specs.Run.{sourcesOf, descriptorOf}
 use Rattle.edition.specs.Audio.{channelsIn, keeps}
+use Rattle.sweep.specs.Sweep.{clusterBy}
 
 abbrev pub channelsOn : List ℕ → ℕ → Cluster
 channelsOn channels x = record { channels = getD channels x 0; locations = 0; names = 0 }
 
 abbrev pub contentOn : List ℕ → List ℕ → ℕ → Cluster
-contentOn channels locations x = record { channels = getD channels x 0; locations = getD locations x 0; names = 0 }
+contentOn channels locations = clusterBy channels locations []
 
 -- at most 255 pins of 255 channels each
 pub record Entering (cs : List Cluster) (r : ℕ) : Type 0 where

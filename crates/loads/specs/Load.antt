@@ -2,10 +2,12 @@
 --   loadedWith s range w c  ==  the control with the range, and the closest setting to w
 --   loadRange c s range w   ==  21: "range illegal, or a number too wide for the control"
 --   loadBy k c range w      ==  20: "no such ranged control", for one that holds k, no ranged number
---   loadOn c range w        ==  the load, of the control c; load-of-one: what is done is what may be done at one control
+--   loadOn c range w        ==  the load, of the control c
+--   deedOf c o              ==  how it is told of the one control c where o is done
+--   OfOne o                 ==  o is what a load may do: it is denied, or changes one control; load-of-one: so is every load
 use Prim.Native.Nat.{ℕ}
-use mathlib.Core.Bool.{true, _&&_}
-use mathlib.Core.List.{[], _∷_}
+use mathlib.Core.Bool.{Bool, true, false, _&&_}
+use mathlib.Core.List.{List, [], _∷_}
 use Rattle.ground.specs.Pick.{pick}
 use Rattle.setting.specs.Setting.{fitsOf, legalOf, closestTo}
 use Rattle.setting.specs.declared.Sort.{Sort}
@@ -14,8 +16,9 @@ use Rattle.table.specs.declared.Control.{Control}
 use Rattle.table.specs.declared.Sense.{Sense}
 use Rattle.table.specs.declared.Sense.the-variants.{Unknown, YesNo, Ranged, Pin}
 use Rattle.table.specs.Controls.{senseOf}
-use Rattle.deed.specs.Doing.{Doing, OfOne, denies, changes, of-either}
-use Rattle.deed.specs.Doing.Doing.{denied, changed}
+use Rattle.deed.specs.Doing.{Doing}
+use Rattle.deed.specs.Doing.Doing.{denied, given, changed}
+use Rattle.loads.specs.declared.Deed.{Deed}
 
 abbrev pub loadedWith : Sort → Range → ℕ → Control → Control
 loadedWith s range w c = record {
@@ -41,6 +44,20 @@ loadBy Pin c range w = denied 20
 
 abbrev pub loadOn : Control → Range → ℕ → Doing
 loadOn c range w = loadBy (senseOf (c .selector)) c range w
+
+abbrev pub deedOf : Control → Doing → Deed
+deedOf c (denied n) = record { number = n; control = c }
+deedOf c (given bytes) = record { number = 0; control = c }
+deedOf c (changed []) = record { number = 0; control = c }
+deedOf c (changed (e ∷ cs)) = record { number = 0; control = e }
+
+pub data OfOne : Doing → Type 0 where
+  denies : {n : ℕ} → OfOne (denied n)
+  changes : {c : Control} → OfOne (changed (c ∷ []))
+
+of-either : (b : Bool) (o q : Doing) → OfOne o → OfOne q → OfOne (pick b o q)
+of-either true o q a b = a
+of-either false o q a b = b
 
 load-by-one : (k : Sense) (c : Control) (range : Range) (w : ℕ) → OfOne (loadBy k c range w)
 unfolding loadBy loadRange

@@ -5,7 +5,7 @@ use mathlib.Core.List.{List, [], _∷_, _++_, map, flatten, append-assoc, List·
 use native.Mathlib.Omega.{arith}
 use native.Mathlib.Nat.{le-of-suc-le-suc}
 use lib.ListN.{length, getD, replicate, length-map, length-take}
-use Rattle.ground.specs.Lists.{pad, pad-length}
+use Rattle.ground.specs.Lists.{pad, pad-length, pad-more}
 use Rattle.graph.specs.Members.{_∈_}
 use Rattle.layout.specs.declared.Cluster.{Cluster}
 use Rattle.layout.specs.Layout.{entityOf}
@@ -21,7 +21,7 @@ use Rattle.legal.specs.SheetLaws.{record-id}
 use Rattle.mover.specs.Moving.JudgedMove.{moved}
 use Rattle.mover.specs.Moving.{otherOf, moreBytes, asNew, recordTo, movedTo, moveNumber}
 use Rattle.mover.specs.Laid.{Each, joined-long, record-in, records-joined}
-use Rattle.mover.specs.MovingLaws.{pad-more, judged-move}
+use Rattle.mover.specs.MovingLaws.{judged-move}
 use Rattle.mover.specs.Before.{oldPins, oldRecordIn, oldRecordsOf, OldRun}
 use Rattle.mover.specs.MovedBack.{Lent, AsNow}
 use Rattle.mover.proofs.Trips.{given-moved}
@@ -31,7 +31,7 @@ unfolding recordIn
 record-now d c h =
     let l : length (sources audio d) ≤ oldPins = simp length-take (omega arith) in
     append-assoc (frontOf (ownId d) (kindOf (entityOf d)) (audio .pins d) c) (pad 0 oldPins (sources audio d)) (replicate moreBytes 0)
-    ∙ ap (λ (x : List ℕ). frontOf (ownId d) (kindOf (entityOf d)) (audio .pins d) c ++ x) (pad-more oldPins (sources audio d) moreBytes l)
+    ∙ ap (λ (x : List ℕ). frontOf (ownId d) (kindOf (entityOf d)) (audio .pins d) c ++ x) (pad-more 0 oldPins (sources audio d) moreBytes l)
 
 module _ (cluster : ℕ → Cluster) where
   abbrev before : List ℕ → List ℕ

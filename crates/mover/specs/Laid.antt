@@ -1,5 +1,4 @@
 -- Records of one length laid end to end, and cut again; records of one size laid as records of another.
---   tabulate-more     ==  a table with one place more
 --   resized k m s n   ==  the first n records of s, of k bytes, one after another as records of m bytes: the first m, 00 where there are fewer
 --   resized-none, resized-more  ==  .. none of them, and one record more; resized-long: how long they are
 --   Room l k d m n    ==  n records of k bytes are within l bytes, and of m bytes within d
@@ -15,19 +14,8 @@ use lib.ListN.{length, getD, take, drop, length-append}
 use lib.Seq.{take-at, drop-at, drop-drop, take-add, take-length}
 use Rattle.ground.specs.Lists.{pad, pad-length, flatten-append}
 use Rattle.graph.specs.Members.{_∈_}
-use Rattle.graph.specs.Tables.{tabulate, tabulateFrom, tabulate-same, tabulate-getD}
+use Rattle.graph.specs.Tables.{tabulate, tabulateFrom, tabulate-more, tabulate-same, tabulate-getD}
 use Rattle.legal.specs.Sheet.{countBy, recordBy, recordsBy}
-
-module _ {X : Type 0} where
-  from-more : (i k : ℕ) (f : ℕ → X) → tabulateFrom i (suc k) f ≡ tabulateFrom i k f ++ f (i + k) ∷ []
-  unfolding tabulateFrom
-  from-more i zero f = ap (λ (j : ℕ). f j ∷ []) (sym (add-zero i))
-  from-more i (suc k) f =
-      let q : suc i + k ≡ i + suc k = omega arith in
-      ap (λ (l : List X). f i ∷ l) (from-more (suc i) k f ∙ ap (λ (j : ℕ). tabulateFrom (suc i) k f ++ f j ∷ []) q)
-
-  pub tabulate-more : (k : ℕ) (f : ℕ → X) → tabulate (suc k) f ≡ tabulate k f ++ f k ∷ []
-  tabulate-more k f = let q : 0 + k ≡ k = omega arith in from-more 0 k f ∙ ap (λ (j : ℕ). tabulate k f ++ f j ∷ []) q
 
 joined-more : (k : ℕ) (f : ℕ → List ℕ) → flatten (tabulate (suc k) f) ≡ flatten (tabulate k f) ++ f k
 unfolding flatten

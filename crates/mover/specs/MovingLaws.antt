@@ -1,6 +1,6 @@
 -- What a move is, exactly: how long the moved sheet is, and each number where the paper gives it.
 --   reads-more, reads-loses  ==  what the tests of 43 decide
---   pad-more, record-padded  ==  more places, 00 in them; a moved record as so many places as its form has
+--   record-padded   ==  a moved record as so many places as its form has
 --   moved-resized, moved-long  ==  the moved sheet as records of another size; its length
 --   move-judged, judged-move ==  THE LAW: the number is the one that the paper gives, and there is no other
 --   moved-short     ==  what is refused by neither 41 nor 42 is no longer than a sheet of the new form
@@ -18,7 +18,7 @@ use borrow.Author.Tests.{eq-eqb, ne-eqb}
 use Rattle.ground.specs.Pick.{pick, yes, no, Reads, shows, refutes, reads-lt, reads-eq, reads-not, true≠false}
 use Rattle.ground.specs.Numbers.{byte}
 use Rattle.ground.specs.Places.{reads-somewhere}
-use Rattle.ground.specs.Lists.{pad, pad-blank}
+use Rattle.ground.specs.Lists.{pad, pad-full, pad-more}
 use Rattle.graph.specs.Tables.{tabulate-same, map-tabulate}
 use Rattle.legal.specs.declared.Form.{Form}
 use Rattle.legal.specs.declared.Form.the-variants.{Old, New}
@@ -39,26 +39,11 @@ unfolding losesTo losesMore
 reads-loses Old s = reads-somewhere (λ i. hasMore (recordAt s i)) (λ i. HasMore (recordAt s i)) (countIn s) (λ i l. reads-more (recordAt s i))
 reads-loses New s = record { says = λ e. absurd (true≠false (sym e)); denies = λ e h. h }
 
-pad-full : (n : ℕ) (a : List ℕ) → n ≤ length a → take n a ≡ pad 0 n a
-unfolding pad
-pad-full zero a h = refl
-pad-full (suc n) [] h = absurd (omega arith)
-pad-full (suc n) (x ∷ a) h = ap (λ (l : List ℕ). x ∷ l) (pad-full n a (le-of-suc-le-suc h))
-
-pub pad-more : (n : ℕ) (a : List ℕ) (m : ℕ) → length a ≤ n → pad 0 n a ++ replicate m 0 ≡ pad 0 (n + m) a
-unfolding pad
-pad-more zero [] m h = let q : 0 + m ≡ m = omega arith in pad-blank 0 m ∙ ap (λ (k : ℕ). pad 0 k []) (sym q)
-pad-more zero (x ∷ a) m h = absurd (omega arith)
-pad-more (suc n) [] m h = let q : suc n + m ≡ suc (n + m) = omega arith in ap (λ (l : List ℕ). 0 ∷ l) (pad-more n [] m (omega arith)) ∙ sym (ap (λ (k : ℕ). pad 0 k []) q)
-pad-more (suc n) (x ∷ a) m h =
-    let q : suc n + m ≡ suc (n + m) = omega arith in
-    ap (λ (l : List ℕ). x ∷ l) (pad-more n a m (le-of-suc-le-suc h)) ∙ sym (ap (λ (k : ℕ). pad 0 k (x ∷ a)) q)
-
 pub record-padded : (f : Form) (a : List ℕ) → length a ≡ sizeOf (otherOf f) → recordTo f a ≡ pad 0 (sizeOf f) a
 unfolding recordTo sizeOf otherOf
-record-padded Old a h = pad-full oldSize a (omega arith)
+record-padded Old a h = pad-full 0 oldSize a (omega arith)
 record-padded New a h =
-    ap (λ (l : List ℕ). l ++ replicate moreBytes 0) (sym (take-all oldSize a (omega arith)) ∙ pad-full oldSize a (omega arith)) ∙ pad-more oldSize a moreBytes (omega arith)
+    ap (λ (l : List ℕ). l ++ replicate moreBytes 0) (sym (take-all oldSize a (omega arith)) ∙ pad-full 0 oldSize a (omega arith)) ∙ pad-more 0 oldSize a moreBytes (omega arith)
 
 module _ (f : Form) (s : List ℕ) where
   pub moved-resized : movedTo f s ≡ resized (sizeOf (otherOf f)) (sizeOf f) s (countBy (sizeOf (otherOf f)) s)

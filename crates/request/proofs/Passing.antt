@@ -1,7 +1,7 @@
--- The passes over the places that were sought.
+-- The passes over the indices that were sought.
 --   passed t so i  ==  the controls at the first i of them; here t so i: the one at the next
 --   Along t so i   ==  a pass has come to the i-th
---   along-start, along-inside, along-place, along-offset, along-on, along-one, along-over  ==  its start, its places, its turn and its end
+--   along-start, along-inside, along-index, along-offset, along-on, along-one, along-over  ==  its start, its indices, its turn and its end
 use Prim.Native.Nat.{ℕ, zero, suc, _+_, _-_, _*_, _^_, _≤_, _<_, min}
 use mathlib.Core.Path.{_≡_, refl, sym, ap, _∙_}
 use mathlib.Core.List.{List, [], _∷_, _++_, map, map-append, List·Memᴰ, List·Memᴰ·head, List·Memᴰ·tail, List·Memᴰ·cases-cons, List·Memᴰ·not-nil}
@@ -22,13 +22,14 @@ use Rattle.table.specs.Controls.{mostControls, blankControl, at, placed}
 use Rattle.address.specs.declared.Sought.{Sought}
 use Rattle.address.specs.Addressed.{mostAddressed}
 use Rattle.setup.specs.declared.Part.{Part}
-use Rattle.deed.specs.Doing.{Doing, bytesIn, laid, laid-long, laid-behind, lowFirst, Written}
+use Rattle.deed.specs.Doing.{Doing, bytesIn}
+use Rattle.deed.specs.Reply.{laid, laid-long, laid-behind, lowFirst, Written, bytesPut, Put, put-written}
 use Rattle.deed.specs.Doing.Doing.{denied, given, changed}
 use Rattle.answers.specs.declared.SetAsks.{SetAsks}
 use Rattle.answers.specs.declared.GetAsks.{GetAsks}
 use Rattle.answers.specs.Held.{lacking, partOf, unready}
 use Rattle.answers.specs.Answers.{heldBy, sizeIn, sizesOf, setAsks, setTo, getAsks, allTake, allSet, blockOf, cutTo, setNumber, getNumber, setOf, getOf}
-use Rattle.answers.specs.AnswersLaws.{size-least, size-most, sizes-most, sizes-snoc, takes-snoc, sets-snoc, sets-long, block-long, block-snoc, cut-long, set-by-number, get-by-number, set-silent}
+use Rattle.answers.specs.AnswersLaws.{size-most, sizes-most, sizes-snoc, takes-snoc, sets-snoc, sets-long, block-long, block-snoc, cut-long, set-by-number, get-by-number, set-silent}
 use Rattle.request.proofs.Storing.{refuses, stored-more, stored-other}
 use borrow.Author.Tests.{eq-eqb, ne-eqb, ltb-false}
 use lib.Dec.{eqb, ltb}
@@ -36,21 +37,21 @@ use Rattle.request.specs.declared.State.{State}
 use Rattle.request.specs.declared.Answer.{Answer}
 use Rattle.request.specs.Outcome.{Outcome, bytesOf, answerOf, refusal, Answered}
 use Rattle.request.specs.Outcome.Outcome.{refused, got}
-use Rattle.request.specs.Stored.{storedAt, outcomeAt, outcomeOf, placesIn, Apart, alone, apart, Seated}
+use Rattle.request.specs.Stored.{storedAt, outcomeAt, outcomeOf, indicesIn, Apart, alone, apart, Seated}
 
 abbrev pub passed : Table → Sought → ℕ → List Control
-passed t so i = map (at t) (take i (so .places))
+passed t so i = map (at t) (take i (so .indices))
 
-abbrev pub place : Sought → ℕ → ℕ
-place so i = getD (so .places) i 0
+abbrev pub index : Sought → ℕ → ℕ
+index so i = getD (so .indices) i 0
 
 abbrev pub here : Table → Sought → ℕ → Control
-here t so i = at t (place so i)
+here t so i = at t (index so i)
 
 pub record Along (t : Table) (so : Sought) (i : ℕ) : Type 0 where
   pub seated : Seated so
   pub low : i ≤ so .count
-  pub long : length (so .places) ≡ mostAddressed
+  pub long : length (so .indices) ≡ mostAddressed
   pub room : length (t .controls) ≡ mostControls
 
 -- the element of a list without twins is not among those before it
@@ -65,10 +66,10 @@ module _ (t : Table) (so : Sought) (i : ℕ) (g : Along t so i) where
   along-few = let f = g .seated .few in let l = g .low in omega arith
 
   passed-long : length (passed t so i) ≡ i
-  passed-long = length-map (take i (so .places)) (at t) ∙ length-take-le i (so .places) (let f = along-few in let l = g .long in omega arith)
+  passed-long = length-map (take i (so .indices)) (at t) ∙ length-take-le i (so .indices) (let f = along-few in let l = g .long in omega arith)
 
-  pub along-over : so .count ≤ i → passed t so i ≡ map (at t) (placesIn so)
-  along-over h = let l = g .low in let e : i ≡ so .count = omega arith in ap (λ (k : ℕ). map (at t) (take k (so .places))) e
+  pub along-over : so .count ≤ i → passed t so i ≡ map (at t) (indicesIn so)
+  along-over h = let l = g .low in let e : i ≡ so .count = omega arith in ap (λ (k : ℕ). map (at t) (take k (so .indices))) e
 
   pub along-small : (z n : ℕ) → z ≡ sizesOf (passed t so i) → n ≤ 2 → Fits w64 (z + n)
   along-small z n e h =
@@ -81,31 +82,31 @@ module _ (t : Table) (so : Sought) (i : ℕ) (g : Along t so i) where
     pub along-inside : i < mostAddressed
     along-inside = let f = g .seated .few in omega arith
 
-    among : List·Memᴰ (place so i) (placesIn so)
+    among : List·Memᴰ (index so i) (indicesIn so)
     among =
-        let l : i < length (placesIn so) = (let k = length-take-le (so .count) (so .places) (let f = g .seated .few in let l = g .long in omega arith) in omega arith) in
-        rw (← getD-take (so .count) (so .places) i 0 h) (member-at 0 (placesIn so) i l)
+        let l : i < length (indicesIn so) = (let k = length-take-le (so .count) (so .indices) (let f = g .seated .few in let l = g .long in omega arith) in omega arith) in
+        rw (← getD-take (so .count) (so .indices) i 0 h) (member-at 0 (indicesIn so) i l)
 
-    pub along-place : place so i < mostControls
-    along-place = g .seated .inside (place so i) among
+    pub along-index : index so i < mostControls
+    along-index = g .seated .inside (index so i) among
 
-    pub along-scaled : (k : ℕ) → mostControls * k < 2 ^ 63 → Fits w64 (place so i * k)
-    along-scaled k = scaled-fits (place so i) mostControls k along-place
+    pub along-scaled : (k : ℕ) → mostControls * k < 2 ^ 63 → Fits w64 (index so i * k)
+    along-scaled k = scaled-fits (index so i) mostControls k along-index
 
     pub along-on : Along t so (i + 1)
     along-on = record { seated = g .seated; low = omega arith; long = g .long; room = g .room }
 
-    places-one : take (i + 1) (so .places) ≡ take i (so .places) ++ place so i ∷ []
-    places-one = rw (add-one) (take-suc (so .places) i 0 (let l = g .long in let k = along-inside in omega arith))
+    indices-one : take (i + 1) (so .indices) ≡ take i (so .indices) ++ index so i ∷ []
+    indices-one = rw (add-one) (take-suc (so .indices) i 0 (let l = g .long in let k = along-inside in omega arith))
 
     pub along-one : passed t so (i + 1) ≡ passed t so i ++ here t so i ∷ []
-    along-one = ap (map (at t)) places-one ∙ map-append (at t) (take i (so .places)) (place so i ∷ [])
+    along-one = ap (map (at t)) indices-one ∙ map-append (at t) (take i (so .indices)) (index so i ∷ [])
 
-    pub along-new : List·Memᴰ (place so i) (take i (so .places)) → ⊥
+    pub along-new : List·Memᴰ (index so i) (take i (so .indices)) → ⊥
     along-new m =
-        let l : i < length (placesIn so) = (let k = length-take-le (so .count) (so .places) (let f = g .seated .few in let l = g .long in omega arith) in omega arith) in
-        not-before (placesIn so) (g .seated .each) i l
-        (rw (getD-take (so .count) (so .places) i 0 h, take-take i (so .count) (so .places) (omega arith)) m)
+        let l : i < length (indicesIn so) = (let k = length-take-le (so .count) (so .indices) (let f = g .seated .few in let l = g .long in omega arith) in omega arith) in
+        not-before (indicesIn so) (g .seated .each) i l
+        (rw (getD-take (so .count) (so .indices) i 0 h, take-take i (so .count) (so .indices) (omega arith)) m)
 
 -- 36 and 35 of a control
 abbrev waits : Control → Bool
@@ -114,7 +115,7 @@ waits c = unready (heldBy c) c
 abbrev lacks : Part → Control → Bool
 lacks part c = lacking (heldBy c) part
 
--- the same places from the start
+-- the same indices from the start
 pub along-again : (t : Table) (so : Sought) (i : ℕ) → Along t so i → Along t so 0
 along-again t so i g = record { seated = g .seated; low = omega arith; long = g .long; room = g .room }
 
@@ -126,7 +127,7 @@ pub record SetAsking (t : Table) (so : Sought) (d : List ℕ) (v : Table) (u k :
   pub taken : k ≡ allTake (passed t so i) d
   pub sizes : size ≡ sizesOf (passed t so i)
 
-pub set-asking-start : (t : Table) (so : Sought) (d : List ℕ) → Seated so → length (so .places) ≡ mostAddressed → length (t .controls) ≡ mostControls
+pub set-asking-start : (t : Table) (so : Sought) (d : List ℕ) → Seated so → length (so .indices) ≡ mostAddressed → length (t .controls) ≡ mostControls
     → SetAsking t so d t false true 0 0
 unfolding any allTake sizesOf
 set-asking-start t so d s l r = record { same = refl; along = record { seated = s; low = omega arith; long = l; room = r }; refused = refl; taken = refl; sizes = refl }
@@ -136,15 +137,15 @@ module _ (t : Table) (so : Sought) (d : List ℕ) (v : Table) (u k : Bool) (size
     pub set-asking-inside : i < mostAddressed
     set-asking-inside = along-inside t so i (g .along) h
 
-    pub set-asking-place : place so i < mostControls
-    set-asking-place = along-place t so i (g .along) h
+    pub set-asking-index : index so i < mostControls
+    set-asking-index = along-index t so i (g .along) h
 
-    pub set-asking-scaled : (n : ℕ) → mostControls * n < 2 ^ 63 → Fits w64 (place so i * n)
+    pub set-asking-scaled : (n : ℕ) → mostControls * n < 2 ^ 63 → Fits w64 (index so i * n)
     set-asking-scaled = along-scaled t so i (g .along) h
 
-    module _ (a : SetAsks) (read : a ≡ setAsks (at v (place so i)) (drop size d)) where
+    module _ (a : SetAsks) (read : a ≡ setAsks (at v (index so i)) (drop size d)) where
       e : a ≡ setAsks (here t so i) (drop size d)
-      e = read ∙ ap (λ (w : Table). setAsks (at w (place so i)) (drop size d)) (g .same)
+      e = read ∙ ap (λ (w : Table). setAsks (at w (index so i)) (drop size d)) (g .same)
 
       pub set-asking-small : Fits w64 (size + a .size)
       set-asking-small =
@@ -162,20 +163,20 @@ module _ (t : Table) (so : Sought) (d : List ℕ) (v : Table) (u k : Bool) (size
           }
 
   module _ (over : so .count ≤ i) (bytes x : ℕ) (f : x ≡ setNumber u k size bytes (length d)) where
-    all : passed t so i ≡ map (at t) (placesIn so)
+    all : passed t so i ≡ map (at t) (indicesIn so)
     all = along-over t so i (g .along) over
 
-    pub set-by : setOf (map (at t) (placesIn so)) bytes d ≡ pick (eqb x 0) (changed (allSet (map (at t) (placesIn so)) d)) (denied x)
+    pub set-by : setOf (map (at t) (indicesIn so)) bytes d ≡ pick (eqb x 0) (changed (allSet (map (at t) (indicesIn so)) d)) (denied x)
     set-by =
-        set-by-number (map (at t) (placesIn so)) bytes d x
+        set-by-number (map (at t) (indicesIn so)) bytes d x
         (f ∙ rw (g .refused, g .taken, g .sizes, all))
 
 -- a Set stores
 pub record Storing (t : Table) (so : Sought) (bytes : ℕ) (d : List ℕ) (v : Table) (z i : ℕ) : Type 0 where
   pub along : Along t so i
-  pub granted : setOf (map (at t) (placesIn so)) bytes d ≡ changed (allSet (map (at t) (placesIn so)) d)
+  pub granted : setOf (map (at t) (indicesIn so)) bytes d ≡ changed (allSet (map (at t) (indicesIn so)) d)
   pub sizes : z ≡ sizesOf (passed t so i)
-  pub stored : v ≡ storedAt t (take i (so .places)) (allSet (passed t so i) d)
+  pub stored : v ≡ storedAt t (take i (so .indices)) (allSet (passed t so i) d)
 
 pub storing-start : (t : Table) (so : Sought) (d : List ℕ) (v : Table) (u k : Bool) (size i : ℕ) → SetAsking t so d v u k size i → so .count ≤ i
     → (bytes x : ℕ) → x ≡ setNumber u k size bytes (length d) → x ≡ 0 → Storing t so bytes d v 0 0
@@ -192,51 +193,51 @@ module _ (t : Table) (so : Sought) (bytes : ℕ) (d : List ℕ) (v : Table) (z i
     pub storing-inside : i < mostAddressed
     storing-inside = along-inside t so i (g .along) h
 
-    pub storing-place : place so i < mostControls
-    storing-place = along-place t so i (g .along) h
+    pub storing-index : index so i < mostControls
+    storing-index = along-index t so i (g .along) h
 
-    pub storing-scaled : (n : ℕ) → mostControls * n < 2 ^ 63 → Fits w64 (place so i * n)
+    pub storing-scaled : (n : ℕ) → mostControls * n < 2 ^ 63 → Fits w64 (index so i * n)
     storing-scaled = along-scaled t so i (g .along) h
 
     -- what was stored before leaves the control
-    still : at v (place so i) ≡ here t so i
-    still = rw (g .stored) (stored-other t (take i (so .places)) (allSet (passed t so i) d) (place so i) (along-new t so i (g .along) h))
+    still : at v (index so i) ≡ here t so i
+    still = rw (g .stored) (stored-other t (take i (so .indices)) (allSet (passed t so i) d) (index so i) (along-new t so i (g .along) h))
 
-    pub storing-small : (s : ℕ) → s ≡ sizeIn (at v (place so i)) → Fits w64 (z + s)
-    storing-small s e = along-small t so i (g .along) z s (g .sizes) (let m = size-most (heldBy (at v (place so i))) in omega arith)
+    pub storing-small : (s : ℕ) → s ≡ sizeIn (at v (index so i)) → Fits w64 (z + s)
+    storing-small s e = along-small t so i (g .along) z s (g .sizes) (let m = size-most (heldBy (at v (index so i))) in omega arith)
 
-    pub storing-on : (c : Control) → c ≡ setTo (at v (place so i)) (drop z d) → (s : ℕ) → s ≡ sizeIn (at v (place so i))
-        → Storing t so bytes d (placed v (place so i) c) (z + s) (i + 1)
+    pub storing-on : (c : Control) → c ≡ setTo (at v (index so i)) (drop z d) → (s : ℕ) → s ≡ sizeIn (at v (index so i))
+        → Storing t so bytes d (placed v (index so i) c) (z + s) (i + 1)
     storing-on c e s f =
         let one = along-one t so i (g .along) h in
-        let l : length (take i (so .places)) ≡ length (allSet (passed t so i) d) = sym (sets-long (passed t so i) d ∙ length-map (take i (so .places)) (at t)) in
+        let l : length (take i (so .indices)) ≡ length (allSet (passed t so i) d) = sym (sets-long (passed t so i) d ∙ length-map (take i (so .indices)) (at t)) in
         let k : c ≡ setTo (here t so i) (drop (sizesOf (passed t so i)) d) = e ∙ rw (still, g .sizes) in
         record {
           along = along-on t so i (g .along) h;
           granted = g .granted;
           sizes = rw (one, sizes-snoc (passed t so i) (here t so i), ← g .sizes, f, still);
           stored =
-              ap (λ (w : Table). placed w (place so i) c) (g .stored)
-              ∙ ap (placed (storedAt t (take i (so .places)) (allSet (passed t so i) d)) (place so i)) k
-              ∙ sym (stored-more t (take i (so .places)) (allSet (passed t so i) d) l (place so i) (setTo (here t so i) (drop (sizesOf (passed t so i)) d)))
-              ∙ rw (one, places-one t so i (g .along) h, sets-snoc (passed t so i) (here t so i) d);
+              ap (λ (w : Table). placed w (index so i) c) (g .stored)
+              ∙ ap (placed (storedAt t (take i (so .indices)) (allSet (passed t so i) d)) (index so i)) k
+              ∙ sym (stored-more t (take i (so .indices)) (allSet (passed t so i) d) l (index so i) (setTo (here t so i) (drop (sizesOf (passed t so i)) d)))
+              ∙ rw (one, indices-one t so i (g .along) h, sets-snoc (passed t so i) (here t so i) d);
         }
 
-  pub storing-over : so .count ≤ i → v ≡ storedAt t (placesIn so) (allSet (map (at t) (placesIn so)) d)
+  pub storing-over : so .count ≤ i → v ≡ storedAt t (indicesIn so) (allSet (map (at t) (indicesIn so)) d)
   storing-over h =
       let l = g .along .low in
       let e : i ≡ so .count = omega arith in
-      g .stored ∙ ap (λ (n : ℕ). storedAt t (take n (so .places)) (allSet (map (at t) (take n (so .places))) d)) e
+      g .stored ∙ ap (λ (n : ℕ). storedAt t (take n (so .indices)) (allSet (map (at t) (take n (so .indices))) d)) e
 
 -- what is answered
 module _ (st : State) (so : Sought) (d : List ℕ) (bytes : ℕ) where
   abbrev Sets : Answer → Type 0
-  Sets r = r ≡ answerOf st (outcomeOf (st .table) (placesIn so) (λ cs. setOf cs bytes d))
+  Sets r = r ≡ answerOf st (outcomeOf (st .table) (indicesIn so) (λ cs. setOf cs bytes d))
 
   pub set-refused : (v : Table) (u k : Bool) (size i : ℕ) → SetAsking (st .table) so d v u k size i → so .count ≤ i → (x : ℕ) → x ≡ setNumber u k size bytes (length d)
       → (x ≡ 0 → ⊥) → (r : Answer) → r ≡ refusal st x → Sets r
   set-refused v u k size i g over x f n r q =
-      refuses st _ r x (ap (outcomeAt (st .table) (placesIn so)) (set-by (st .table) so d v u k size i g over bytes x f ∙ no _ _ (ne-eqb _ _ n))) q
+      refuses st _ r x (ap (outcomeAt (st .table) (indicesIn so)) (set-by (st .table) so d v u k size i g over bytes x f ∙ no _ _ (ne-eqb _ _ n))) q
 
   pub set-stored : (v : Table) (z i : ℕ) → Storing (st .table) so bytes d v z i → so .count ≤ i → (x : ℕ) → x ≡ 0
       → Sets (record { number = x; written = 0; state = record { control = st .control; table = v } })
@@ -244,7 +245,7 @@ module _ (st : State) (so : Sought) (d : List ℕ) (bytes : ℕ) where
   set-stored v z i g over x n =
       ap (λ (m : ℕ). record { number = m; written = 0; state = record { control = st .control; table = v } }) n
       ∙ ap (λ (w : Table). record { number = 0; written = 0; state = record { control = st .control; table = w } }) (storing-over (st .table) so bytes d v z i g over)
-      ∙ sym (ap (λ o. answerOf st (outcomeAt (st .table) (placesIn so) o)) (g .granted))
+      ∙ sym (ap (λ o. answerOf st (outcomeAt (st .table) (indicesIn so) o)) (g .granted))
 
 -- a Get asks
 pub record GetAsking (t : Table) (so : Sought) (part : Part) (k u : Bool) (size i : ℕ) : Type 0 where
@@ -253,7 +254,7 @@ pub record GetAsking (t : Table) (so : Sought) (part : Part) (k u : Bool) (size 
   pub refused : u ≡ any waits (passed t so i)
   pub sizes : size ≡ sizesOf (passed t so i)
 
-pub get-asking-start : (t : Table) (so : Sought) (part : Part) → Seated so → length (so .places) ≡ mostAddressed → length (t .controls) ≡ mostControls
+pub get-asking-start : (t : Table) (so : Sought) (part : Part) → Seated so → length (so .indices) ≡ mostAddressed → length (t .controls) ≡ mostControls
     → GetAsking t so part false false 0 0
 unfolding any sizesOf
 get-asking-start t so part s l r = record { along = record { seated = s; low = omega arith; long = l; room = r }; lacking = refl; refused = refl; sizes = refl }
@@ -263,10 +264,10 @@ module _ (t : Table) (so : Sought) (part : Part) (k u : Bool) (size i : ℕ) (g 
     pub get-asking-inside : i < mostAddressed
     get-asking-inside = along-inside t so i (g .along) h
 
-    pub get-asking-place : place so i < mostControls
-    get-asking-place = along-place t so i (g .along) h
+    pub get-asking-index : index so i < mostControls
+    get-asking-index = along-index t so i (g .along) h
 
-    pub get-asking-scaled : (n : ℕ) → mostControls * n < 2 ^ 63 → Fits w64 (place so i * n)
+    pub get-asking-scaled : (n : ℕ) → mostControls * n < 2 ^ 63 → Fits w64 (index so i * n)
     get-asking-scaled = along-scaled t so i (g .along) h
 
     module _ (a : GetAsks) (e : a ≡ getAsks part (here t so i)) where
@@ -285,21 +286,21 @@ module _ (t : Table) (so : Sought) (part : Part) (k u : Bool) (size i : ℕ) (g 
           }
 
   module _ (over : so .count ≤ i) (bytes room end x : ℕ) (m : end ≡ min bytes size) (f : x ≡ getNumber k u end room) where
-    get-all : passed t so i ≡ map (at t) (placesIn so)
+    get-all : passed t so i ≡ map (at t) (indicesIn so)
     get-all = along-over t so i (g .along) over
 
-    sends : end ≡ length (cutTo bytes part (map (at t) (placesIn so)))
-    sends = m ∙ ap (min bytes) (g .sizes ∙ ap sizesOf get-all) ∙ sym (cut-long bytes part (map (at t) (placesIn so)))
+    sends : end ≡ length (cutTo bytes part (map (at t) (indicesIn so)))
+    sends = m ∙ ap (min bytes) (g .sizes ∙ ap sizesOf get-all) ∙ sym (cut-long bytes part (map (at t) (indicesIn so)))
 
-    pub get-by : getOf part (map (at t) (placesIn so)) bytes room ≡ pick (eqb x 0) (given (cutTo bytes part (map (at t) (placesIn so)))) (denied x)
+    pub get-by : getOf part (map (at t) (indicesIn so)) bytes room ≡ pick (eqb x 0) (given (cutTo bytes part (map (at t) (indicesIn so)))) (denied x)
     get-by =
-        get-by-number part (map (at t) (placesIn so)) bytes room x
+        get-by-number part (map (at t) (indicesIn so)) bytes room x
         (f ∙ rw (g .lacking, g .refused, sends, get-all))
 
-    cut : take end (blockOf part (map (at t) (placesIn so))) ≡ cutTo bytes part (map (at t) (placesIn so))
+    cut : take end (blockOf part (map (at t) (indicesIn so))) ≡ cutTo bytes part (map (at t) (indicesIn so))
     cut =
-        ap (λ (n : ℕ). take n (blockOf part (map (at t) (placesIn so)))) (m ∙ ap (min bytes) (g .sizes ∙ ap sizesOf get-all ∙ sym (block-long part (map (at t) (placesIn so)))))
-        ∙ take-least bytes (blockOf part (map (at t) (placesIn so)))
+        ap (λ (n : ℕ). take n (blockOf part (map (at t) (indicesIn so)))) (m ∙ ap (min bytes) (g .sizes ∙ ap sizesOf get-all ∙ sym (block-long part (map (at t) (indicesIn so)))))
+        ∙ take-least bytes (blockOf part (map (at t) (indicesIn so)))
 
 -- where nothing is refused the bytes fit
 fits-room : (k u : Bool) (end room x : ℕ) → x ≡ getNumber k u end room → x ≡ 0 → end ≤ room
@@ -315,7 +316,7 @@ fits-room false false end room x f z = go (ltb room end) refl f
 -- a Get writes
 pub record Writing (t : Table) (so : Sought) (part : Part) (bytes end : ℕ) (reply : List ℕ) (w : ℕ) (after : List ℕ) (i : ℕ) : Type 0 where
   pub along : Along t so i
-  pub granted : getOf part (map (at t) (placesIn so)) bytes (length reply) ≡ given (take end (blockOf part (map (at t) (placesIn so))))
+  pub granted : getOf part (map (at t) (indicesIn so)) bytes (length reply) ≡ given (take end (blockOf part (map (at t) (indicesIn so))))
   pub room : end ≤ length reply
   pub wrote : Written (take end (blockOf part (passed t so i))) reply w after
 
@@ -340,30 +341,27 @@ module _ (t : Table) (so : Sought) (part : Part) (bytes end : ℕ) (reply : List
   sent-long : length sent ≡ min end (length (blockOf part (passed t so i)))
   sent-long = length-take end (blockOf part (passed t so i))
 
-  pub writing-low : w ≤ end
+  writing-low : w ≤ end
   writing-low = let e = g .wrote .number in let l = sent-long in omega arith
 
   pub writing-long : length after ≡ length reply
   writing-long = ap length (g .wrote .lent) ∙ laid-long sent reply (let e = g .wrote .number in let l = writing-low in let r = g .room in omega arith)
 
-  -- a value has one byte or two
-  pub writing-some : (s : ℕ) → s ≡ sizeIn (here t so i) → 1 ≤ s
-  writing-some s e = rw e (size-least (heldBy (here t so i)))
-
-  pub writing-few : (s : ℕ) → s ≡ sizeIn (here t so i) → s ≤ 2
+  -- a value has two bytes at most
+  writing-few : (s : ℕ) → s ≡ sizeIn (here t so i) → s ≤ 2
   writing-few s e = rw e (size-most (heldBy (here t so i)))
 
-  pub writing-room : end ≤ length after
+  writing-room : end ≤ length after
   writing-room = rw writing-long (g .room)
 
   module _ (h : i < so .count) where
     pub writing-inside : i < mostAddressed
     writing-inside = along-inside t so i (g .along) h
 
-    pub writing-place : place so i < mostControls
-    writing-place = along-place t so i (g .along) h
+    pub writing-index : index so i < mostControls
+    writing-index = along-index t so i (g .along) h
 
-    pub writing-scaled : (n : ℕ) → mostControls * n < 2 ^ 63 → Fits w64 (place so i * n)
+    pub writing-scaled : (n : ℕ) → mostControls * n < 2 ^ 63 → Fits w64 (index so i * n)
     writing-scaled = along-scaled t so i (g .along) h
 
     abbrev behind-it : List ℕ
@@ -383,9 +381,10 @@ module _ (t : Table) (so : Sought) (part : Part) (bytes end : ℕ) (reply : List
     front = rw (g .wrote .number, g .wrote .lent) (take-append-seam sent (drop (length sent) reply))
 
     pub writing-on : (s : ℕ) → s ≡ sizeIn (here t so i) → (x : ℕ) → x ≡ partOf part (here t so i) → (m : ℕ) (then : List ℕ)
-        → Written (take w after ++ take (end - w) (lowFirst s x)) after m then → Writing t so part bytes end reply m then (i + 1)
+        → Put (bytesPut x s w end (length after)) w after m then → Writing t so part bytes end reply m then (i + 1)
     writing-on s se x xe m then d =
-        let v : Written (sent ++ take (end - w) behind-it) after m then = rw (front, xe, se) at d in
+        let p : Written (take w after ++ take (end - w) (lowFirst s x)) after m then = put-written x s w end after (writing-few s se) writing-low writing-room m then d in
+        let v : Written (sent ++ take (end - w) behind-it) after m then = rw (front, xe, se) at p in
         record {
           along = along-on t so i (g .along) h;
           granted = g .granted;
@@ -402,13 +401,13 @@ module _ (t : Table) (so : Sought) (part : Part) (bytes end : ℕ) (reply : List
 
 module _ (st : State) (so : Sought) (part : Part) (bytes : ℕ) (reply : List ℕ) where
   abbrev Gets : Answer → List ℕ → Type 0
-  Gets r a = Answered st (outcomeOf (st .table) (placesIn so) (λ cs. getOf part cs bytes (length reply))) reply r a
+  Gets r a = Answered st (outcomeOf (st .table) (indicesIn so) (λ cs. getOf part cs bytes (length reply))) reply r a
 
   pub get-refused : (k u : Bool) (size i : ℕ) → GetAsking (st .table) so part k u size i → so .count ≤ i → (end x : ℕ) → end ≡ min bytes size
       → x ≡ getNumber k u end (length reply) → (x ≡ 0 → ⊥) → (r : Answer) → r ≡ refusal st x → Gets r reply
   get-refused k u size i g over end x m f n r q =
-      let o : outcomeOf (st .table) (placesIn so) (λ cs. getOf part cs bytes (length reply)) ≡ refused x =
-      ap (outcomeAt (st .table) (placesIn so)) (get-by (st .table) so part k u size i g over bytes (length reply) end x m f ∙ no _ _ (ne-eqb _ _ n))
+      let o : outcomeOf (st .table) (indicesIn so) (λ cs. getOf part cs bytes (length reply)) ≡ refused x =
+      ap (outcomeAt (st .table) (indicesIn so)) (get-by (st .table) so part k u size i g over bytes (length reply) end x m f ∙ no _ _ (ne-eqb _ _ n))
       in
       record { result = refuses st _ r x o q; lent = ap (λ (y : Outcome). laid (bytesOf y) reply) (sym o) }
 
@@ -416,10 +415,10 @@ module _ (st : State) (so : Sought) (part : Part) (bytes : ℕ) (reply : List �
       → Gets (record { number = 0; written = w; state = st }) after
   unfolding answerOf
   get-sent end w after i g over =
-      let o : outcomeOf (st .table) (placesIn so) (λ cs. getOf part cs bytes (length reply)) ≡ got (take end (blockOf part (map (at (st .table)) (placesIn so)))) =
-      ap (outcomeAt (st .table) (placesIn so)) (g .granted)
+      let o : outcomeOf (st .table) (indicesIn so) (λ cs. getOf part cs bytes (length reply)) ≡ got (take end (blockOf part (map (at (st .table)) (indicesIn so)))) =
+      ap (outcomeAt (st .table) (indicesIn so)) (g .granted)
       in
-      let d : Written (take end (blockOf part (map (at (st .table)) (placesIn so)))) reply w after =
+      let d : Written (take end (blockOf part (map (at (st .table)) (indicesIn so)))) reply w after =
       rw (← along-over (st .table) so i (g .along) over) (g .wrote)
       in
       record {

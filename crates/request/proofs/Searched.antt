@@ -1,7 +1,7 @@
 -- What the answer of the search says of the table.
 --   is-unsound, is-sound  ==  30, or 30 has nothing against the table
 --   is-missed  ==  .. and no control is addressed, which is 33 or 34
---   is-there   ==  .. and the places are those of the addressed controls, of which there are some; is-seated: which are as they should be
+--   is-there   ==  .. and the indices are those of the addressed controls, of which there are some; is-seated: which are as they should be
 use Prim.Native.Nat.{ℕ, _≤_, _<_}
 use mathlib.Core.Path.{_≡_, refl, sym, ap, _∙_}
 use mathlib.Core.List.{List, [], _∷_, List·Memᴰ}
@@ -17,9 +17,9 @@ use Rattle.sound.specs.Sound.{soundOf}
 use Rattle.sound.specs.Meaning.{sound-reads}
 use Rattle.address.specs.declared.Sought.{Sought}
 use Rattle.address.specs.Addressed.{mostAddressed, addressedIn, unitIn}
-use Rattle.address.specs.AddressedLaws.{addressed-named, addressed-few, addressed-rising, Upward, none, more}
+use Rattle.address.specs.AddressedLaws.{addressed-named, addressed-few, addressed-rising}
 use Rattle.address.specs.Sought.{missingBy, noneSought, soughtFor, soughtIn}
-use Rattle.request.specs.Stored.{placesIn, Apart, alone, apart, Seated}
+use Rattle.request.specs.Stored.{indicesIn, rising-all-apart, Seated}
 
 missing-other : (b : Bool) (n : ℕ) → missingBy b ≡ n → (n ≡ 30 → ⊥) × (n ≡ 0 → ⊥)
 missing-other true n e = (λ i. omega arith, λ i. omega arith)
@@ -36,10 +36,6 @@ for-missed t u (p ∷ ps) n = absurd (n (yes {A = ℕ} 0 (missingBy (unitIn t u)
 for-there : (t : Table) (u : ℕ) (ps : List ℕ) → soughtFor t u ps .number ≡ 0 → ps ≡ [] → ⊥
 for-there t u [] e i = missing-other (unitIn t u) _ refl .1 e
 for-there t u (p ∷ ps) e i = let z : _≡_ {A = ℕ} 0 1 = cc in omega arith
-
-upward-apart : (t : Table) (ps : List ℕ) → Upward t ps → Apart ps
-upward-apart t _ none = alone
-upward-apart t _ (more {p} {ps} h u) = apart (λ m. let l = h p m in omega arith) (upward-apart t ps u)
 
 module _ (t : Table) (u ch s : ℕ) (o : Sought) (e : o ≡ soughtIn t u ch s) where
   abbrev ps : List ℕ
@@ -70,8 +66,8 @@ module _ (t : Table) (u ch s : ℕ) (o : Sought) (e : o ≡ soughtIn t u ch s) w
     pub is-missed : (o .number ≡ 0 → ⊥) → (ps ≡ []) × (o .number ≡ missingBy (unitIn t u))
     is-missed n = let k = for-missed t u ps (λ z. n (ap (λ (x : Sought). x .number) answer ∙ z)) in (k .0, ap (λ (x : Sought). x .number) answer ∙ k .1)
 
-    pub is-places : placesIn o ≡ ps
-    is-places = ap placesIn answer ∙ pad-front 0 mostAddressed ps (addressed-few t u ch s)
+    pub is-indices : indicesIn o ≡ ps
+    is-indices = ap indicesIn answer ∙ pad-front 0 mostAddressed ps (addressed-few t u ch s)
 
     pub is-there : o .number ≡ 0 → ps ≡ [] → ⊥
     is-there z = for-there t u ps (ap (λ (x : Sought). x .number) (sym answer) ∙ z)
@@ -80,8 +76,8 @@ module _ (t : Table) (u ch s : ℕ) (o : Sought) (e : o ≡ soughtIn t u ch s) w
     is-seated = record {
       few = let n = ap (λ (x : Sought). x .count) answer in let f = addressed-few t u ch s in omega arith;
       inside = λ p m.
-          let q = addressed-named t u ch s p (rw is-places at m) .inside in
+          let q = addressed-named t u ch s p (rw is-indices at m) .inside in
           let c = sound-reads t .says is-sound .few in
           omega arith;
-      each = rw is-places (upward-apart t ps (addressed-rising t u ch s));
+      each = rw is-indices (rising-all-apart (addressed-rising t u ch s));
     }

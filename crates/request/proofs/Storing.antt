@@ -13,7 +13,8 @@ use Rattle.table.specs.declared.Control.{Control}
 use Rattle.table.specs.declared.Table.{Table}
 use Rattle.table.specs.Controls.{blankControl, at, placed}
 use Rattle.table.specs.Placed.{placed-elsewhere}
-use Rattle.deed.specs.Doing.{Doing, deedOf, OfOne, denies, gives, changes}
+use Rattle.deed.specs.Doing.{Doing}
+use Rattle.loads.specs.Load.{deedOf, OfOne, denies, changes}
 use Rattle.request.specs.declared.State.{State}
 use Rattle.request.specs.declared.Answer.{Answer}
 use Rattle.request.specs.Outcome.{Outcome, answerOf, refusal, deedAnswer}
@@ -27,7 +28,6 @@ pub done-answer : (st : State) (p : ℕ) (o : Doing) → OfOne o
     → deedAnswer st p (deedOf (at (st .table) p) o) ≡ answerOf st (outcomeAt (st .table) (p ∷ []) o)
 unfolding answerOf storedAt
 done-answer st p _ denies = ap (λ (t : Table). record { number = _; written = 0; state = record { control = st .control; table = t } }) (placed-self (st .table) p)
-done-answer st p _ gives = ap (λ (t : Table). record { number = 0; written = _; state = record { control = st .control; table = t } }) (placed-self (st .table) p)
 done-answer st p _ changes = refl
 
 pub refuses : (st : State) (o : Outcome) (r : Answer) (n : ℕ) → o ≡ refused n → r ≡ refusal st n → r ≡ answerOf st o

@@ -15,8 +15,8 @@ use mathlib.Core.List.{List, []}
 use lib.ListN.{length}
 use Rattle.table.specs.declared.Table.{Table}
 use Rattle.table.specs.Controls.{placed}
-use Rattle.deed.specs.declared.Deed.{Deed}
-use Rattle.deed.specs.Doing.{laid}
+use Rattle.loads.specs.declared.Deed.{Deed}
+use Rattle.deed.specs.Reply.{laid}
 use Rattle.request.specs.declared.State.{State}
 use Rattle.request.specs.declared.Answer.{Answer}
 
@@ -56,6 +56,6 @@ refusal st n = record { number = n; written = 0; state = st }
 abbrev pub deedAnswer : State → ℕ → Deed → Answer
 deedAnswer st i d = record {
   number = d .number;
-  written = d .written;
+  written = 0;
   state = record { control = st .control; table = placed (st .table) i (d .control) };
 }

@@ -2,18 +2,15 @@
 // does"). What this crate promises: for every configuration and sheet, every state whatever, every load, setup, data and reply, exactly
 // what specs/Plugged.antt, specs/Load.antt and specs/Request.antt say; a refusal leaves state and reply as they stood.
 ghost use mathlib.Core.Path.{_≡_};
-ghost use mathlib.Core.List.{_++_};
-ghost use Prim.Native.Nat.{_≤_, _-_};
-ghost use lib.ListN.{length, take};
-ghost use Rattle.deed.specs.Doing.{lowFirst, Written};
+ghost use lib.ListN.{length};
 ghost use Rattle.answers.specs.Answers.{setOf, getOf};
 ghost use Rattle.request.specs.Outcome.{refusal, deedAnswer, answerOf, Answered};
 ghost use Rattle.request.specs.Plugged.{PluggedIn};
 ghost use Rattle.request.specs.Load.{loadOf};
-ghost use Rattle.request.specs.Stored.{placesIn, Seated, outcomeOf};
+ghost use Rattle.request.specs.Stored.{indicesIn, Seated, outcomeOf};
 ghost use Rattle.request.specs.Request.{elsewhereBy, barredBy, requestOf};
 use address::Sought;
-use deed::Deed;
+use loads::Deed;
 use setting::Range;
 use setup::Asked;
 use setup::Part;
@@ -68,7 +65,7 @@ fn done(state: State, index: usize, deed: Deed) -> Answer
 {
     Answer {
         number: deed.number,
-        written: deed.written,
+        written: 0,
         state: State {
             control: state.control,
             table: table::put(state.table, index, deed.control),
@@ -124,20 +121,20 @@ fn bar(asked: Asked, number: u8) -> u8
 // Set is stored. The two passes are one function, since one that takes the state copies it.
 fn set_all(state: State, sought: Sought, bytes: u16, data: &[u8]) -> Answer
     requires { ⌜ Seated sought ⌝ }
-    ensures { λ r. ⌜ r ≡ answerOf state (outcomeOf (state .table) (placesIn sought) (λ cs. setOf cs bytes (now («data» .entry)))) ⌝ }
+    ensures { λ r. ⌜ r ≡ answerOf state (outcomeOf (state .table) (indicesIn sought) (λ cs. setOf cs bytes (now («data» .entry)))) ⌝ }
 {
     let mut table = state.table;
     let mut unready = false;
     let mut taken = true;
     let mut size = 0;
-    let mut index = 0;
-    while index < sought.count {
-        let place = sought.places[index] as usize;
-        let asks = answers::set_asks(table.controls[place], data, size);
+    let mut turn = 0;
+    while turn < sought.count {
+        let index = sought.indices[turn] as usize;
+        let asks = answers::set_asks(table.controls[index], data, size);
         unready |= asks.unready;
         taken &= asks.taken;
         size += asks.size;
-        index += 1;
+        turn += 1;
     }
     let denied = answers::set_number(unready, taken, size, bytes, data.len());
     if denied != 0 {
@@ -146,9 +143,9 @@ fn set_all(state: State, sought: Sought, bytes: u16, data: &[u8]) -> Answer
     let mut at = 0;
     let mut next = 0;
     while next < sought.count {
-        let place = sought.places[next] as usize;
-        let control = table.controls[place];
-        table.controls[place] = answers::set_to(control, data, at);
+        let index = sought.indices[next] as usize;
+        let control = table.controls[index];
+        table.controls[index] = answers::set_to(control, data, at);
         at += answers::size_of(control);
         next += 1;
     }
@@ -161,47 +158,24 @@ fn set_all(state: State, sought: Sought, bytes: u16, data: &[u8]) -> Answer
     }
 }
 
-// Writes a value's bytes, the low one first, behind the `at` bytes that were written before and up to `end`; answers how many are
-// written then.
-fn write(value: u16, size: usize, at: usize, end: usize, reply: &mut [u8]) -> usize
-    requires { ⌜ 1 ≤ size ⌝ }
-    requires { ⌜ size ≤ 2 ⌝ }
-    requires { ⌜ at ≤ end ⌝ }
-    requires { ⌜ end ≤ length (now reply) ⌝ }
-    ensures { λ r. ⌜ Written (take at (now (reply .entry)) ++ take (end - at) (lowFirst size value)) (now (reply .entry)) r (now (reply .exit)) ⌝ }
-{
-    if end <= at {
-        return at;
-    }
-    reply[at] = (value % 256) as u8;
-    if size == 1 {
-        return at + 1;
-    }
-    if end <= at + 1 {
-        return at + 1;
-    }
-    reply[at + 1] = (value / 256) as u8;
-    at + 2
-}
-
 // A Get of the controls that were sought: 35, 36, 39, or their bytes are written. The state is put together again of its parts, which saves
 // a copy of the table.
 fn get_all(state: State, sought: Sought, part: Part, bytes: u16, reply: &mut [u8]) -> Answer
     requires { ⌜ Seated sought ⌝ }
-    ensures { λ r. ⌜ Answered state (outcomeOf (state .table) (placesIn sought) (λ cs. getOf part cs bytes (length (now (reply .entry))))) (now (reply .entry)) r (now (reply .exit)) ⌝ }
+    ensures { λ r. ⌜ Answered state (outcomeOf (state .table) (indicesIn sought) (λ cs. getOf part cs bytes (length (now (reply .entry))))) (now (reply .entry)) r (now (reply .exit)) ⌝ }
 {
     let table = state.table;
     let mut lacking = false;
     let mut unready = false;
     let mut size = 0;
-    let mut index = 0;
-    while index < sought.count {
-        let place = sought.places[index] as usize;
-        let asks = answers::get_asks(table.controls[place], part);
+    let mut turn = 0;
+    while turn < sought.count {
+        let index = sought.indices[turn] as usize;
+        let asks = answers::get_asks(table.controls[index], part);
         lacking |= asks.lacking;
         unready |= asks.unready;
         size += asks.size;
-        index += 1;
+        turn += 1;
     }
     let end = answers::sent_of(bytes, size);
     let number = answers::get_number(lacking, unready, end, reply.len());
@@ -211,10 +185,10 @@ fn get_all(state: State, sought: Sought, part: Part, bytes: u16, reply: &mut [u8
     let mut written = 0;
     let mut next = 0;
     while next < sought.count {
-        let place = sought.places[next] as usize;
-        let control = table.controls[place];
+        let index = sought.indices[next] as usize;
+        let control = table.controls[index];
         let value = answers::part_of(part, control);
-        written = write(value, answers::size_of(control), written, end, reply);
+        written = deed::write(value, answers::size_of(control), written, end, reply);
         next += 1;
     }
     let control = state.control;

@@ -41,7 +41,7 @@ use Rattle.setup.specs.declared.Part.{Part}
 use Rattle.setup.specs.declared.Part.the-variants.{Cur, Min, Max, Res}
 use Rattle.setup.specs.Setup.{AsksSet, AsksGet}
 use Rattle.setup.specs.Asking.{set-no-get}
-use Rattle.deed.specs.Doing.{lowFirst}
+use Rattle.deed.specs.Reply.{lowFirst}
 use Rattle.answers.specs.Held.{partOf, unready}
 use Rattle.answers.specs.Answers.{heldBy, blockOf}
 use Rattle.loads.specs.Load.{loadedWith}

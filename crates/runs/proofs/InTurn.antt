@@ -31,7 +31,8 @@ use Rattle.setup.specs.declared.Asked.{Asked}
 use Rattle.setup.specs.declared.Asked.the-variants as asks
 use Rattle.setup.specs.Setup.{AsksSet, AsksGet, WellAsked, codeOf, targetOf, getAsked, askedBy, askedOf}
 use Rattle.setup.specs.Asking.{Asking, none, sets, gets, asking, set-no-get}
-use Rattle.deed.specs.Doing.{Doing, lowFirst, low-first-long}
+use Rattle.deed.specs.Doing.{Doing}
+use Rattle.deed.specs.Reply.{lowFirst, low-first-long}
 use Rattle.deed.specs.Doing.Doing.{denied, given, changed}
 use Rattle.answers.specs.Held.{lacking, partOf, unready, takes, storedFor, withCur}
 use Rattle.answers.specs.Answers.{heldBy, sizeIn, sizesOf, sentTo, restOf, allTake, allSet, blockOf, misfits, cutTo, setOf, getOf}

@@ -34,7 +34,8 @@ use Rattle.setup.specs.declared.Part.{Part}
 use Rattle.setup.specs.declared.Asked.{Asked}
 use Rattle.setup.specs.declared.Asked.the-variants as asks
 use Rattle.setup.specs.Setup.{askedOf, targetIn}
-use Rattle.deed.specs.Doing.{Doing, laid}
+use Rattle.deed.specs.Doing.{Doing}
+use Rattle.deed.specs.Reply.{laid}
 use Rattle.deed.specs.Doing.Doing.{denied, given, changed}
 use Rattle.answers.specs.Held.{lacking, unready}
 use Rattle.answers.specs.Answers.{heldBy, allTake, misfits, cutTo, setOf, getOf}

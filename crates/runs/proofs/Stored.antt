@@ -1,6 +1,5 @@
 -- Controls stored at their indices: each of these has what was stored there, and every other what it had.
 --   Pair ps cs q c  ==  of the controls cs, stored at the indices ps, c is the one that is stored at q; pair-in: q is one of these
---   upward-apart    ==  where the channels rise no index stands twice
 --   stored-count, stored-room  ==  storing leaves the count and the room
 --   stored-other, stored-here  ==  what stands at an index then
 --   pair-of         ==  something is stored at each of the indices; member: an index is one of them, or not
@@ -23,7 +22,6 @@ use Rattle.table.specs.Same.{Same, same-self, same-back, same-by}
 use Rattle.table.specs.Placed.{placed-here, placed-elsewhere}
 use Rattle.single.specs.Meaning.{SoundAs}
 use Rattle.sound.specs.Meaning.{Sound}
-use Rattle.address.specs.AddressedLaws.{Upward, none, more}
 use Rattle.request.specs.Stored.{storedAt, Apart, alone, apart}
 
 pub data Pair : List ℕ → List Control → ℕ → Control → Type 0 where
@@ -33,10 +31,6 @@ pub data Pair : List ℕ → List Control → ℕ → Control → Type 0 where
 pub pair-in : {ps : List ℕ} {cs : List Control} {q : ℕ} {c : Control} → Pair ps cs q c → q ∈ ps
 pair-in front = List·Memᴰ·head refl
 pair-in (behind h) = List·Memᴰ·tail (pair-in h)
-
-pub upward-apart : (t : Table) (ps : List ℕ) → Upward t ps → Apart ps
-upward-apart t _ none = alone
-upward-apart t _ (more {p} {ps} h u) = apart (λ m. let l = h p m in omega arith) (upward-apart t ps u)
 
 pub stored-count : (t : Table) (ps : List ℕ) (cs : List Control) → storedAt t ps cs .count ≡ t .count
 unfolding storedAt

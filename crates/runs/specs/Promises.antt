@@ -44,7 +44,7 @@ use Rattle.sound.specs.Meaning.{Sound}
 use Rattle.setup.specs.declared.Part.{Part}
 use Rattle.setup.specs.declared.Part.the-variants.{Cur, Min, Max, Res}
 use Rattle.setup.specs.Setup.{codeOf}
-use Rattle.deed.specs.Doing.{lowFirst}
+use Rattle.deed.specs.Reply.{lowFirst}
 use Rattle.answers.specs.Held.{partOf, valueIn, withCur}
 use Rattle.answers.specs.Answers.{heldBy, sizeIn, restOf, blockOf}
 use Rattle.request.specs.declared.State.{State}

@@ -29,6 +29,7 @@ use mathlib.Core.Logic.{_⊎_, _↔_}
 use lib.ListN.{length}
 use Rattle.ground.specs.Numbers.{byte, word}
 use Rattle.ground.specs.Lists.{Some}
+use Rattle.ground.specs.Rising.{Rising}
 use Rattle.graph.specs.Members.{_∈_}
 use Rattle.setting.specs.Setting.{spanOf}
 use Rattle.setting.specs.Meaning.{Legal}
@@ -64,9 +65,8 @@ pub record Names (k : Key) (c : Control) : Type 0 where
   pub selector : c .selector ≡ k .selector
   pub channel : (c .channel ≡ k .channel) ⊎ ((k .channel ≡ 255) × (k .selector ≡ 0 → ⊥))
 
-pub data ByChannel : List Control → Type 0 where
-  none : ByChannel []
-  more : {c : Control} {cs : List Control} → ((e : Control) → e ∈ cs → c .channel < e .channel) → ByChannel cs → ByChannel (c ∷ cs)
+abbrev pub ByChannel : List Control → Type 0
+ByChannel cs = Rising (λ c. c .channel) cs
 
 pub record Addressed (t : Table) (s : List ℕ) (cs : List Control) : Type 0 where
   pub each : (c : Control) → c ∈ cs ↔ (InTable t c × Names (namedBy s) c)

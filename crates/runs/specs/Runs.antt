@@ -1,6 +1,7 @@
 -- Runs: loads and requests, one after another, each on the state that the one before it left.
 --   namedBy s         ==  what a setup names: the unit is "wIndex high byte", and "wValue is selector (high) and channel (low)"
---   addressedBy t s   ==  the controls of the table t that the setup s addresses, in the order in which the request takes them
+--   addressedBy t s   ==  the controls of the table t that the setup s addresses, in the order in which the request takes them, as they are
+--                         found; that they are Addressed, with no search, is demand 2's (EveryRun, addressed)
 --   Step              ==  a load of a range and a CUR to the control of a key, or a request: the setup, the data of a Set and the length
 --                         of the lent reply
 --   stepOf st step    ==  what the step comes to in the state st

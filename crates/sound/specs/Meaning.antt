@@ -19,7 +19,7 @@ use Rattle.table.specs.First.Seat.{absent, seat}
 use Rattle.table.specs.Controls.{mostControls, blankControl, at, senseOf, answersTo}
 use Rattle.table.specs.Same.{Same, same-self, answers-same}
 use Rattle.single.specs.Meaning.{SoundPin, SoundAs, sound-control}
-use Rattle.sound.specs.Sound.{isAt, firstThere, soundPlace, soundOf}
+use Rattle.sound.specs.Sound.{isAt, firstThere, soundAt, soundOf}
 
 pub record Sound (t : Table) : Type 0 where
   pub few : t .count ≤ mostControls
@@ -53,14 +53,14 @@ module _ (t : Table) (few : t .count ≤ mostControls) where
           ∙ shows (reads-eq p p) refl
 
   reads-index : (p : ℕ) (l : p < t .count)
-      → Reads (soundPlace t p) (SoundAs (senseOf (at t p .selector)) (at t p) × ((q : ℕ) → q < p → Same (at t q) (at t p) → ⊥))
-  unfolding soundPlace
+      → Reads (soundAt t p) (SoundAs (senseOf (at t p .selector)) (at t p) × ((q : ℕ) → q < p → Same (at t q) (at t p) → ⊥))
+  unfolding soundAt
   reads-index p l = reads-and _ _ (sound-control (at t p)) (reads-first p l)
 
 pub sound-reads : (t : Table) → Reads (soundOf t) (Sound t)
 unfolding soundOf
 sound-reads t =
-    reads-same (reads-and _ _ (reads-le _ _) (reads-everywhere (soundPlace t) (λ p. soundPlace t p ≡ true) (t .count) (λ p l. reads-true (soundPlace t p))))
+    reads-same (reads-and _ _ (reads-le _ _) (reads-everywhere (soundAt t) (λ p. soundAt t p ≡ true) (t .count) (λ p l. reads-true (soundAt t p))))
     (λ h. record {
       few = h .0;
       once = λ p q l m. reads-index t (h .0) q m .says (h .1 q m) .1 p l;

@@ -17,24 +17,24 @@ use Rattle.address.specs.Seats.{seatOf, seatedIn}
 use Rattle.address.proofs.told.Statement.{statement}
 use Rattle.address.proofs.told.Tie as tie
 
-record Taking (seats places : List ℕ) (count c : ℕ) : Type 0 where
+record Taking (seats indices : List ℕ) (count c : ℕ) : Type 0 where
   low : c ≤ mostAddressed
   few : count ≤ c
-  filled : places ≡ pad 0 mostAddressed (seatedIn seats c)
+  filled : indices ≡ pad 0 mostAddressed (seatedIn seats c)
   counted : count ≡ length (seatedIn seats c)
 
 start : (seats : List ℕ) → Taking seats (replicate mostAddressed 0) 0 0
 unfolding seatedIn
 start seats = record { low = omega arith; few = omega arith; filled = pad-blank {A = ℕ} 0 mostAddressed; counted = refl }
 
-module _ (seats places : List ℕ) (count c : ℕ) (g : Taking seats places count c) (l : c < mostAddressed) where
+module _ (seats indices : List ℕ) (count c : ℕ) (g : Taking seats indices count c) (l : c < mostAddressed) where
   abbrev front : List ℕ
   front = seatedIn seats c
 
   abbrev here : ℕ
   here = getD seats c 0 - 1
 
-  skip : getD seats c 0 ≤ 0 → (r : List ℕ) → r ≡ places → (k : ℕ) → k ≡ count → Taking seats r k (c + 1)
+  skip : getD seats c 0 ≤ 0 → (r : List ℕ) → r ≡ indices → (k : ℕ) → k ≡ count → Taking seats r k (c + 1)
   unfolding seatedIn
   skip h r e k f =
       let i = g .few in
@@ -45,7 +45,7 @@ module _ (seats places : List ℕ) (count c : ℕ) (g : Taking seats places coun
           let z : getD seats c 0 ≡ 0 = omega arith in
           ap (seatedIn seats) (add-one c) ∙ ap (λ (x : ℕ). front ++ indicesOf (seatOf x)) z ∙ append-nil front
 
-  more : 0 < getD seats c 0 → (r : List ℕ) → r ≡ set places count here → (k : ℕ) → k ≡ count + 1 → Taking seats r k (c + 1)
+  more : 0 < getD seats c 0 → (r : List ℕ) → r ≡ set indices count here → (k : ℕ) → k ≡ count + 1 → Taking seats r k (c + 1)
   unfolding seatedIn
   more h r e k f =
       let i = g .few in
@@ -68,21 +68,21 @@ module _ (seats places : List ℕ) (count c : ℕ) (g : Taking seats places coun
           let z : getD seats c 0 ≡ suc here = omega arith in
           ap (seatedIn seats) (add-one c) ∙ ap (λ (x : ℕ). front ++ indicesOf (seatOf x)) z
 
-over : (seats places : List ℕ) (count c : ℕ) → Taking seats places count c → mostAddressed ≤ c → (owned : Bool) (n : ℕ) → n ≡ pick (ltb 0 count) 0 (missingBy owned)
-    → record { number = n; count = count; places = places } ≡ toldOf owned (seatedIn seats mostAddressed)
-over seats places count c g h owned n e =
+over : (seats indices : List ℕ) (count c : ℕ) → Taking seats indices count c → mostAddressed ≤ c → (owned : Bool) (n : ℕ) → n ≡ pick (ltb 0 count) 0 (missingBy owned)
+    → record { number = n; count = count; indices = indices } ≡ toldOf owned (seatedIn seats mostAddressed)
+over seats indices count c g h owned n e =
     let z : c ≡ mostAddressed = let l = g .low in omega arith in
     let k : count ≡ length (seatedIn seats mostAddressed) = g .counted ∙ ap (λ (m : ℕ). length (seatedIn seats m)) z in
-    let q : places ≡ pad 0 mostAddressed (seatedIn seats mostAddressed) = g .filled ∙ ap (λ (m : ℕ). pad 0 mostAddressed (seatedIn seats m)) z in
+    let q : indices ≡ pad 0 mostAddressed (seatedIn seats mostAddressed) = g .filled ∙ ap (λ (m : ℕ). pad 0 mostAddressed (seatedIn seats m)) z in
     rw (e, k, q)
 
 ruleset laws = (start, skip, more, over, needs)
 
 abbrev Inv-loop : tie.InvT-loop
-Inv-loop seats owned places₀ count₀ of₀ places count of = Taking seats places count of
+Inv-loop seats owned indices₀ count₀ of₀ indices count of = Taking seats indices count of
 
 abbrev μ-loop : tie.MeasureT-loop
-μ-loop seats owned places₀ count₀ of₀ places count of = mostAddressed - of
+μ-loop seats owned indices₀ count₀ of₀ indices count of = mostAddressed - of
 
 loop-holds : tie.Need-loop-holds Inv-loop μ-loop
 loop-holds c = search laws
@@ -90,11 +90,11 @@ loop-holds c = search laws
 element-copy-out-seat : tie.Need-element-copy-out-seat Inv-loop μ-loop
 element-copy-out-seat c = search laws
 
-sub-places : tie.Need-sub-places Inv-loop μ-loop
-sub-places c = search laws
+sub-indices : tie.Need-sub-indices Inv-loop μ-loop
+sub-indices c = search laws
 
-array-write-places : tie.Need-array-write-places Inv-loop μ-loop
-array-write-places c = search laws
+array-write-indices : tie.Need-array-write-indices Inv-loop μ-loop
+array-write-indices c = search laws
 
 add-count : tie.Need-add-count Inv-loop μ-loop
 add-count c = search laws
@@ -122,8 +122,8 @@ told-spec =
     μ-loop
     loop-holds
     element-copy-out-seat
-    sub-places
-    array-write-places
+    sub-indices
+    array-write-indices
     add-count
     add-of
     loop-less

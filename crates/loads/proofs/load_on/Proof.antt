@@ -8,8 +8,9 @@ use Rattle.table.specs.declared.Control.{Control}
 use Rattle.table.specs.declared.Sense.{Sense}
 use Rattle.table.specs.declared.Sense.the-variants.{Unknown, YesNo, Ranged, Pin}
 use Rattle.table.specs.Controls.{senseOf}
-use Rattle.deed.specs.declared.Deed.{Deed}
-use Rattle.deed.specs.Doing.{Doing, idleDeed, deedOf}
+use Rattle.loads.specs.declared.Deed.{Deed}
+use Rattle.deed.specs.Doing.{Doing}
+use Rattle.loads.specs.Load.{deedOf}
 use Rattle.deed.specs.Doing.Doing.{denied}
 use Rattle.loads.specs.Load.{loadRange, loadBy, loadOn}
 use Rattle.loads.proofs.load_on.Statement.{statement}
@@ -20,15 +21,15 @@ module _ (c : Control) (range : Range) (w : ℕ) (r : Deed) (k : Sense) (j : k �
   tells : (o : Doing) → loadBy k c range w ≡ o → r ≡ deedOf c o → r ≡ deedOf c (loadOn c range w)
   tells o f g = rw (← j) (g ∙ ap (deedOf c) (sym f))
 
-  unknown : k ≡ Unknown → r ≡ idleDeed 20 c → r ≡ deedOf c (loadOn c range w)
+  unknown : k ≡ Unknown → r ≡ record { number = 20; control = c } → r ≡ deedOf c (loadOn c range w)
   unfolding loadBy
   unknown e = tells (denied 20) (rw e)
 
-  yes-no : k ≡ YesNo → r ≡ idleDeed 20 c → r ≡ deedOf c (loadOn c range w)
+  yes-no : k ≡ YesNo → r ≡ record { number = 20; control = c } → r ≡ deedOf c (loadOn c range w)
   unfolding loadBy
   yes-no e = tells (denied 20) (rw e)
 
-  pin : k ≡ Pin → r ≡ idleDeed 20 c → r ≡ deedOf c (loadOn c range w)
+  pin : k ≡ Pin → r ≡ record { number = 20; control = c } → r ≡ deedOf c (loadOn c range w)
   unfolding loadBy
   pin e = tells (denied 20) (rw e)
 
@@ -44,14 +45,8 @@ sense-of-requires c κs = search laws
 enum-told : tie.Need-enum-told
 enum-told c = search laws
 
-idle-requires : tie.Need-idle-requires
-idle-requires c κs = search laws
-
 enum-told-2 : tie.Need-enum-told-2
 enum-told-2 c = search laws
-
-idle-requires-2 : tie.Need-idle-requires-2
-idle-requires-2 c κs = search laws
 
 enum-known-sort : tie.Need-enum-known-sort
 enum-known-sort c = search laws
@@ -61,9 +56,6 @@ load-range-requires c κs = search laws
 
 enum-told-3 : tie.Need-enum-told-3
 enum-told-3 c = search laws
-
-idle-requires-3 : tie.Need-idle-requires-3
-idle-requires-3 c κs = search laws
 
 returns : tie.Need-returns
 returns c = search laws
@@ -83,13 +75,10 @@ load-on-spec =
     (tie.spec
     sense-of-requires
     enum-told
-    idle-requires
     enum-told-2
-    idle-requires-2
     enum-known-sort
     load-range-requires
     enum-told-3
-    idle-requires-3
     returns
     returns-2
     returns-3

@@ -2,37 +2,37 @@
 use borrow.Author.Needs.{needs}
 use Prim.Native.Nat.{_-_}
 use lib.ListN.{length-map}
-use Rattle.request.proofs.Passing.{GetAsking, get-asking-start, get-asking-inside, get-asking-place, get-asking-scaled, get-asking-small, get-asking-on, Writing, writing-start, writing-low, writing-long, writing-room, writing-inside, writing-place, writing-scaled, writing-some, writing-few, writing-on, get-refused, get-sent}
+use Rattle.request.proofs.Passing.{GetAsking, get-asking-start, get-asking-inside, get-asking-index, get-asking-scaled, get-asking-small, get-asking-on, Writing, writing-start, writing-long, writing-inside, writing-index, writing-scaled, writing-on, get-refused, get-sent}
 use Rattle.request.proofs.get_all.Statement.{statement}
 use Rattle.request.proofs.get_all.Tie as tie
 
-ruleset asks = (get-asking-start, get-asking-inside, get-asking-place, get-asking-scaled, get-asking-small, get-asking-on, get-refused, needs)
+ruleset asks = (get-asking-start, get-asking-inside, get-asking-index, get-asking-scaled, get-asking-small, get-asking-on, get-refused, needs)
 
-ruleset writes = (writing-start, writing-low, writing-long, writing-room, writing-inside, writing-place, writing-scaled, writing-some, writing-few, writing-on, get-sent, needs)
+ruleset writes = (writing-start, writing-long, writing-inside, writing-index, writing-scaled, writing-on, get-sent, needs)
 
 abbrev Inv-loop : tie.InvT-loop
-Inv-loop state part bytes reply sought table lacking₀ unready₀ size₀ index₀ lacking unready size index =
-    GetAsking (state .table) sought part lacking unready size index
+Inv-loop state part bytes reply sought table lacking₀ unready₀ size₀ turn₀ lacking unready size turn =
+    GetAsking (state .table) sought part lacking unready size turn
 
 abbrev μ-loop : tie.MeasureT-loop
-μ-loop state part bytes reply sought table lacking₀ unready₀ size₀ index₀ lacking unready size index = sought .count - index
+μ-loop state part bytes reply sought table lacking₀ unready₀ size₀ turn₀ lacking unready size turn = sought .count - turn
 
 abbrev Inv-loop2 : tie.InvT-loop2
-Inv-loop2 state part bytes reply₀ sought table lacking unready size index end number written₀ next₀ reply written next =
+Inv-loop2 state part bytes reply₀ sought table lacking unready size turn end number written₀ next₀ reply written next =
     Writing (state .table) sought part bytes end reply₀ written reply next
 
 abbrev μ-loop2 : tie.MeasureT-loop2
-μ-loop2 state part bytes reply₀ sought table lacking unready size index end number written₀ next₀ reply written next = sought .count - next
+μ-loop2 state part bytes reply₀ sought table lacking unready size turn end number written₀ next₀ reply written next = sought .count - next
 
 loop-holds : tie.Need-loop-holds Inv-loop μ-loop Inv-loop2 μ-loop2
 loop-holds c =
     get-asking-start _ _ _ (c .before .before .pre) (search needs) (simp length-map at (c .before .before .good .0 .1 .1 .1 .0 .1 .1 .1 .0 .1 .0 .1))
 
-element-copy-out-place : tie.Need-element-copy-out-place Inv-loop μ-loop Inv-loop2 μ-loop2
-element-copy-out-place c = search asks
+element-copy-out-index : tie.Need-element-copy-out-index Inv-loop μ-loop Inv-loop2 μ-loop2
+element-copy-out-index c = search asks
 
-cast-place : tie.Need-cast-place Inv-loop μ-loop Inv-loop2 μ-loop2
-cast-place c = search asks
+cast-index : tie.Need-cast-index Inv-loop μ-loop Inv-loop2 μ-loop2
+cast-index c = search asks
 
 mul-get-asks : tie.Need-mul-get-asks Inv-loop μ-loop Inv-loop2 μ-loop2
 mul-get-asks c = search asks
@@ -46,8 +46,8 @@ get-asks-requires c κs = search asks
 add-size : tie.Need-add-size Inv-loop μ-loop Inv-loop2 μ-loop2
 add-size c = search asks
 
-add-index : tie.Need-add-index Inv-loop μ-loop Inv-loop2 μ-loop2
-add-index c = search asks
+add-turn : tie.Need-add-turn Inv-loop μ-loop Inv-loop2 μ-loop2
+add-turn c = search asks
 
 loop-less : tie.Need-loop-less Inv-loop μ-loop Inv-loop2 μ-loop2
 loop-less c = search asks
@@ -72,11 +72,11 @@ returns c =
 loop2-holds : tie.Need-loop2-holds Inv-loop μ-loop Inv-loop2 μ-loop2
 loop2-holds c = search writes
 
-element-copy-out-place-2 : tie.Need-element-copy-out-place-2 Inv-loop μ-loop Inv-loop2 μ-loop2
-element-copy-out-place-2 c = search writes
+element-copy-out-index-2 : tie.Need-element-copy-out-index-2 Inv-loop μ-loop Inv-loop2 μ-loop2
+element-copy-out-index-2 c = search writes
 
-cast-place-2 : tie.Need-cast-place-2 Inv-loop μ-loop Inv-loop2 μ-loop2
-cast-place-2 c = search writes
+cast-index-2 : tie.Need-cast-index-2 Inv-loop μ-loop Inv-loop2 μ-loop2
+cast-index-2 c = search writes
 
 mul-control : tie.Need-mul-control Inv-loop μ-loop Inv-loop2 μ-loop2
 mul-control c = search writes
@@ -91,10 +91,7 @@ size-of-requires : tie.Need-size-of-requires Inv-loop μ-loop Inv-loop2 μ-loop2
 size-of-requires c κs = search writes
 
 write-requires : tie.Need-write-requires Inv-loop μ-loop Inv-loop2 μ-loop2
-write-requires c κs =
-    let g = c .before .before .before .before .before .before .loop2 .inv in
-    let e = c .before .size-of .ensures in
-    (writing-some _ _ _ _ _ _ _ _ _ g _ e, (writing-few _ _ _ _ _ _ _ _ _ g _ e, (writing-low _ _ _ _ _ _ _ _ _ g, writing-room _ _ _ _ _ _ _ _ _ g)))
+write-requires c κs = search writes
 
 add-next : tie.Need-add-next Inv-loop μ-loop Inv-loop2 μ-loop2
 add-next c = search writes
@@ -121,13 +118,13 @@ get-all-spec =
     Inv-loop2
     μ-loop2
     loop-holds
-    element-copy-out-place
-    cast-place
+    element-copy-out-index
+    cast-index
     mul-get-asks
     element-copy-out-get-asks
     get-asks-requires
     add-size
-    add-index
+    add-turn
     loop-less
     loop-again
     sent-of-requires
@@ -135,8 +132,8 @@ get-all-spec =
     refused-requires
     returns
     loop2-holds
-    element-copy-out-place-2
-    cast-place-2
+    element-copy-out-index-2
+    cast-index-2
     mul-control
     element-copy-out-control
     part-of-requires

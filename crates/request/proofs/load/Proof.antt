@@ -16,8 +16,8 @@ use Rattle.table.specs.Controls.{at}
 use Rattle.table.specs.First.{Seat, foundIn, entryAt, entryIn}
 use Rattle.table.specs.First.Seat.{absent, seat}
 use Rattle.sound.specs.Sound.{soundOf}
-use Rattle.deed.specs.declared.Deed.{Deed}
-use Rattle.deed.specs.Doing.{deedOf}
+use Rattle.loads.specs.declared.Deed.{Deed}
+use Rattle.loads.specs.Load.{deedOf}
 use Rattle.loads.specs.Load.{loadOn, load-of-one}
 use Rattle.request.specs.declared.State.{State}
 use Rattle.request.specs.declared.Answer.{Answer}

@@ -14,7 +14,8 @@ use Rattle.setup.specs.declared.Part.{Part}
 use Rattle.setup.specs.declared.Asked.{Asked}
 use Rattle.setup.specs.declared.Asked.the-variants as asks
 use Rattle.setup.specs.Setup.{askedOf, targetIn}
-use Rattle.deed.specs.Doing.{Doing, laid}
+use Rattle.deed.specs.Doing.{Doing}
+use Rattle.deed.specs.Reply.{laid}
 use Rattle.address.specs.declared.Sought.{Sought}
 use Rattle.address.specs.Addressed.{addressedIn}
 use Rattle.address.specs.Sought.{soughtIn}
@@ -23,9 +24,9 @@ use Rattle.request.specs.declared.State.{State}
 use Rattle.request.specs.declared.Answer.{Answer}
 use Rattle.request.specs.Outcome.{Outcome, bytesOf, answerOf, refusal, Answered}
 use Rattle.request.specs.Outcome.Outcome.{refused, got, done}
-use Rattle.request.specs.Stored.{outcomeAt, outcomeOf, placesIn, Seated}
+use Rattle.request.specs.Stored.{outcomeAt, outcomeOf, indicesIn, Seated}
 use Rattle.request.specs.Request.{barredBy, doingOf, doneAt, answerAsked, requestOf}
-use Rattle.request.proofs.Searched.{is-unsound, is-sound, is-missed, is-places, is-there, is-seated}
+use Rattle.request.proofs.Searched.{is-unsound, is-sound, is-missed, is-indices, is-there, is-seated}
 use Rattle.request.proofs.Storing.{refuses}
 use Rattle.request.proofs.Passing.{set-writes-none}
 use Rattle.request.proofs.request.Statement.{statement}
@@ -82,26 +83,26 @@ module _ (st : State) (s d b : List ℕ) (r : Answer) (k : Asked) (f : k ≡ ask
         seated : Seated o
         seated = is-seated t _ _ _ o seen h
 
-        comes : (act : List Control → Doing) → doingOf k d (length b) ≡ act → requestOf st s d (length b) ≡ outcomeOf t (placesIn o) act
+        comes : (act : List Control → Doing) → doingOf k d (length b) ≡ act → requestOf st s d (length b) ≡ outcomeOf t (indicesIn o) act
         comes act q =
             free
             ∙ done-some t (targetIn k .unit) ps (doingOf k d (length b)) (is-there t _ _ _ o seen h y)
-            ∙ ap (λ (l : List ℕ). outcomeOf t l (doingOf k d (length b))) (sym (is-places t _ _ _ o seen h))
-            ∙ ap (outcomeOf t (placesIn o)) q
+            ∙ ap (λ (l : List ℕ). outcomeOf t l (doingOf k d (length b))) (sym (is-indices t _ _ _ o seen h))
+            ∙ ap (outcomeOf t (indicesIn o)) q
 
         unknown : k ≡ asks.Unknown → r ≡ refusal st 31 → Told b
         unknown q = refuses-all 31 (comes _ (ap (λ (v : Asked). doingOf v d (length b)) q))
 
-        setting : (w : Target) → k ≡ asks.Set w → r ≡ answerOf st (outcomeOf t (placesIn o) (λ cs. setOf cs (w .bytes) d)) → Told b
+        setting : (w : Target) → k ≡ asks.Set w → r ≡ answerOf st (outcomeOf t (indicesIn o) (λ cs. setOf cs (w .bytes) d)) → Told b
         setting w q a =
             let c = comes (λ cs. setOf cs (w .bytes) d) (ap (λ (v : Asked). doingOf v d (length b)) q) in
             record {
               result = a ∙ sym (ap (answerOf st) c);
-              lent = sym (ap (λ (v : Outcome). laid (bytesOf v) b) c ∙ ap (λ (v : List ℕ). laid v b) (set-writes-none t (placesIn o) (w .bytes) d));
+              lent = sym (ap (λ (v : Outcome). laid (bytesOf v) b) c ∙ ap (λ (v : List ℕ). laid v b) (set-writes-none t (indicesIn o) (w .bytes) d));
             }
 
         getting : (part : Part) (w : Target) (a : List ℕ) → k ≡ asks.Get part w
-            → Answered st (outcomeOf t (placesIn o) (λ cs. getOf part cs (w .bytes) (length b))) b r a → Told a
+            → Answered st (outcomeOf t (indicesIn o) (λ cs. getOf part cs (w .bytes) (length b))) b r a → Told a
         getting part w a q v = rw (comes (λ cs. getOf part cs (w .bytes) (length b)) (ap (λ (y : Asked). doingOf y d (length b)) q)) v
 
 ruleset laws = (unsound, barred, missed, seated, unknown, setting, getting, needs)

@@ -2,36 +2,36 @@
 use borrow.Author.Needs.{needs}
 use Prim.Native.Nat.{_-_}
 use lib.ListN.{length-map}
-use Rattle.request.proofs.Passing.{SetAsking, set-asking-start, set-asking-inside, set-asking-place, set-asking-scaled, set-asking-small, set-asking-on, Storing, storing-start, storing-inside, storing-place, storing-scaled, storing-small, storing-on, set-refused, set-stored}
+use Rattle.request.proofs.Passing.{SetAsking, set-asking-start, set-asking-inside, set-asking-index, set-asking-scaled, set-asking-small, set-asking-on, Storing, storing-start, storing-inside, storing-index, storing-scaled, storing-small, storing-on, set-refused, set-stored}
 use Rattle.request.proofs.set_all.Statement.{statement}
 use Rattle.request.proofs.set_all.Tie as tie
 
-ruleset asks = (set-asking-start, set-asking-inside, set-asking-place, set-asking-scaled, set-asking-small, set-asking-on, set-refused, needs)
+ruleset asks = (set-asking-start, set-asking-inside, set-asking-index, set-asking-scaled, set-asking-small, set-asking-on, set-refused, needs)
 
-ruleset stores = (storing-start, storing-inside, storing-place, storing-scaled, storing-small, storing-on, set-stored, needs)
+ruleset stores = (storing-start, storing-inside, storing-index, storing-scaled, storing-small, storing-on, set-stored, needs)
 
 abbrev Inv-loop : tie.InvT-loop
-Inv-loop state bytes «data» sought table unready₀ taken₀ size₀ index₀ unready taken size index =
-    SetAsking (state .table) sought «data» table unready taken size index
+Inv-loop state bytes «data» sought table unready₀ taken₀ size₀ turn₀ unready taken size turn =
+    SetAsking (state .table) sought «data» table unready taken size turn
 
 abbrev μ-loop : tie.MeasureT-loop
-μ-loop state bytes «data» sought table unready₀ taken₀ size₀ index₀ unready taken size index = sought .count - index
+μ-loop state bytes «data» sought table unready₀ taken₀ size₀ turn₀ unready taken size turn = sought .count - turn
 
 abbrev Inv-loop2 : tie.InvT-loop2
-Inv-loop2 state bytes «data» sought table₀ unready taken size index denied at₀ next₀ table at next =
+Inv-loop2 state bytes «data» sought table₀ unready taken size turn denied at₀ next₀ table at next =
     Storing (state .table) sought bytes «data» table at next
 
 abbrev μ-loop2 : tie.MeasureT-loop2
-μ-loop2 state bytes «data» sought table₀ unready taken size index denied at₀ next₀ table at next = sought .count - next
+μ-loop2 state bytes «data» sought table₀ unready taken size turn denied at₀ next₀ table at next = sought .count - next
 
 loop-holds : tie.Need-loop-holds Inv-loop μ-loop Inv-loop2 μ-loop2
 loop-holds c = set-asking-start _ _ _ (c .before .before .pre) (search needs) (simp length-map at (c .before .before .good .0 .1 .1 .1 .0 .1 .1 .1 .0 .1 .0 .1))
 
-element-copy-out-place : tie.Need-element-copy-out-place Inv-loop μ-loop Inv-loop2 μ-loop2
-element-copy-out-place c = search asks
+element-copy-out-index : tie.Need-element-copy-out-index Inv-loop μ-loop Inv-loop2 μ-loop2
+element-copy-out-index c = search asks
 
-cast-place : tie.Need-cast-place Inv-loop μ-loop Inv-loop2 μ-loop2
-cast-place c = search asks
+cast-index : tie.Need-cast-index Inv-loop μ-loop Inv-loop2 μ-loop2
+cast-index c = search asks
 
 mul-set-asks : tie.Need-mul-set-asks Inv-loop μ-loop Inv-loop2 μ-loop2
 mul-set-asks c = search asks
@@ -45,8 +45,8 @@ set-asks-requires c κs = search asks
 add-size : tie.Need-add-size Inv-loop μ-loop Inv-loop2 μ-loop2
 add-size c = search asks
 
-add-index : tie.Need-add-index Inv-loop μ-loop Inv-loop2 μ-loop2
-add-index c = search asks
+add-turn : tie.Need-add-turn Inv-loop μ-loop Inv-loop2 μ-loop2
+add-turn c = search asks
 
 loop-less : tie.Need-loop-less Inv-loop μ-loop Inv-loop2 μ-loop2
 loop-less c = search asks
@@ -66,11 +66,11 @@ returns c = set-refused _ _ _ _ _ _ _ _ _ (c .before .before .before .before .lo
 loop2-holds : tie.Need-loop2-holds Inv-loop μ-loop Inv-loop2 μ-loop2
 loop2-holds c = search stores
 
-element-copy-out-place-2 : tie.Need-element-copy-out-place-2 Inv-loop μ-loop Inv-loop2 μ-loop2
-element-copy-out-place-2 c = search stores
+element-copy-out-index-2 : tie.Need-element-copy-out-index-2 Inv-loop μ-loop Inv-loop2 μ-loop2
+element-copy-out-index-2 c = search stores
 
-cast-place-2 : tie.Need-cast-place-2 Inv-loop μ-loop Inv-loop2 μ-loop2
-cast-place-2 c = search stores
+cast-index-2 : tie.Need-cast-index-2 Inv-loop μ-loop Inv-loop2 μ-loop2
+cast-index-2 c = search stores
 
 mul-control : tie.Need-mul-control Inv-loop μ-loop Inv-loop2 μ-loop2
 mul-control c = search stores
@@ -114,21 +114,21 @@ set-all-spec =
     Inv-loop2
     μ-loop2
     loop-holds
-    element-copy-out-place
-    cast-place
+    element-copy-out-index
+    cast-index
     mul-set-asks
     element-copy-out-set-asks
     set-asks-requires
     add-size
-    add-index
+    add-turn
     loop-less
     loop-again
     set-number-requires
     refused-requires
     returns
     loop2-holds
-    element-copy-out-place-2
-    cast-place-2
+    element-copy-out-index-2
+    cast-index-2
     mul-control
     element-copy-out-control
     set-to-requires
