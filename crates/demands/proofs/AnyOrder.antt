@@ -10,6 +10,8 @@ use Rattle.layout.specs.declared.Cluster.{Cluster}
 use Rattle.ground.specs.Numbers.{byte}
 use Rattle.sound.specs.Fresh.{fresh-sound}
 use Rattle.sound.specs.Meaning.{Sound}
+use Rattle.groups.specs.Rules5and6.{Rule5, Rule6}
+use Rattle.cutting.specs.Rules1to9.{Opened}
 use Rattle.records.specs.Records.{recordSize}
 use Rattle.topology.specs.declared.Reading.{Reading}
 use Rattle.topology.specs.Reading.{verdictOf, readingOf, sheetOf}
@@ -20,15 +22,15 @@ use Rattle.reader.proofs.Shows.{number-told, answer-shows, sheet-shows, control
 use Rattle.reader.proofs.Tables.{reader-table}
 use Rattle.request.specs.declared.State.{State}
 use Rattle.request.specs.declared.Answer.{Answer}
-use Rattle.deed.specs.Doing.{laid}
+use Rattle.deed.specs.Reply.{laid}
 use Rattle.request.specs.Outcome.{answerOf}
 use Rattle.request.specs.Plugged.{stateOf}
 use Rattle.runs.specs.Runs.{Step, after, Wired}
 use Rattle.runs.specs.Runs.Step.{load, request}
 use Rattle.runs.proofs.Alone.{run-sound}
-use Rattle.order.specs.Permuted.{Permuted, Agree}
-use Rattle.order.specs.Alike.{SameControls, SameState}
-use Rattle.order.specs.Blind.{recordsIn}
+use Rattle.order.specs.Permuted.{Permuted, AgreeOn}
+use Rattle.order.specs.Same.{SameControls, SameState}
+use Rattle.order.specs.Blind.{recordsEach}
 use Rattle.order.proofs.Permutations.{permuted-back, permuted-length}
 use Rattle.order.proofs.Rows.{alike-number}
 use Rattle.order.proofs.Rules.{agree-one, agree-back, records-flat, records-long, records-counted, blind-rules}
@@ -74,10 +76,10 @@ module _ (s s′ : List ℕ) (h : Shuffled s s′) (t : Configuration s) (t′ :
   permuted : Permuted run run′
   permuted = runs-shuffled h (t .kept) (t′ .kept)
 
-  agree : Agree run cluster cluster′
+  agree : AgreeOn run cluster cluster′
   agree = agree-one run run′ permuted (t .connected) (t′ .connected)
 
-  agree′ : Agree run′ cluster′ cluster
+  agree′ : AgreeOn run′ cluster′ cluster
   agree′ = agree-back run run′ permuted cluster cluster′ agree
 
   module _ (d d′ : List ℕ) (r : Rule16 run (length d)) (r′ : Rule16 run′ (length d′)) where
@@ -113,8 +115,8 @@ module _ (s s′ : List ℕ) (h : Shuffled s s′) (t : Configuration s) (t′ :
     sheets =
         let n = records-counted run cluster in
         record {
-          records = recordsIn run cluster;
-          records′ = recordsIn run′ cluster′;
+          records = recordsEach run cluster;
+          records′ = recordsEach run′ cluster′;
           counted = n ∙ sym (ap (λ (x : Reading). x .entities) (answer-shows s t (length d) r));
           long = records-long run cluster;
           permuted = blind-rules .records run run′ permuted cluster cluster′ agree;
@@ -123,11 +125,11 @@ module _ (s s′ : List ℕ) (h : Shuffled s s′) (t : Configuration s) (t′ :
         }
       where
         shows : (z : List ℕ) (c : Configuration z) (l : List ℕ) → Rule16 (runOf (c .kept)) (length l) → {k : ℕ} → k ≡ length (runOf (c .kept))
-            → sheetOf z l ≡ flatten (recordsIn (runOf (c .kept)) (c .connected .cluster)) ++ drop (k * recordSize) l
+            → sheetOf z l ≡ flatten (recordsEach (runOf (c .kept)) (c .connected .cluster)) ++ drop (k * recordSize) l
         shows z c l q {k} e =
             sheet-shows z c l q
             ∙ ap (λ (x : List ℕ). x ++ drop (length (runOf (c .kept)) * recordSize) l) (records-flat (runOf (c .kept)) (c .connected .cluster))
-            ∙ ap (λ (m : ℕ). flatten (recordsIn (runOf (c .kept)) (c .connected .cluster)) ++ drop (m * recordSize) l) (sym e)
+            ∙ ap (λ (m : ℕ). flatten (recordsEach (runOf (c .kept)) (c .connected .cluster)) ++ drop (m * recordSize) l) (sym e)
 
     same-state : SameState (stateOf one) (stateOf other)
     same-state = record { interface = interface; controls = table }
@@ -150,33 +152,33 @@ module _ (s s′ : List ℕ) (h : Shuffled s s′) (t : Configuration s) (t′ :
       tables = λ steps w. same-run steps w .controls;
     }
 
--- a configuration that is accepted, and its run in another order
-module _ (s : List ℕ) (t : Configuration s) where
+-- a configuration that keeps the rules 1 to 6, and its run in another order
+module _ (s : List ℕ) (o : Opened s) (h : Rule5 (o .tail)) (r : Rule6 (h .header) (h .others)) where
   abbrev behind : List (List ℕ)
-  behind = t .kept .rule6 .later ++ t .kept .rule6 .after
+  behind = r .later ++ r .after
 
   abbrev upTo : List (List ℕ) → List (List ℕ)
-  upTo ds = t .kept .opened .before ++ (t .kept .opened .control ∷ t .kept .rule5 .header ∷ ds)
+  upTo ds = o .before ++ (o .control ∷ h .header ∷ ds)
 
-  parts : t .kept .opened .descriptors ≡ upTo (runOf (t .kept)) ++ behind
+  parts : o .descriptors ≡ upTo (r .run) ++ behind
   parts =
-      t .kept .opened .split
-      ∙ ap (λ (x : List (List ℕ)). t .kept .opened .before ++ t .kept .opened .control ∷ x) (t .kept .rule5 .stands ∙ ap (λ (x : List (List ℕ)). t .kept .rule5 .header ∷ x) (t .kept .rule6 .split))
-      ∙ sym (append-assoc (t .kept .opened .before) (t .kept .opened .control ∷ t .kept .rule5 .header ∷ runOf (t .kept)) behind)
+      o .split
+      ∙ ap (λ (x : List (List ℕ)). o .before ++ o .control ∷ x) (h .stands ∙ ap (λ (x : List (List ℕ)). h .header ∷ x) (r .split))
+      ∙ sym (append-assoc (o .before) (o .control ∷ h .header ∷ r .run) behind)
 
-  reorders : (es : List (List ℕ)) → Permuted (runOf (t .kept)) es → Shuffled s (reordered t es)
+  reorders : (es : List (List ℕ)) → Permuted (r .run) es → Shuffled s (reordered o h r es)
   reorders es p = record {
-    before = t .kept .opened .before;
-    control = t .kept .opened .control;
-    header = t .kept .rule5 .header;
-    run = runOf (t .kept);
+    before = o .before;
+    control = o .control;
+    header = h .header;
+    run = r .run;
     run′ = es;
     behind = flatten behind;
-    bytes = sym (t .kept .opened .rule3 .whole) ∙ ap flatten parts ∙ flatten-append (upTo (runOf (t .kept))) behind;
+    bytes = sym (o .rule3 .whole) ∙ ap flatten parts ∙ flatten-append (upTo (r .run)) behind;
     bytes′ = refl;
-    cut = λ d m. t .kept .opened .rule3 .each d (along (sym parts) (Memᴰ·append-left behind m));
-    is-control = t .kept .opened .is-control;
-    class = t .kept .rule6 .class;
+    cut = λ d m. o .rule3 .each d (along (sym parts) (Memᴰ·append-left behind m));
+    is-control = o .is-control;
+    class = r .class;
     permuted = p;
   }
 

@@ -32,8 +32,8 @@ use Rattle.reader.specs.Configuration.{runOf, Streams}
 use Rattle.reader.specs.Refusals.{runRows, keptRows, tableOfRows}
 use Rattle.records.specs.Records.{recordSize}
 use Rattle.reader.proofs.Surveyed.{represented}
-use Rattle.order.specs.Permuted.{Permuted, Agree}
-use Rattle.order.specs.Alike.{AlikeRows}
+use Rattle.order.specs.Permuted.{Permuted, AgreeOn}
+use Rattle.order.specs.Same.{AlikeRows}
 use Rattle.order.proofs.Permutations.{permuted-back, permuted-in, permuted-length, permuted-total}
 use Rattle.order.proofs.Rules.{agree-one, agree-back, blind-rules}
 use Rattle.order.proofs.Middle.{Reordering, frontOf, wholeOf, control-one, opening-as, rule5-as, rule6-as, rule7-as, rule14-as, runs-permuted}
@@ -227,7 +227,7 @@ module _ {s s′ : List ℕ} (h : Shuffled s s′) (k : Kept s) (k′ : Kept s�
   pub control-same : k .opened .control ≡ k′ .opened .control
   control-same = mine h (k .opened) (k′ .opened) .1 ∙ sym (theirs h (k .opened) (k′ .opened) .1)
 
-  streams-to : (c e : ℕ → Cluster) → Agree (runOf k) c e → Streams k c → Streams k′ e
+  streams-to : (c e : ℕ → Cluster) → AgreeOn (runOf k) c e → Streams k c → Streams k′ e
   streams-to c e agree r =
       let p = parted h (k .opened .descriptors) (k′ .opened .descriptors) (k .opened .rule3) (k′ .opened .rule3) in
       let l : Class (h .header) = subst Class (sym (header-mine h (k .opened) (k′ .opened) (k .rule5) (k′ .rule5))) (header-class (k .rule5 .header) (k .rule5 .right)) in

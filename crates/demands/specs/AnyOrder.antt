@@ -10,8 +10,10 @@
 --                            leaves the same reply
 --   SameReading s s′ d d′  ==  the same AudioControl number and counts, such sheets, the same controls in any order (SameControls, of crate order), and,
 --                            after every run of loads and requests whose data are bytes, the same answers and the same controls
---   reordered t es       ==  the bytes of the configuration t with es in place of its run
---   AnyOrder             ==  THE STATEMENT. every-order: each configuration that is accepted, and its run in any other order, are two such
+--   reordered o h r es   ==  the bytes of a configuration that keeps the rules 1 to 6 (o, h and r have its parts), with es in place of its run
+--   AnyOrder             ==  THE STATEMENT. same-number: two such are both accepted, or both refused with the same number; same-reading: where the one
+--                            is accepted, the two readings are the same; every-order: each configuration that keeps the rules 1 to 6, whatever else
+--                            is wrong with it, and its run in any other order, are two such
 use Prim.Native.Nat.{ℕ, _*_}
 use mathlib.Core.Path.{_≡_}
 use mathlib.Core.List.{List, _∷_, _++_, flatten}
@@ -21,9 +23,10 @@ use Rattle.scan.specs.Cutting.{Descriptor}
 use Rattle.search.specs.Want.{Class, Audio}
 use Rattle.setting.specs.declared.Range.{Range}
 use Rattle.table.specs.Keys.{Key}
+use Rattle.groups.specs.Rules5and6.{Rule5, Rule6}
+use Rattle.cutting.specs.Rules1to9.{Opened}
 use Rattle.records.specs.Records.{recordSize}
 use Rattle.topology.specs.Reading.{readingOf, sheetOf}
-use Rattle.reader.specs.Configuration.{runOf, Configuration}
 use Rattle.request.specs.declared.State.{State}
 use Rattle.request.specs.declared.Answer.{Answer}
 use Rattle.request.specs.Outcome.{answerOf, Answered}
@@ -32,7 +35,7 @@ use Rattle.request.specs.Load.{loadOf}
 use Rattle.request.specs.Request.{requestOf}
 use Rattle.runs.specs.Runs.{Step, after, Wired}
 use Rattle.order.specs.Permuted.{Permuted}
-use Rattle.order.specs.Alike.{SameControls}
+use Rattle.order.specs.Same.{SameControls}
 
 pub record Shuffled (s s′ : List ℕ) : Type 0 where
   pub before : List (List ℕ)
@@ -74,15 +77,15 @@ pub record SameReading (s s′ d d′ : List ℕ) : Type 0 where
   pub controls : readingOf s (length d) .controls ≡ readingOf s′ (length d′) .controls
   pub sheets : SameSheets s s′ d d′
   pub table : SameControls (readingOf s (length d) .table) (readingOf s′ (length d′) .table)
-  pub answers : (run : List Step) → Wired run → SameAnswers (after (stateOf (readingOf s (length d))) run) (after (stateOf (readingOf s′ (length d′))) run)
-  pub tables : (run : List Step) → Wired run
-      → SameControls (after (stateOf (readingOf s (length d))) run .table) (after (stateOf (readingOf s′ (length d′))) run .table)
+  pub answers : (steps : List Step) → Wired steps → SameAnswers (after (stateOf (readingOf s (length d))) steps) (after (stateOf (readingOf s′ (length d′))) steps)
+  pub tables : (steps : List Step) → Wired steps
+      → SameControls (after (stateOf (readingOf s (length d))) steps .table) (after (stateOf (readingOf s′ (length d′))) steps .table)
 
-abbrev pub reordered : {s : List ℕ} → Configuration s → List (List ℕ) → List ℕ
-reordered t es =
-    flatten (t .kept .opened .before ++ (t .kept .opened .control ∷ t .kept .rule5 .header ∷ es)) ++ flatten (t .kept .rule6 .later ++ t .kept .rule6 .after)
+abbrev pub reordered : {s : List ℕ} (o : Opened s) (h : Rule5 (o .tail)) → Rule6 (h .header) (h .others) → List (List ℕ) → List ℕ
+reordered o h r es = flatten (o .before ++ (o .control ∷ h .header ∷ es)) ++ flatten (r .later ++ r .after)
 
 pub record AnyOrder : Type 0 where
   pub same-number : (s s′ d d′ : List ℕ) → Shuffled s s′ → length d ≡ length d′ → readingOf s (length d) .number ≡ readingOf s′ (length d′) .number
   pub same-reading : (s s′ d d′ : List ℕ) → Shuffled s s′ → length d ≡ length d′ → readingOf s (length d) .number ≡ 0 → SameReading s s′ d d′
-  pub every-order : (s : List ℕ) (t : Configuration s) (es : List (List ℕ)) → Permuted (runOf (t .kept)) es → Shuffled s (reordered t es)
+  pub every-order : (s : List ℕ) (o : Opened s) (h : Rule5 (o .tail)) (r : Rule6 (h .header) (h .others)) (es : List (List ℕ))
+      → Permuted (r .run) es → Shuffled s (reordered o h r es)

@@ -3,3 +3,4 @@ pub mod Rows
 pub mod Rules
 pub mod Middle
 pub mod Steps
+pub mod Before

@@ -26,7 +26,7 @@ use Rattle.collection.specs.Rule7.{Rule7}
 use Rattle.groups.specs.Rules5and6.{Header, Rule5, GroupEnds, last, next, Rule6}
 use Rattle.cutting.specs.Rules1to9.{Opening}
 use Rattle.streaming.specs.Rule14.{Described, StreamKept, no-endpoints, endpoints, Group, Rule14}
-use Rattle.order.specs.Permuted.{Permuted, Agree}
+use Rattle.order.specs.Permuted.{Permuted, AgreeOn}
 use Rattle.order.proofs.Permutations.{permuted-back, permuted-in, permuted-total}
 use Rattle.order.proofs.Rules.{blind-rules}
 
@@ -287,7 +287,7 @@ module _ (re : Reordering) (x : List (List ℕ)) where
         go (ahead z f h) = first z h (side before (control ∷ header ∷ []) b i z f)
         go (beyond w f k) = (wholeOf re w, record { after = g .after; split = whole-at w i (ms ++ g .after) k; inside = g .inside; ends = g .ends })
 
-  pub rule14-as : Class header → (run other : List (List ℕ)) → Permuted run other → (c e : ℕ → Cluster) → Agree run c e
+  pub rule14-as : Class header → (run other : List (List ℕ)) → Permuted run other → (c e : ℕ → Cluster) → AgreeOn run c e
       → Rule14 run c whole → Rule14 other e moved
   rule14-as h run other q c e agree r b i ms g a = let k = group-as b i ms g a h in stream-as (r (k .0) i ms (k .1) a)
     where

@@ -8,7 +8,7 @@ use Rattle.ground.specs.declared.Place.the-variants.{Nowhere, At}
 use Rattle.ground.specs.declared.Refusal.{Refusal}
 use Rattle.ground.specs.Refuse.{refuse}
 use Rattle.ground.specs.Rows.{Rows, end, row, Decides, Answers}
-use Rattle.order.specs.Alike.{AlikeRows}
+use Rattle.order.specs.Same.{AlikeRows}
 
 -- where a rule is kept nowhere does the other's breach name a place, and the other way
 not-at : {b : Place} {K : Type 0} {B : ℕ → Type 0} (q : ℕ) → Decides b K B → K → b ≡ At q → ⊥

@@ -34,8 +34,8 @@ use Rattle.controls.specs.Standing.{Carries, Stands, stands-of, control-stands}
 use Rattle.controls.specs.Rule15.{Rule15, pairs-fit, controls-apart}
 use Rattle.records.specs.Records.{recordSize, recordIn}
 use Rattle.records.specs.Sheet.{recordsOf, record-long}
-use Rattle.order.specs.Permuted.{Permuted, Agree}
-use Rattle.order.specs.Blind.{Blind, BlindTo, recordsIn, BlindRules}
+use Rattle.order.specs.Permuted.{Permuted, AgreeOn}
+use Rattle.order.specs.Blind.{Blind, BlindTo, recordsEach, BlindRules}
 use Rattle.order.proofs.Permutations.{permuted-back, permuted-in, permuted-length, permuted-members, permuted-pairs, pairs-of, pairs-each}
 
 blind-8 : Blind Rule8
@@ -74,10 +74,10 @@ blind-12 ds es p h d m (n, l, u) = h d (permuted-in (permuted-back p) m) (n, l, 
 blind-13 : Blind (Rule13 audio)
 blind-13 ds es p (cluster, made, fits) = (cluster, λ d m. made d (permuted-in (permuted-back p) m), λ d m. fits d (permuted-in (permuted-back p) m))
 
-pub agree-one : (ds es : List (List ℕ)) → Permuted ds es → (c : Connected audio ds) (e : Connected audio es) → Agree ds (c .cluster) (e .cluster)
+pub agree-one : (ds es : List (List ℕ)) → Permuted ds es → (c : Connected audio ds) (e : Connected audio es) → AgreeOn ds (c .cluster) (e .cluster)
 agree-one ds es p c e = given-one (c .rule11) (c .ranked) (c .cluster) (e .cluster) (c .given-out) (λ d m. e .given-out d (permuted-in p m))
 
-pub agree-back : (ds es : List (List ℕ)) → Permuted ds es → (c e : ℕ → Cluster) → Agree ds c e → Agree es e c
+pub agree-back : (ds es : List (List ℕ)) → Permuted ds es → (c e : ℕ → Cluster) → AgreeOn ds c e → AgreeOn es e c
 agree-back ds es p c e agree d m = sym (agree d (permuted-in (permuted-back p) m))
 
 stands-as : (x : Control) → BlindTo (λ ds cluster. Stands ds cluster x)
@@ -103,42 +103,44 @@ rule15-as : BlindTo Rule15
 rule15-as ds es p c e agree r = record { listed = r .listed; few = r .few; every = λ x h. r .every x (stands-as x es ds (permuted-back p) e c (agree-back ds es p c e agree) h) }
 
 -- the records, each by its descriptor and the cluster on its ID
-records-alike : (ds : List (List ℕ)) (c e : ℕ → Cluster) → Agree ds c e → recordsIn ds c ≡ recordsIn ds e
-unfolding recordsIn
+records-alike : (ds : List (List ℕ)) (c e : ℕ → Cluster) → AgreeOn ds c e → recordsEach ds c ≡ recordsEach ds e
+unfolding recordsEach
 records-alike [] c e h = refl
 records-alike (d ∷ ds) c e h =
-    ap (λ (k : Cluster). recordIn d k ∷ recordsIn ds c) (h d (List·Memᴰ·head refl)) ∙ ap (λ (l : List (List ℕ)). recordIn d (e (ownId d)) ∷ l) (records-alike ds c e (λ b m. h b (List·Memᴰ·tail m)))
+    let one = h d (List·Memᴰ·head refl) in
+    let others = records-alike ds c e (λ b m. h b (List·Memᴰ·tail m)) in
+    cc
 
-records-moved : (c : ℕ → Cluster) {ds es : List (List ℕ)} → Permuted ds es → Permuted (recordsIn ds c) (recordsIn es c)
-unfolding recordsIn
+records-moved : (c : ℕ → Cluster) {ds es : List (List ℕ)} → Permuted ds es → Permuted (recordsEach ds c) (recordsEach es c)
+unfolding recordsEach
 records-moved c List·Permᴰ·nil = List·Permᴰ·nil
 records-moved c (List·Permᴰ·cons q p) = List·Permᴰ·cons (ap (λ (d : List ℕ). recordIn d (c (ownId d))) q) (records-moved c p)
 records-moved c (List·Permᴰ·swap q r) = List·Permᴰ·swap (ap (λ (d : List ℕ). recordIn d (c (ownId d))) q) (ap (λ (d : List ℕ). recordIn d (c (ownId d))) r)
 records-moved c (List·Permᴰ·trans p q) = List·Permᴰ·trans (records-moved c p) (records-moved c q)
 
-pub records-flat : (ds : List (List ℕ)) (cluster : ℕ → Cluster) → recordsOf ds cluster ≡ flatten (recordsIn ds cluster)
-unfolding recordsOf recordsIn flatten
+pub records-flat : (ds : List (List ℕ)) (cluster : ℕ → Cluster) → recordsOf ds cluster ≡ flatten (recordsEach ds cluster)
+unfolding recordsOf recordsEach flatten
 records-flat [] cluster = refl
 records-flat (d ∷ ds) cluster = ap (λ (l : List ℕ). recordIn d (cluster (ownId d)) ++ l) (records-flat ds cluster)
 
-pub records-long : (ds : List (List ℕ)) (cluster : ℕ → Cluster) (r : List ℕ) → r ∈ recordsIn ds cluster → length r ≡ recordSize
-unfolding recordsIn
+pub records-long : (ds : List (List ℕ)) (cluster : ℕ → Cluster) (r : List ℕ) → r ∈ recordsEach ds cluster → length r ≡ recordSize
+unfolding recordsEach
 records-long [] cluster r m = absurd (List·Memᴰ·not-nil m)
 records-long (d ∷ ds) cluster r (List·Memᴰ·head e) = ap length e ∙ record-long d (cluster (ownId d))
 records-long (d ∷ ds) cluster r (List·Memᴰ·tail m) = records-long ds cluster r m
 
-pub records-counted : (ds : List (List ℕ)) (cluster : ℕ → Cluster) → length (recordsIn ds cluster) ≡ length ds
-unfolding recordsIn
+pub records-counted : (ds : List (List ℕ)) (cluster : ℕ → Cluster) → length (recordsEach ds cluster) ≡ length ds
+unfolding recordsEach
 records-counted [] cluster = refl
 records-counted (d ∷ ds) cluster = ap suc (records-counted ds cluster)
 
 -- as many controls stand: none stands twice, and each of the one's is one of the other's
-controls-no-more : (ds es : List (List ℕ)) → Permuted ds es → (c e : ℕ → Cluster) → Agree ds c e
+controls-no-more : (ds es : List (List ℕ)) → Permuted ds es → (c e : ℕ → Cluster) → AgreeOn ds c e
     → ((d : List ℕ) → d ∈ ds → LaidOut d) → ((d : List ℕ) → d ∈ es → LaidOut d) → DistinctIds ds → length (controlsOf ds c) ≤ length (controlsOf es e)
 controls-no-more ds es p c e agree laid laid′ distinct =
     pairs-fit (controlsOf es e) (controls-apart ds c laid distinct) (λ x m. control-stands e es laid′ x .1 (stands-as x ds es p c e agree (stands-of c ds x m)))
 
-as-many-as : (ds es : List (List ℕ)) → Permuted ds es → (c e : ℕ → Cluster) → Agree ds c e → Rule9 audio ds → Rule10 ds → length (controlsOf ds c) ≡ length (controlsOf es e)
+as-many-as : (ds es : List (List ℕ)) → Permuted ds es → (c e : ℕ → Cluster) → AgreeOn ds c e → Rule9 audio ds → Rule10 ds → length (controlsOf ds c) ≡ length (controlsOf es e)
 as-many-as ds es p c e agree laid own =
     let q = permuted-back p in
     let laid′ : Rule9 audio es = λ d m. laid d (permuted-in q m) in
@@ -159,5 +161,5 @@ blind-rules = record {
   controls = stands-as;
   few = rule15-as;
   as-many = as-many-as;
-  records = λ ds es p c e agree. subst (λ (l : List (List ℕ)). Permuted l (recordsIn es e)) (sym (records-alike ds c e agree)) (records-moved e p);
+  records = λ ds es p c e agree. subst (λ (l : List (List ℕ)). Permuted l (recordsEach es e)) (sym (records-alike ds c e agree)) (records-moved e p);
 }

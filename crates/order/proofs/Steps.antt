@@ -46,7 +46,7 @@ use Rattle.runs.proofs.Refusals.{LoadNumber, load-30, load-20, load-21, Request
 use Rattle.runs.proofs.Rows.{step-rows, step-row-one}
 use Rattle.runs.proofs.Alone.{step-sound}
 use Rattle.runs.proofs.InTurn.{get-asks}
-use Rattle.order.specs.Alike.{SameControls, SameState}
+use Rattle.order.specs.Same.{SameControls, SameState}
 use Rattle.order.specs.Blind.{BlindTables}
 
 pub same-back : {t u : Table} → SameControls t u → SameControls u t

@@ -1,7 +1,7 @@
 -- What the papers ask of the run's descriptors, and of the table of controls, rule by rule: none of it sees an order.
 --   Blind Rule      ==  a rule on the run that does not see the order of its descriptors
 --   BlindTo Rule    ==  the same of a rule on the run and the clusters on its IDs
---   recordsIn ds c  ==  the sheet's records of the run ds with the clusters c on IDs, one by one
+--   recordsEach ds c  ==  the sheet's records of the run ds with the clusters c on IDs, one by one
 --   BlindRules      ==  THE STATEMENT, of the run: the rules 8 to 13, 15 and 17; what 14 asks of it, which Terminals there are; which controls stand,
 --                       and how many; and the sheet's records, which are the same in that order
 --   BlindAsk Ask    ==  what is asked of a table of controls does not see the order of the controls
@@ -28,18 +28,18 @@ use Rattle.controls.specs.Standing.{Stands}
 use Rattle.controls.specs.Rule15.{Rule15}
 use Rattle.records.specs.Records.{recordIn}
 use Rattle.runs.specs.RequestRows.{Owned, Addressed, RangedThere}
-use Rattle.order.specs.Permuted.{Permuted, Agree}
-use Rattle.order.specs.Alike.{SameControls}
+use Rattle.order.specs.Permuted.{Permuted, AgreeOn}
+use Rattle.order.specs.Same.{SameControls}
 
 abbrev pub Blind : (List (List ℕ) → Type 0) → Type 0
 Blind Rule = (ds es : List (List ℕ)) → Permuted ds es → Rule ds → Rule es
 
 abbrev pub BlindTo : (List (List ℕ) → (ℕ → Cluster) → Type 0) → Type 0
-BlindTo Rule = (ds es : List (List ℕ)) → Permuted ds es → (c e : ℕ → Cluster) → Agree ds c e → Rule ds c → Rule es e
+BlindTo Rule = (ds es : List (List ℕ)) → Permuted ds es → (c e : ℕ → Cluster) → AgreeOn ds c e → Rule ds c → Rule es e
 
-unfoldable pub recordsIn : List (List ℕ) → (ℕ → Cluster) → List (List ℕ)
-recordsIn [] cluster = []
-recordsIn (d ∷ ds) cluster = recordIn d (cluster (ownId d)) ∷ recordsIn ds cluster
+unfoldable pub recordsEach : List (List ℕ) → (ℕ → Cluster) → List (List ℕ)
+recordsEach [] cluster = []
+recordsEach (d ∷ ds) cluster = recordIn d (cluster (ownId d)) ∷ recordsEach ds cluster
 
 pub record BlindRules : Type 0 where
   pub counted : Blind Rule8
@@ -52,9 +52,9 @@ pub record BlindRules : Type 0 where
   pub terminals : (t : Terminal) → BlindTo (λ ds cluster. IsTerminal ds cluster t)
   pub controls : (x : Control) → BlindTo (λ ds cluster. Stands ds cluster x)
   pub few : BlindTo Rule15
-  pub as-many : (ds es : List (List ℕ)) → Permuted ds es → (c e : ℕ → Cluster) → Agree ds c e → Rule9 audio ds → Rule10 ds
+  pub as-many : (ds es : List (List ℕ)) → Permuted ds es → (c e : ℕ → Cluster) → AgreeOn ds c e → Rule9 audio ds → Rule10 ds
       → length (controlsOf ds c) ≡ length (controlsOf es e)
-  pub records : (ds es : List (List ℕ)) → Permuted ds es → (c e : ℕ → Cluster) → Agree ds c e → Permuted (recordsIn ds c) (recordsIn es e)
+  pub records : (ds es : List (List ℕ)) → Permuted ds es → (c e : ℕ → Cluster) → AgreeOn ds c e → Permuted (recordsEach ds c) (recordsEach es e)
 
 abbrev pub BlindAsk : (Table → Type 0) → Type 0
 BlindAsk Ask = (t u : Table) → SameControls t u → Ask t → Ask u

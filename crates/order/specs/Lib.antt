@@ -1,3 +1,4 @@
 pub mod Permuted
-pub mod Alike
+pub mod Same
 pub mod Blind
+pub mod Before
