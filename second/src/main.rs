@@ -5,18 +5,19 @@
 //! [`topology`], [`streaming`], put together by [`reader`]) and requests ([`controls`],
 //! [`settings`], [`requests`]). Above them stand the programs [`sheet`], [`lend`] and [`relay`], and
 //! beside them the two forms of a sheet ([`forms`]), what changed between two sheets
-//! ([`differences`], [`sheets`]), the mover from one form to the other ([`mover`]) and the
-//! [`generator`].
+//! ([`differences`], [`sheets`]), the mover from one form to the other ([`mover`]), the routes up to the
+//! Input Terminals ([`routes`]) and the [`generator`].
 //!
-//! `second sheet`, `second lend`, `second relay`, `second sheets`: the programs, from standard input
-//! to standard output.
+//! `second sheet`, `second lend`, `second relay`, `second sheets`, `second routes`: the programs, from
+//! standard input to standard output.
 //! `second differ`: the program `compare`, over the files `left` and `right` of the folder.
 //! `second move new|old`: the program `move`.
+//! `second way ID`: the program `way`.
 //! `second vectors DIR [--report]`: writes the vectors; fails if a clause is not reached.
 //! `second fuzz SEED COUNT`: a fresh script of COUNT configurations and COUNT other steps.
-//! `second compare SEED COUNT EVERY SHEET LEND RELAY SHEETS MOVE`: fresh inputs through the programs
-//! SHEET, LEND, RELAY, SHEETS and MOVE (each a command with its arguments) and through this one; one
-//! configuration in EVERY goes through SHEET, and as many sheets through MOVE.
+//! `second compare SEED COUNT EVERY SHEET LEND RELAY SHEETS MOVE ROUTES`: fresh inputs through the
+//! programs SHEET, LEND, RELAY, SHEETS, MOVE and ROUTES (each a command with its arguments) and through
+//! this one; one configuration in EVERY goes through SHEET, and as many sheets through MOVE.
 
 #![deny(missing_docs)]
 
@@ -32,6 +33,7 @@ mod numbers;
 mod reader;
 mod relay;
 mod requests;
+mod routes;
 mod settings;
 mod sheet;
 mod sheets;
@@ -46,8 +48,8 @@ use std::process::ExitCode;
 use generator::{compare, vectors};
 
 const USAGE: &str = "usage: second sheet | lend | relay | sheets | differ | move new|old \
-                     | vectors DIR [--report] | fuzz SEED COUNT \
-                     | compare SEED COUNT EVERY SHEET LEND RELAY SHEETS MOVE";
+                     | routes | way ID | vectors DIR [--report] | fuzz SEED COUNT \
+                     | compare SEED COUNT EVERY SHEET LEND RELAY SHEETS MOVE ROUTES";
 
 fn main() -> ExitCode {
     let arguments: Vec<String> = std::env::args().skip(1).collect();
@@ -72,13 +74,15 @@ fn run(words: &[&str]) -> Result<Vec<u8>, String> {
         ["relay"] => Ok(relay::program(&input()?).into_bytes()),
         ["sheets"] => Ok(sheets::program(&input()?).into_bytes()),
         ["move", words @ ..] => mover::program(words, input),
+        ["routes"] => Ok(routes::program(&input()?).into_bytes()),
+        ["way", words @ ..] => routes::way(words, input),
         ["differ"] => Ok(sheets::compare(Path::new(".")).into_bytes()),
         ["vectors", dir] => write_vectors(dir, false),
         ["vectors", dir, "--report"] => write_vectors(dir, true),
         ["fuzz", seed, count] => {
             Ok(compare::script(number(seed)?, number(count)? as usize).tape.bytes)
         }
-        ["compare", seed, count, every, sheet, lend, relay, sheets, mover] => {
+        ["compare", seed, count, every, sheet, lend, relay, sheets, mover, routes] => {
             let command = |text: &str| text.split_whitespace().map(str::to_string).collect();
             let job = compare::Job {
                 seed: number(seed)?,
@@ -88,6 +92,7 @@ fn run(words: &[&str]) -> Result<Vec<u8>, String> {
                 relay: command(relay),
                 sheets: command(sheets),
                 mover: command(mover),
+                routes: command(routes),
                 every: number(every)? as usize,
             };
             compare::run(&job).map(|line| (line + "\n").into_bytes())

@@ -32,3 +32,9 @@ pub const LENT: usize = 2048;
 pub const MARK: u8 = 0xAA;
 /// How many of them are shown on a line.
 pub const LINE: usize = 16;
+/// "46 if there are more than 256 routes".
+pub const ROUTES: usize = 256;
+/// What the program `way` lends: so many routes of an ID for each entity and 00 after the last.
+pub const WAY: usize = ROUTES * (ENTITIES + 1);
+/// The most bytes that a step of `routes` may lend.
+pub const LIST: usize = 16384;

@@ -1,7 +1,7 @@
 //! The reader: one configuration in, the whole answer out (refusals 1 to 17).
 
-use crate::controls::{self, Table};
-use crate::cut;
+use crate::controls::{self, Control, Table};
+use crate::cut::{self, Cut};
 use crate::numbers::{CONTROLS, RECORD};
 use crate::requests::State;
 use crate::streaming;
@@ -46,19 +46,33 @@ pub fn read(config: &[u8], sheet: &mut [u8]) -> Answer {
     }
 }
 
-/// The three layers in their order; the first refusal stands.
-fn accept(config: &[u8], sheet: &mut [u8]) -> Result<Answer, Refusal> {
+/// What a configuration says that keeps every rule but 16, which is about the lent sheet.
+pub struct Kept<'a> {
+    /// Its groups and its header.
+    pub cut: Cut<'a>,
+    /// Its entities and their clusters.
+    pub topology: Topology<'a>,
+    /// Its controls, 128 at most.
+    pub controls: Vec<Control>,
+}
+
+/// The three layers in their order; the first refusal stands: "the reader's own but 16".
+pub fn keep(config: &[u8]) -> Result<Kept<'_>, Refusal> {
     let cut = cut::cut(config)?;
     let topology = topology::read(&cut.run)?;
     streaming::check(&cut.groups, &topology)?;
-    let header = cut.header.place;
     let controls = controls::of_topology(&topology);
     if controls.len() > CONTROLS {
-        return Err(Refusal::at(Way::ManyControls, header));
+        return Err(Refusal::at(Way::ManyControls, cut.header.place));
     }
+    Ok(Kept { cut, topology, controls })
+}
+
+fn accept(config: &[u8], sheet: &mut [u8]) -> Result<Answer, Refusal> {
+    let Kept { cut, topology, controls } = keep(config)?;
     let entities = topology.entities.len();
     if sheet.len() < RECORD * entities {
-        return Err(Refusal::at(Way::SheetShort, header));
+        return Err(Refusal::at(Way::SheetShort, cut.header.place));
     }
     write_sheet(&topology, sheet);
     let table = Table::of(&controls).expect("refusal 15 comes first");

@@ -155,6 +155,10 @@ ways! {
     LastSixteen = 43, "new to old: a byte other than 00 in the last sixteen of a record";
     RoomForNew = 44, "old to new: too little room";
     RoomForOld = 44, "new to old: too little room";
+    RouteUnknown = 45, "routes: the ID is no entity's";
+    RouteOther = 45, "routes: the ID is that of an entity other than an Output Terminal";
+    ManyRoutes = 46, "more than 256 routes";
+    ListShort = 49, "the lent list is too short for the routes";
 }
 
 /// A refusal of a configuration: its clause and its place.
@@ -179,7 +183,7 @@ mod tests {
 
     #[test]
     fn every_number_of_the_papers_has_a_way() {
-        let wanted = (1..=17).chain([20, 21]).chain(30..=39).chain(41..=44);
+        let wanted = (1..=17).chain([20, 21]).chain(30..=39).chain(41..=46).chain([49]);
         for number in wanted {
             assert!(Way::ALL.iter().any(|way| way.number() == number), "{number}");
         }

@@ -8,6 +8,7 @@ use super::moves::{self, Moves};
 use super::pairs::{self, Pairs};
 use super::random;
 use super::rng::Rng;
+use super::routes::{self, Routes};
 use super::script::{put_body, step_bytes, Reach, Script};
 use super::tape::Tape;
 use crate::mover::{self, Wanted};
@@ -35,6 +36,8 @@ pub struct Job {
     pub sheets: Vec<String>,
     /// The program `move` and its arguments but the last.
     pub mover: Vec<String>,
+    /// The program `routes` and its arguments.
+    pub routes: Vec<String>,
     /// One configuration in so many goes through `sheet` too, and as many sheets through `move`;
     /// none if 0.
     pub every: usize,
@@ -69,10 +72,13 @@ pub fn run(job: &Job) -> Result<String, String> {
         let moves = move_script(seed, now);
         compare_tape("sheets", &job.sheets, &moves.tape)?;
         compare_moves(job, seed, now)?;
+        let routes = route_script(seed, now);
+        compare_tape("routes", &job.routes, &routes.tape)?;
         reach.add(&script.reach);
         reach.add(&lent.reach);
         reach.add(&pairs.reach);
         reach.add(&moves.reach);
+        reach.add(&routes.reach);
         done += now;
         eprintln!("{done} of {} configurations and steps", job.count);
     }
@@ -80,8 +86,9 @@ pub fn run(job: &Job) -> Result<String, String> {
     Ok(format!(
         "no difference: {done} configurations and {done} other steps through `relay`, {sheets} \
          configurations through `sheet` and as many sheets through `move`, {} through `lend`, {} \
-         pairs and {} moves through `sheets`; {ways} of the {all} clauses of refusals met",
-        reach.lent, reach.pairs, reach.moves
+         pairs and {} moves through `sheets`, {} steps through `routes`; {ways} of the {all} clauses \
+         of refusals met",
+        reach.lent, reach.pairs, reach.moves, reach.routes
     ))
 }
 
@@ -113,6 +120,16 @@ fn move_script(seed: u64, count: usize) -> Moves {
         moves::random(&mut rng, &mut moves);
     }
     moves
+}
+
+/// So many steps of `routes` at random.
+fn route_script(seed: u64, count: usize) -> Routes {
+    let mut rng = Rng::new(seed.rotate_left(8));
+    let mut all = Routes::default();
+    for _ in 0..count {
+        routes::random(&mut rng, &mut all);
+    }
+    all
 }
 
 /// Compares what `move` prints for sheets at random, one for each configuration of `sheet`.

@@ -9,6 +9,7 @@ pub mod moves;
 pub mod pairs;
 pub mod random;
 pub mod rng;
+pub mod routes;
 pub mod script;
 pub mod steps;
 pub mod tape;

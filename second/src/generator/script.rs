@@ -25,6 +25,8 @@ pub struct Reach {
     pub pairs: usize,
     /// Moves among the steps of `sheets`.
     pub moves: usize,
+    /// Steps of `routes`.
+    pub routes: usize,
 }
 
 impl Reach {
@@ -55,6 +57,12 @@ impl Reach {
         self.count_answer(printed);
     }
 
+    /// Counts one answer of `routes`.
+    pub fn count_route(&mut self, printed: &Printed) {
+        self.routes += 1;
+        self.count_answer(printed);
+    }
+
     fn count_answer(&mut self, printed: &Printed) {
         match printed.way {
             Some(way) => *self.ways.entry(way).or_default() += 1,
@@ -78,6 +86,7 @@ impl Reach {
         self.lent += other.lent;
         self.pairs += other.pairs;
         self.moves += other.moves;
+        self.routes += other.routes;
     }
 }
 

@@ -10,12 +10,14 @@ use super::moves::{self, move_bytes, Moves};
 use super::pairs::{self, pair_bytes, Pairs};
 use super::random;
 use super::rng::Rng;
+use super::routes::{self as ways, route_bytes, Routes};
 use super::script::{step_bytes, Reach, Script};
 use super::steps;
 use crate::lend;
 use crate::mover;
-use crate::numbers::{CONFIGURATION_MOST, CONTROLS, LENT, STEP};
+use crate::numbers::{CONFIGURATION_MOST, CONTROLS, LENT, LIST, STEP};
 use crate::relay::{self, LOAD, PLUG_IN, PUT, REQUEST, SHOW};
+use crate::routes;
 use crate::sheet;
 use crate::sheets::{self, PAIR, TO_NEW, TO_OLD};
 use crate::ways::Way;
@@ -64,6 +66,8 @@ pub struct Vectors {
     pairs: Pairs,
     /// The moves of `sheets`.
     moves: Moves,
+    /// The steps of `routes`.
+    routes: Routes,
     /// What is reached on purpose, before anything at random.
     pub named: Reach,
 }
@@ -88,6 +92,11 @@ pub fn make() -> Vectors {
     reach.add(&moves.reach);
     named.add(&moves.named);
     runs.push(Run::new("sheets_moves", moves.tape.bytes.clone(), moves.tape.printed.as_str()));
+    let routes = ways::all(SEED + 6);
+    assert_eq!(routes::program(&routes.tape.bytes), routes.tape.printed);
+    reach.add(&routes.reach);
+    named.add(&routes.named);
+    runs.push(Run::new("routes_steps", routes.tape.bytes.clone(), routes.tape.printed.as_str()));
     for (name, (script, on_purpose)) in
         [("relay_configs", configuration_script()), ("relay_steps", step_script())]
     {
@@ -104,7 +113,9 @@ pub fn make() -> Vectors {
     runs.extend(compared_files());
     runs.extend(moved_sheets());
     runs.extend(wrong_words());
-    Vectors { runs, reach, named, lent, pairs, moves }
+    runs.extend(bad_route_steps());
+    runs.extend(told_ways());
+    Vectors { runs, reach, named, lent, pairs, moves, routes }
 }
 
 /// Every configuration made on purpose, with its answer held to what is written there, and more at
@@ -198,6 +209,7 @@ fn quiet_ends() -> Vec<Run> {
         let printed = match name.split_once('_') {
             Some(("lend", _)) => lend::program,
             Some(("sheets", _)) => sheets::program,
+            Some(("routes", _)) => routes::program,
             _ => relay::program,
         };
         assert_eq!(printed(&stdin), stdout, "{name}");
@@ -210,6 +222,8 @@ fn quiet_ends() -> Vec<Run> {
         run("relay_quiet", emptied(), "put\ntable 0\n"),
         run("sheets_empty", vec![], ""),
         run("sheets_quiet", pair_bytes(&[1; 32], &[]), "left 01\nend\n"),
+        run("routes_empty", vec![], ""),
+        run("routes_quiet", one_route(), ONE_ROUTE),
     ]
 }
 
@@ -405,6 +419,46 @@ fn wrong_words() -> Vec<Run> {
     all.map(|(name, words)| moved(&format!("move_usage_{name}"), words, &sheet)).into()
 }
 
+/// A step with which a short run of `routes` begins, and what it prints.
+fn one_route() -> Vec<u8> {
+    route_bytes(3, 9, &case_a())
+}
+
+const ONE_ROUTE: &str = "routes 1 4\n03 02 01 00\nrest 5\n";
+
+/// Runs of `routes` that end in what is no step: each way of it once, after a good step.
+fn bad_route_steps() -> Vec<Run> {
+    let good = one_route();
+    let ends = [
+        ("long_list", route_bytes(3, LIST + 1, &case_a())),
+        ("longest_list", route_bytes(3, 0xFFFF, &case_a())),
+        ("long", route_bytes(3, 9, &[0; STEP + 1])),
+        ("ends_in_id", good[..1].to_vec()),
+        ("ends_in_m", good[..2].to_vec()),
+        ("ends_before_n", good[..3].to_vec()),
+        ("ends_in_n", good[..4].to_vec()),
+        ("ends_before_body", good[..5].to_vec()),
+        ("ends_in_body", good[..good.len() - 1].to_vec()),
+    ];
+    let run = |(name, end): (&str, Vec<u8>)| {
+        let after: &[u8] = if name.starts_with("ends") { &[] } else { &good };
+        let stdin = [&good, &end, after].concat();
+        let stdout = routes::program(&stdin);
+        assert_eq!(stdout, format!("{ONE_ROUTE}bad step\n"), "{name}");
+        Run::new(format!("routes_bad_{name}"), stdin, stdout)
+    };
+    ends.into_iter().map(run).collect()
+}
+
+/// Runs of `way`.
+fn told_ways() -> Vec<Run> {
+    let run = |(name, words, config): ways::WayRun| {
+        let stdout = routes::way(&words, || Ok::<_, ()>(config.clone())).expect("a configuration");
+        Run { words, ..Run::new(format!("way{name}"), config, stdout) }
+    };
+    ways::way_runs().into_iter().map(run).collect()
+}
+
 impl Vectors {
     /// What the papers name and these vectors do not reach on purpose; empty if all is well.
     pub fn missing(&self) -> Vec<String> {
@@ -414,7 +468,7 @@ impl Vectors {
             .filter(|way| !reached(way))
             .map(|way| format!("{} {}", way.number(), way.words()))
             .collect();
-        for word in ["accepted", "loaded", "set", "got", "table", "put", "moved"] {
+        for word in ["accepted", "loaded", "set", "got", "table", "put", "moved", "routes"] {
             if !self.named.answers.contains_key(word) {
                 missing.push(format!("an answer `{word}`"));
             }
@@ -428,6 +482,7 @@ impl Vectors {
         missing.extend(self.lent.missing());
         missing.extend(self.pairs.missing());
         missing.extend(self.moves.missing());
+        missing.extend(self.routes.missing());
         missing
     }
 
@@ -453,6 +508,7 @@ impl Vectors {
         );
         lines += &format!("{} pairs of sheets ({} on purpose)\n", reach.pairs, named.pairs);
         lines += &format!("{} moves of sheets ({} on purpose)\n", reach.moves, named.moves);
+        lines += &format!("{} steps of routes ({} on purpose)\n", reach.routes, named.routes);
         lines += &format!("{} runs, {bytes} bytes\n", self.runs.len());
         lines
     }
