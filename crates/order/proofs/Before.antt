@@ -3,7 +3,7 @@
 --   before-sees    ==  THE LAW
 use Prim.Native.Nat.{ℕ, zero, suc}
 use mathlib.Core.Path.{_≡_, refl, sym, ap, _∙_, subst}
-use mathlib.Core.Bool.{Bool, true, false}
+use mathlib.Core.Bool.{true}
 use mathlib.Core.List.{List, [], _∷_, List·Memᴰ·head, List·Memᴰ·tail, List·Memᴰ·not-nil, List·Memᴰ·eq-of-singleton, List·Permᴰ·swap}
 use native.Mathlib.Omega.{arith}
 use Rattle.ground.specs.Pick.{true≠false}

@@ -2,7 +2,7 @@
 --   SourcesBefore ds  ==  a source stands before its user: every front of the run ds keeps rule 11 by itself
 --   microphone, jack  ==  an Input Terminal of ID 1, and an Output Terminal of ID 2 whose source is 1
 --   BeforeSees        ==  THE STATEMENT: that rule does see the order. It is kept where the jack stands behind the microphone (kept), and not the other
---                         way round (broken); so it is not one of those to which the run's order is nothing (sees)
+--                         way round (broken); so it is not Blind (sees)
 use Prim.Native.Nat.{ℕ}
 use mathlib.Core.List.{List, [], _∷_}
 use lib.ListN.{take}

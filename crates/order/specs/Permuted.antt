@@ -1,6 +1,6 @@
 -- "Order carries no meaning: a source may stand after its user" (document 01); "the same records in another order" (document 02, No. 10).
 --   Permuted l m      ==  m is l in another order: each element as often (the kit's permutations)
---   AgreeOn ds c e      ==  the clusters c and e on IDs are the same on each descriptor of ds
+--   AgreeOn ds c e    ==  the clusters c and e on IDs are the same on each descriptor of ds
 use Prim.Native.Nat.{ℕ}
 use mathlib.Core.Path.{_≡_}
 use mathlib.Core.List.{List, List·Permᴰ}
