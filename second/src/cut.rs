@@ -10,7 +10,7 @@ const INTERFACE: u8 = 0x04;
 /// Type 24, a class descriptor.
 pub const CLASS: u8 = 0x24;
 /// "bytes 1 to 4 are 24 01 00 01".
-const HEADER_OPENING: [u8; 4] = [0x24, 0x01, 0x00, 0x01];
+pub const HEADER_OPENING: [u8; 4] = [0x24, 0x01, 0x00, 0x01];
 
 /// "Numbers of two bytes have the low byte first."
 pub fn two_bytes(bytes: &[u8], at: usize) -> usize {
@@ -107,20 +107,32 @@ pub struct Cut<'a> {
 
 /// Cuts a configuration, refusing with 1 to 8.
 pub fn cut(config: &[u8]) -> Result<Cut<'_>, Refusal> {
+    let cut = cut_whatever_run(config)?;
+    match count_breach(cut.run.len()) {
+        Some(way) => Err(Refusal::at(way, cut.header.place)),
+        None => Ok(cut),
+    }
+}
+
+/// Cuts a configuration, refusing with 1 to 7.
+pub fn cut_whatever_run(config: &[u8]) -> Result<Cut<'_>, Refusal> {
     check_opening(config)?;
     let groups = group(descriptors(config)?);
     let control = check_interfaces(&groups, config.len())?;
     let header = find_header(control, config.len())?;
     let run = cut_run(control, header)?;
     check_collection(&groups, header)?;
-    if run.is_empty() {
-        return Err(Refusal::at(Way::NoEntity, header.place));
-    }
-    if run.len() > ENTITIES {
-        return Err(Refusal::at(Way::ManyEntities, header.place));
-    }
     let control_number = control.number();
     Ok(Cut { control_number, header, run, groups })
+}
+
+/// Refusal 8: "no entity, or more than 32".
+pub fn count_breach(entities: usize) -> Option<Way> {
+    match entities {
+        0 => Some(Way::NoEntity),
+        1..=ENTITIES => None,
+        _ => Some(Way::ManyEntities),
+    }
 }
 
 /// Refusals 1 and 2, both at 0.

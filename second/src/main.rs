@@ -6,18 +6,18 @@
 //! [`settings`], [`requests`]). Above them stand the programs [`sheet`], [`lend`] and [`relay`], and
 //! beside them the two forms of a sheet ([`forms`]), what changed between two sheets
 //! ([`differences`], [`sheets`]), the mover from one form to the other ([`mover`]), the routes up to the
-//! Input Terminals ([`routes`]) and the [`generator`].
+//! Input Terminals ([`routes`]), the writer of a header and a run ([`writer`]) and the [`generator`].
 //!
-//! `second sheet`, `second lend`, `second relay`, `second sheets`, `second routes`: the programs, from
-//! standard input to standard output.
+//! `second sheet`, `second lend`, `second relay`, `second sheets`, `second routes`, `second writer`: the
+//! programs, from standard input to standard output.
 //! `second differ`: the program `compare`, over the files `left` and `right` of the folder.
 //! `second move new|old`: the program `move`.
 //! `second way ID`: the program `way`.
 //! `second vectors DIR [--report]`: writes the vectors; fails if a clause is not reached.
 //! `second fuzz SEED COUNT`: a fresh script of COUNT configurations and COUNT other steps.
-//! `second compare SEED COUNT EVERY SHEET LEND RELAY SHEETS MOVE ROUTES`: fresh inputs through the
-//! programs SHEET, LEND, RELAY, SHEETS, MOVE and ROUTES (each a command with its arguments) and through
-//! this one; one configuration in EVERY goes through SHEET, and as many sheets through MOVE.
+//! `second compare SEED COUNT EVERY SHEET LEND RELAY SHEETS MOVE ROUTES WRITER`: fresh inputs through
+//! the programs SHEET, LEND, RELAY, SHEETS, MOVE, ROUTES and WRITER (each a command with its arguments)
+//! and through this one; one configuration in EVERY goes through SHEET, and as many sheets through MOVE.
 
 #![deny(missing_docs)]
 
@@ -40,6 +40,7 @@ mod sheets;
 mod streaming;
 mod topology;
 mod ways;
+mod writer;
 
 use std::io::{self, Read, Write};
 use std::path::Path;
@@ -48,8 +49,8 @@ use std::process::ExitCode;
 use generator::{compare, vectors};
 
 const USAGE: &str = "usage: second sheet | lend | relay | sheets | differ | move new|old \
-                     | routes | way ID | vectors DIR [--report] | fuzz SEED COUNT \
-                     | compare SEED COUNT EVERY SHEET LEND RELAY SHEETS MOVE ROUTES";
+                     | routes | way ID | writer | vectors DIR [--report] | fuzz SEED COUNT \
+                     | compare SEED COUNT EVERY SHEET LEND RELAY SHEETS MOVE ROUTES WRITER";
 
 fn main() -> ExitCode {
     let arguments: Vec<String> = std::env::args().skip(1).collect();
@@ -76,13 +77,14 @@ fn run(words: &[&str]) -> Result<Vec<u8>, String> {
         ["move", words @ ..] => mover::program(words, input),
         ["routes"] => Ok(routes::program(&input()?).into_bytes()),
         ["way", words @ ..] => routes::way(words, input),
+        ["writer"] => Ok(writer::program(&input()?).into_bytes()),
         ["differ"] => Ok(sheets::compare(Path::new(".")).into_bytes()),
         ["vectors", dir] => write_vectors(dir, false),
         ["vectors", dir, "--report"] => write_vectors(dir, true),
         ["fuzz", seed, count] => {
             Ok(compare::script(number(seed)?, number(count)? as usize).tape.bytes)
         }
-        ["compare", seed, count, every, sheet, lend, relay, sheets, mover, routes] => {
+        ["compare", seed, count, every, sheet, lend, relay, sheets, mover, routes, writer] => {
             let command = |text: &str| text.split_whitespace().map(str::to_string).collect();
             let job = compare::Job {
                 seed: number(seed)?,
@@ -93,6 +95,7 @@ fn run(words: &[&str]) -> Result<Vec<u8>, String> {
                 sheets: command(sheets),
                 mover: command(mover),
                 routes: command(routes),
+                writer: command(writer),
                 every: number(every)? as usize,
             };
             compare::run(&job).map(|line| (line + "\n").into_bytes())

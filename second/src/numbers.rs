@@ -38,3 +38,11 @@ pub const ROUTES: usize = 256;
 pub const WAY: usize = ROUTES * (ENTITIES + 1);
 /// The most bytes that a step of `routes` may lend.
 pub const LIST: usize = 16384;
+/// "an entity that would pass 255 bytes": the most that a length byte can say.
+pub const DESCRIPTOR: usize = 255;
+/// "47 if the collection list has more than 247 numbers".
+pub const COLLECTION: usize = DESCRIPTOR - 8;
+/// The most bytes that a step of `writer` may lend.
+pub const ROOM: usize = 9000;
+/// The most numbers that the collection list of such a step may have, and the most bytes an entity.
+pub const FIELDS: usize = 600;

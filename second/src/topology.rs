@@ -23,7 +23,12 @@ impl Topology<'_> {
 
 /// Reads the run as entities, refusing with 9, 17 and 10 to 13.
 pub fn read<'a>(run: &[Descriptor<'a>]) -> Result<Topology<'a>, Refusal> {
-    let entities = read_layouts(run)?;
+    let layout = |one| entity::read(one).map_err(|way| Refusal::at(way, one.place));
+    judge(laid_out(run.iter().map(layout).collect())?)
+}
+
+/// The entities, refusing with 10 to 13.
+pub fn judge(entities: Vec<Entity<'_>>) -> Result<Topology<'_>, Refusal> {
     check_ids(&entities)?;
     check_sources(&entities)?;
     check_chains(&entities)?;
@@ -38,13 +43,12 @@ pub fn read<'a>(run: &[Descriptor<'a>]) -> Result<Topology<'a>, Refusal> {
 
 /// Refusal 9, "an entity's layout is wrong", at the "first such entity", and then 17, "at the first
 /// such entity, after 9 and before 10": a wrong layout behind a printed Selector comes first.
-fn read_layouts<'a>(run: &[Descriptor<'a>]) -> Result<Vec<Entity<'a>>, Refusal> {
-    let layout = |one| entity::read(one).map_err(|way| Refusal::at(way, one.place));
-    let refused = run.iter().filter_map(|one| layout(one).err());
+pub fn laid_out(layouts: Vec<Result<Entity<'_>, Refusal>>) -> Result<Vec<Entity<'_>>, Refusal> {
+    let refused = layouts.iter().filter_map(|layout| layout.as_ref().err());
     // Of several with the same number this is the first.
     match refused.min_by_key(|refusal| refusal.way.number()) {
-        Some(refusal) => Err(refusal),
-        None => run.iter().map(layout).collect(),
+        Some(&refusal) => Err(refusal),
+        None => layouts.into_iter().collect(),
     }
 }
 

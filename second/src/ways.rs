@@ -158,15 +158,33 @@ ways! {
     RouteUnknown = 45, "routes: the ID is no entity's";
     RouteOther = 45, "routes: the ID is that of an entity other than an Output Terminal";
     ManyRoutes = 46, "more than 256 routes";
+    EntityLong = 9, "writer: an entity that would pass 255 bytes";
+    EntityPadded = 9, "writer: a Selector with a byte 0 before its sources";
+    EntityPrintedWrong = 9, "writer: a printed Selector without a Selector's fields";
+    EntityPrinted = 17, "writer: a printed Selector";
+    CollectionLong = 47, "writer: the collection list has more than 247 numbers";
+    BufferShort = 48, "writer: the buffer is too short";
     ListShort = 49, "the lent list is too short for the routes";
 }
 
-/// A refusal of a configuration: its clause and its place.
+impl Way {
+    /// Whether it is one of the reader's clauses of a configuration, 16 apart.
+    pub fn is_of_configuration(self) -> bool {
+        self < Way::SheetShort
+    }
+
+    /// Whether it is one of the reader's clauses of a list of entities: 8, 9, 17 and 10 to 13.
+    pub fn is_of_entities(self) -> bool {
+        (Way::NoEntity..=Way::SelectorBitmap).contains(&self)
+    }
+}
+
+/// A refusal of a configuration, or of a list of entities: its clause and its place.
 #[derive(Clone, Copy, Debug, PartialEq, Eq)]
 pub struct Refusal {
     /// The clause, which bears the number.
     pub way: Way,
-    /// "an offset from the first byte".
+    /// "an offset from the first byte"; of the writer "the entity's index from 0 in the list".
     pub place: usize,
 }
 
@@ -183,9 +201,18 @@ mod tests {
 
     #[test]
     fn every_number_of_the_papers_has_a_way() {
-        let wanted = (1..=17).chain([20, 21]).chain(30..=39).chain(41..=46).chain([49]);
+        let wanted = (1..=17).chain([20, 21]).chain(30..=39).chain(41..=49);
         for number in wanted {
             assert!(Way::ALL.iter().any(|way| way.number() == number), "{number}");
+        }
+    }
+
+    #[test]
+    fn clauses_stand_in_the_order_of_the_papers() {
+        for way in Way::ALL {
+            let (own, number) = (way.words().starts_with("writer"), way.number());
+            assert_eq!(way.is_of_configuration(), number <= 17 && number != 16 && !own);
+            assert_eq!(way.is_of_entities(), matches!(number, 8..=13 | 17) && !own);
         }
     }
 }

@@ -4,6 +4,7 @@ use std::io::Write;
 use std::process::{Command, Stdio};
 
 use super::lent::{self, Lent};
+use super::lists::{self, Lists};
 use super::moves::{self, Moves};
 use super::pairs::{self, Pairs};
 use super::random;
@@ -38,6 +39,8 @@ pub struct Job {
     pub mover: Vec<String>,
     /// The program `routes` and its arguments.
     pub routes: Vec<String>,
+    /// The program `writer` and its arguments.
+    pub writer: Vec<String>,
     /// One configuration in so many goes through `sheet` too, and as many sheets through `move`;
     /// none if 0.
     pub every: usize,
@@ -74,11 +77,14 @@ pub fn run(job: &Job) -> Result<String, String> {
         compare_moves(job, seed, now)?;
         let routes = route_script(seed, now);
         compare_tape("routes", &job.routes, &routes.tape)?;
+        let lists = list_script(seed, now);
+        compare_tape("writer", &job.writer, &lists.tape)?;
         reach.add(&script.reach);
         reach.add(&lent.reach);
         reach.add(&pairs.reach);
         reach.add(&moves.reach);
         reach.add(&routes.reach);
+        reach.add(&lists.reach);
         done += now;
         eprintln!("{done} of {} configurations and steps", job.count);
     }
@@ -86,9 +92,9 @@ pub fn run(job: &Job) -> Result<String, String> {
     Ok(format!(
         "no difference: {done} configurations and {done} other steps through `relay`, {sheets} \
          configurations through `sheet` and as many sheets through `move`, {} through `lend`, {} \
-         pairs and {} moves through `sheets`, {} steps through `routes`; {ways} of the {all} clauses \
-         of refusals met",
-        reach.lent, reach.pairs, reach.moves, reach.routes
+         pairs and {} moves through `sheets`, {} steps through `routes`, {} through `writer`; {ways} \
+         of the {all} clauses of refusals met",
+        reach.lent, reach.pairs, reach.moves, reach.routes, reach.lists
     ))
 }
 
@@ -128,6 +134,16 @@ fn route_script(seed: u64, count: usize) -> Routes {
     let mut all = Routes::default();
     for _ in 0..count {
         routes::random(&mut rng, &mut all);
+    }
+    all
+}
+
+/// So many lists of entities at random.
+fn list_script(seed: u64, count: usize) -> Lists {
+    let mut rng = Rng::new(seed.rotate_left(24));
+    let mut all = Lists::default();
+    for _ in 0..count {
+        lists::random(&mut rng, &mut all);
     }
     all
 }

@@ -84,7 +84,7 @@ impl Lent {
     /// What the papers name and these steps do not reach; empty if all is well.
     pub fn missing(&self) -> Vec<String> {
         let mut missing = Vec::new();
-        for way in Way::ALL.iter().filter(|way| matches!(way.number(), 1..=15 | 17)) {
+        for way in Way::ALL.iter().filter(|way| way.is_of_configuration()) {
             for (seen, sheet) in [(&self.none, "no record"), (&self.full, "32 records")] {
                 if !seen.contains(way) {
                     let (number, words) = (way.number(), way.words());

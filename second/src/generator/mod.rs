@@ -5,6 +5,7 @@ pub mod build;
 pub mod compare;
 pub mod configs;
 pub mod lent;
+pub mod lists;
 pub mod moves;
 pub mod pairs;
 pub mod random;

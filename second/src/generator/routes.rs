@@ -103,7 +103,7 @@ impl Routes {
     /// What the paper names and these steps do not reach; empty if all is well.
     pub fn missing(&self) -> Vec<String> {
         let mut missing = Vec::new();
-        for way in Way::ALL.iter().filter(|way| matches!(way.number(), 1..=15 | 17)) {
+        for way in Way::ALL.iter().filter(|way| way.is_of_configuration()) {
             if !self.first.contains(way) {
                 missing.push(format!("routes of no ID: {} {}", way.number(), way.words()));
             }

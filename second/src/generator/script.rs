@@ -27,6 +27,8 @@ pub struct Reach {
     pub moves: usize,
     /// Steps of `routes`.
     pub routes: usize,
+    /// Steps of `writer`.
+    pub lists: usize,
 }
 
 impl Reach {
@@ -63,6 +65,12 @@ impl Reach {
         self.count_answer(printed);
     }
 
+    /// Counts one answer of `writer`.
+    pub fn count_list(&mut self, printed: &Printed) {
+        self.lists += 1;
+        self.count_answer(printed);
+    }
+
     fn count_answer(&mut self, printed: &Printed) {
         match printed.way {
             Some(way) => *self.ways.entry(way).or_default() += 1,
@@ -87,6 +95,7 @@ impl Reach {
         self.pairs += other.pairs;
         self.moves += other.moves;
         self.routes += other.routes;
+        self.lists += other.lists;
     }
 }
 

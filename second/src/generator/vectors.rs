@@ -6,6 +6,7 @@ use std::path::Path;
 use super::build::{case_a, microphone, telephone, Telephone};
 use super::configs::{self, desk};
 use super::lent::{self, lent_bytes, Lent};
+use super::lists::{self, list_bytes, Lists};
 use super::moves::{self, move_bytes, Moves};
 use super::pairs::{self, pair_bytes, Pairs};
 use super::random;
@@ -15,12 +16,13 @@ use super::script::{step_bytes, Reach, Script};
 use super::steps;
 use crate::lend;
 use crate::mover;
-use crate::numbers::{CONFIGURATION_MOST, CONTROLS, LENT, LIST, STEP};
+use crate::numbers::{CONFIGURATION_MOST, CONTROLS, FIELDS, LENT, LIST, ROOM, STEP};
 use crate::relay::{self, LOAD, PLUG_IN, PUT, REQUEST, SHOW};
 use crate::routes;
 use crate::sheet;
 use crate::sheets::{self, PAIR, TO_NEW, TO_OLD};
 use crate::ways::Way;
+use crate::writer::{self, List};
 
 /// The seed of all that is random in the vectors.
 const SEED: u64 = 0x0001_9980_0318;
@@ -68,6 +70,8 @@ pub struct Vectors {
     moves: Moves,
     /// The steps of `routes`.
     routes: Routes,
+    /// The steps of `writer`.
+    lists: Lists,
     /// What is reached on purpose, before anything at random.
     pub named: Reach,
 }
@@ -97,6 +101,11 @@ pub fn make() -> Vectors {
     reach.add(&routes.reach);
     named.add(&routes.named);
     runs.push(Run::new("routes_steps", routes.tape.bytes.clone(), routes.tape.printed.as_str()));
+    let lists = lists::all(SEED + 7);
+    assert_eq!(writer::program(&lists.tape.bytes), lists.tape.printed);
+    reach.add(&lists.reach);
+    named.add(&lists.named);
+    runs.push(Run::new("writer_steps", lists.tape.bytes.clone(), lists.tape.printed.as_str()));
     for (name, (script, on_purpose)) in
         [("relay_configs", configuration_script()), ("relay_steps", step_script())]
     {
@@ -115,7 +124,9 @@ pub fn make() -> Vectors {
     runs.extend(wrong_words());
     runs.extend(bad_route_steps());
     runs.extend(told_ways());
-    Vectors { runs, reach, named, lent, pairs, moves, routes }
+    runs.push(longest_list());
+    runs.extend(bad_lists());
+    Vectors { runs, reach, named, lent, pairs, moves, routes, lists }
 }
 
 /// Every configuration made on purpose, with its answer held to what is written there, and more at
@@ -210,6 +221,7 @@ fn quiet_ends() -> Vec<Run> {
             Some(("lend", _)) => lend::program,
             Some(("sheets", _)) => sheets::program,
             Some(("routes", _)) => routes::program,
+            Some(("writer", _)) => writer::program,
             _ => relay::program,
         };
         assert_eq!(printed(&stdin), stdout, "{name}");
@@ -224,6 +236,8 @@ fn quiet_ends() -> Vec<Run> {
         run("sheets_quiet", pair_bytes(&[1; 32], &[]), "left 01\nend\n"),
         run("routes_empty", vec![], ""),
         run("routes_quiet", one_route(), ONE_ROUTE),
+        run("writer_empty", vec![], ""),
+        run("writer_quiet", list_bytes(21, &one_entity()), ONE_ENTITY),
     ]
 }
 
@@ -459,6 +473,57 @@ fn told_ways() -> Vec<Run> {
     ways::way_runs().into_iter().map(run).collect()
 }
 
+/// A list with which a short run of `writer` begins, and what it prints in 21 bytes.
+fn one_entity() -> List {
+    List { collection: vec![5], entities: vec![vec![2, 1, 1, 2, 0, 1, 0, 0, 0, 7]] }
+}
+
+const ONE_ENTITY: &str = "wrote 21\n\
+                          09 24 01 00 01 15 00 01 05 0C 24 02 01 01 02 00\n\
+                          01 00 00 00 07\nrest 0\n";
+
+/// A run of `writer` that goes on after the longest step that there is.
+fn longest_list() -> Run {
+    let longest = List { collection: vec![5; FIELDS], entities: vec![vec![2; FIELDS]; 255] };
+    let stdin = [list_bytes(ROOM, &longest), list_bytes(21, &one_entity())].concat();
+    let stdout = writer::program(&stdin);
+    assert_eq!(stdout, format!("refused 8 at 0\nrest {ROOM}\n{ONE_ENTITY}"));
+    Run::new("writer_kept_longest", stdin, stdout)
+}
+
+/// Runs of `writer` that end in what is no step: each way of it once, after a good step.
+fn bad_lists() -> Vec<Run> {
+    let list = one_entity();
+    let good = list_bytes(21, &list);
+    let long = |k, q| List { collection: vec![5; k], entities: vec![vec![2; 10], vec![2; q]] };
+    let two = list_bytes(21, &long(1, 10));
+    let ends = [
+        ("long_room", list_bytes(ROOM + 1, &list)),
+        ("longest_room", list_bytes(0xFFFF, &list)),
+        ("long_collection", list_bytes(21, &long(FIELDS + 1, 10))),
+        ("long_entity", list_bytes(21, &long(1, FIELDS + 1))),
+        ("ends_in_m", good[..1].to_vec()),
+        ("ends_before_k", good[..2].to_vec()),
+        ("ends_in_k", good[..3].to_vec()),
+        ("ends_before_number", good[..4].to_vec()),
+        ("ends_before_e", good[..5].to_vec()),
+        ("ends_before_q", good[..6].to_vec()),
+        ("ends_in_q", good[..7].to_vec()),
+        ("ends_before_kind", good[..8].to_vec()),
+        ("ends_in_entity", good[..good.len() - 1].to_vec()),
+        ("ends_before_second", two[..good.len()].to_vec()),
+        ("ends_in_second", two[..two.len() - 1].to_vec()),
+    ];
+    let run = |(name, end): (&str, Vec<u8>)| {
+        let after: &[u8] = if name.starts_with("ends") { &[] } else { &good };
+        let stdin = [&good, &end, after].concat();
+        let stdout = writer::program(&stdin);
+        assert_eq!(stdout, format!("{ONE_ENTITY}bad step\n"), "{name}");
+        Run::new(format!("writer_bad_{name}"), stdin, stdout)
+    };
+    ends.into_iter().map(run).collect()
+}
+
 impl Vectors {
     /// What the papers name and these vectors do not reach on purpose; empty if all is well.
     pub fn missing(&self) -> Vec<String> {
@@ -468,7 +533,8 @@ impl Vectors {
             .filter(|way| !reached(way))
             .map(|way| format!("{} {}", way.number(), way.words()))
             .collect();
-        for word in ["accepted", "loaded", "set", "got", "table", "put", "moved", "routes"] {
+        for word in ["accepted", "loaded", "set", "got", "table", "put", "moved", "routes", "wrote"]
+        {
             if !self.named.answers.contains_key(word) {
                 missing.push(format!("an answer `{word}`"));
             }
@@ -483,6 +549,7 @@ impl Vectors {
         missing.extend(self.pairs.missing());
         missing.extend(self.moves.missing());
         missing.extend(self.routes.missing());
+        missing.extend(self.lists.missing());
         missing
     }
 
@@ -509,6 +576,7 @@ impl Vectors {
         lines += &format!("{} pairs of sheets ({} on purpose)\n", reach.pairs, named.pairs);
         lines += &format!("{} moves of sheets ({} on purpose)\n", reach.moves, named.moves);
         lines += &format!("{} steps of routes ({} on purpose)\n", reach.routes, named.routes);
+        lines += &format!("{} lists of entities ({} on purpose)\n", reach.lists, named.lists);
         lines += &format!("{} runs, {bytes} bytes\n", self.runs.len());
         lines
     }

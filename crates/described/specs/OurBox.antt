@@ -1,0 +1,88 @@
+-- Document 02, No. 9, as statements over the definitions, with no proof among them: "For every list whose entities keep the rules, what it writes,
+-- set within a configuration that keeps the remaining rules, is read back as the same list; and every accepted header and run can be had from the
+-- writer, from the fields that the reader found, byte for byte."
+--   EntitiesKeep ls     ==  the entities of the list keep the rules: the rows 8, 9, 17 and 10 to 13 of its descriptors (writing/specs/Writing)
+--   Within s ls cs      ==  the bytes s are what the writer writes of ls and cs, set within a configuration that keeps the remaining rules: 1 to 4; header
+--                           and run stand 9 bytes behind the AudioControl interface; behind them the group's other descriptors, none of type 24, then the
+--                           next group (6); the collection list is right (7); streaming and the number of controls, with the clusters that the
+--                           entities give out (14, 15)
+--   listRead t          ==  the list that the reader finds in a configuration: of each descriptor of the run the entity with all its fields
+--   collectionRead t    ==  the collection list that it finds: the numbers of its header
+--   ReadBack s ls cs    ==  s is a configuration, and what is read there are the list and the collection list
+--   bytesOfBoth t       ==  header and run of a configuration, as they stand
+--   WrittenAgain s t    ==  these bytes stand in s where the header does, the writer writes them from the list and the collection list that were read, and refuses nothing
+--                           where it has room
+--   OurBox              ==  the refusals are exactly the rules of the list, by the first row that is not kept, at its index (refused), and there is none where
+--                           every row is kept (accepted); a refusal leaves the buffer, and bytes past what is written stay (untouched, stays); read-back, written-again
+use Prim.Native.Nat.{ℕ, _≤_}
+use mathlib.Core.Path.{_≡_}
+use mathlib.Core.Logic.{_↔_}
+use mathlib.Core.List.{List, _∷_, _++_, map, flatten, List·Memᴰ}
+use lib.ListN.{length, take, drop}
+use Rattle.ground.specs.declared.Refusal.{Refusal}
+use Rattle.ground.specs.Numbers.{Bytes}
+use Rattle.ground.specs.Refuse.{none}
+use Rattle.ground.specs.Rows.{end, AllKept, FirstBroken}
+use Rattle.scan.specs.Cutting.{Cutting}
+use Rattle.search.specs.Want.{Interface, Class}
+use Rattle.layout.specs.declared.Cluster.{Cluster}
+use Rattle.edition.specs.Audio.{audio}
+use Rattle.collection.specs.Rule7.{Rule7}
+use Rattle.groups.specs.Rules5and6.{listedOf, GroupEnds}
+use Rattle.cutting.specs.Rules1to9.{Opened, headerPlace, Kept}
+use Rattle.clusters.specs.Rule13.{GivenOut}
+use Rattle.streaming.specs.Rule14.{Rule14}
+use Rattle.controls.specs.Rule15.{Rule15}
+use Rattle.reader.specs.Configuration.{runOf, Configuration}
+use Rattle.fields.specs.Listed.{Listed, foundIn}
+use Rattle.writing.specs.declared.Wrote.{Wrote}
+use Rattle.writing.specs.Writing.{mostNumbers, descriptorsOf, writtenOf, entityRows, writerRows, verdictOf, Writes}
+
+abbrev pub EntitiesKeep : List Listed → Type 0
+EntitiesKeep ls = AllKept (entityRows (descriptorsOf ls) end)
+
+pub record Within (s : List ℕ) (ls : List Listed) (cs : List ℕ) : Type 0 where
+  pub before : List ℕ
+  pub behind : List ℕ
+  pub whole : s ≡ before ++ (writtenOf ls cs ++ behind)
+  pub opened : Opened s
+  pub place : length before ≡ headerPlace opened
+  pub later : List (List ℕ)
+  pub after : List (List ℕ)
+  pub cut : Cutting behind (later ++ after)
+  pub no-class : (d : List ℕ) → List·Memᴰ d later → Class d → ⊥
+  pub in-group : (d : List ℕ) → List·Memᴰ d later → Interface d → ⊥
+  pub ends : GroupEnds after
+  pub rule7 : Rule7 (opened .descriptors) cs
+  pub rule14 : (cluster : ℕ → Cluster) → GivenOut audio (descriptorsOf ls) cluster → Rule14 (descriptorsOf ls) cluster (opened .descriptors)
+  pub rule15 : (cluster : ℕ → Cluster) → GivenOut audio (descriptorsOf ls) cluster → Rule15 (descriptorsOf ls) cluster
+
+module _ {s : List ℕ} (t : Configuration s) where
+  abbrev pub listRead : List Listed
+  listRead = map foundIn (runOf (t .kept))
+
+  abbrev pub collectionRead : List ℕ
+  collectionRead = listedOf (t .kept .rule5 .header)
+
+  abbrev pub bytesOfBoth : List ℕ
+  bytesOfBoth = t .kept .rule5 .header ++ flatten (runOf (t .kept))
+
+pub record ReadBack (s : List ℕ) (ls : List Listed) (cs : List ℕ) : Type 0 where
+  pub accepted : Configuration s
+  pub same-list : listRead accepted ≡ ls
+  pub same-collection : collectionRead accepted ≡ cs
+
+pub record WrittenAgain (s : List ℕ) (t : Configuration s) : Type 0 where
+  pub stands : take (length (bytesOfBoth t)) (drop (headerPlace (t .kept .opened)) s) ≡ bytesOfBoth t
+  pub same : writtenOf (listRead t) (collectionRead t) ≡ bytesOfBoth t
+  pub accepted : (m : ℕ) → length (bytesOfBoth t) ≤ m → verdictOf (listRead t) (collectionRead t) m ≡ none
+
+pub record OurBox : Type 0 where
+  pub refused : (ls : List Listed) (cs : List ℕ) (m n p : ℕ) → (n ≡ 0 → ⊥)
+      → (verdictOf ls cs m ≡ record { number = n; place = p }) ↔ FirstBroken (writerRows ls cs m) n p
+  pub accepted : (ls : List Listed) (cs : List ℕ) (m : ℕ) → (verdictOf ls cs m .number ≡ 0) ↔ AllKept (writerRows ls cs m)
+  pub untouched : (ls : List Listed) (cs before after : List ℕ) (r : Wrote) → Writes ls cs before after r → (r .number ≡ 0 → ⊥) → (after ≡ before) × (r .written ≡ 0)
+  pub stays : (ls : List Listed) (cs before after : List ℕ) (r : Wrote) → Writes ls cs before after r → r .number ≡ 0
+      → (take (r .written) after ≡ writtenOf ls cs) × (drop (r .written) after ≡ drop (r .written) before)
+  pub read-back : (s : List ℕ) (ls : List Listed) (cs : List ℕ) → EntitiesKeep ls → length cs ≤ mostNumbers → Within s ls cs → ReadBack s ls cs
+  pub written-again : (s : List ℕ) (t : Configuration s) → Bytes s → WrittenAgain s t

@@ -1,0 +1,234 @@
+-- Laws of the reader of fields: each kind's numbers, read from the offsets, are those of its layout, and which kind it is was told by the layout's test.
+--   two d k         ==  the two bytes of d from offset k on
+--   plainItem x     ==  an entity of which nothing varies in length
+--   two-own         ==  the two bytes of a number of two bytes are those that it was made of
+--   input-found, output-found, mixer-found, selector-found, feature-found  ==  what a kind's reader makes is what its layout finds
+--   found-unknown, found-input, found-output, found-mixer, found-selector, found-feature  ==  what was told of a descriptor says by which layout
+--                       its fields are found
+--   mixer-some, feature-some  ==  such a descriptor has a byte
+--   read-one        ==  two results that the reader's contract allows are equal
+use Prim.Native.Nat.{ℕ, _+_, _-_, _*_, _/_, _%_, _≤_, _<_}
+use native.Mathlib.Omega.{arith}
+use mathlib.Core.Path.{_≡_, refl, sym, ap, _∙_}
+use mathlib.Core.Option.{Option, none, some}
+use mathlib.Core.List.{List}
+use lib.ListN.{length}
+use Rattle.ground.specs.Numbers.{byte}
+use Rattle.ground.specs.Lists.{part}
+use Rattle.layout.specs.declared.Cluster.{Cluster}
+use Rattle.layout.specs.declared.Entity.{Entity}
+use Rattle.layout.specs.declared.Entity.the-variants as told
+use Rattle.layout.specs.Format.{Format, TwoBytes, Value, wordOf, twoOf, valueAt}
+use Rattle.layout.specs.Layouts as kind
+use Rattle.layout.specs.Layouts.{Kind, formatOf}
+use Rattle.layout.specs.Layout.{entityOf, entityIn}
+use Rattle.layout.specs.Fields as fields
+use Rattle.layout.specs.Fields.{Fields, layoutBy, fieldsAt, fieldsOf}
+use Rattle.layout.specs.FieldsLaws.{found-by, none-some, some-one}
+use Rattle.layout.specs.FormatLaws.{fits-inside}
+use Rattle.fields.specs.declared.Item.{Item}
+use Rattle.fields.specs.declared.Numbers.{Numbers}
+use Rattle.fields.specs.declared.Numbers.the-variants.{Unknown, Input, Output, Mixer, Selector, Feature, Printed}
+use Rattle.fields.specs.declared.Span.{Span}
+use Rattle.fields.specs.Listed.{Listed, laid, wrong, printed, listedOf, listedWith, foundBy, foundAs, foundIn, blankItem, noSpan, sourcesAt, controlsAt, spanBy, sourcesIn, controlsIn, KindRead, ReadAs}
+
+abbrev pub two : List ℕ → ℕ → TwoBytes
+two d k = record { low = byte d k; high = byte d (k + 1) }
+
+abbrev pub plainItem : Numbers → Item
+plainItem x = record { numbers = x; sources = record { from = 0; end = 0 }; controls = record { from = 0; end = 0 } }
+
+pub two-own : (d : List ℕ) (k low high : ℕ) → low < 256 → low ≡ byte d k → high ≡ byte d (k + 1) → twoOf (low + high * 256) ≡ two d k
+two-own d k low high h e f =
+    let a : (low + high * 256) % 256 ≡ byte d k = omega arith in
+    let b : (low + high * 256) / 256 ≡ byte d (k + 1) = omega arith in
+    cc
+
+module _ (d : List ℕ) where
+  pub input-found : (x : Item) (i t a c l m n : ℕ) → x ≡ plainItem (Input i t a c l m n) → i ≡ byte d 3 → twoOf t ≡ two d 4 → a ≡ byte d 6 → c ≡ byte d 7
+      → twoOf l ≡ two d 8 → m ≡ byte d 10 → n ≡ byte d 11 → KindRead kind.input d x
+  unfolding foundBy
+  input-found x i t a c l m n e i= t= a= c= l= m= n= =
+      record { fields = rw (e, i=, t=, a=, c=, l=, m=, n=) refl; sources = ap (λ (y : Item). y .sources) e; controls = ap (λ (y : Item). y .controls) e }
+
+  pub output-found : (x : Item) (i t a s n : ℕ) → x ≡ plainItem (Output i t a s n) → i ≡ byte d 3 → twoOf t ≡ two d 4 → a ≡ byte d 6 → s ≡ byte d 7
+      → n ≡ byte d 8 → KindRead kind.output d x
+  unfolding foundBy
+  output-found x i t a s n e i= t= a= s= n= =
+      record { fields = rw (e, i=, t=, a=, s=, n=) refl; sources = ap (λ (y : Item). y .sources) e; controls = ap (λ (y : Item). y .controls) e }
+
+  pub selector-found : (p i n : ℕ) → p ≡ byte d 4 → i ≡ byte d 3 → n ≡ byte d (5 + p)
+      → KindRead kind.selector d (record { numbers = Selector i n; sources = record { from = 5; end = 5 + p }; controls = noSpan })
+  unfolding foundBy
+  selector-found p i n e i= n= = let q : 5 + p - 5 ≡ p = omega arith in record { fields = rw (q, i=, n=, e) refl; sources = rw e refl; controls = refl }
+
+  pub mixer-found : (p i c l m n : ℕ) → p ≡ byte d 4 → i ≡ byte d 3 → c ≡ byte d (5 + p) → twoOf l ≡ two d (6 + p) → m ≡ byte d (8 + p)
+      → n ≡ byte d (length d - 1)
+      → KindRead kind.mixer d (record { numbers = Mixer i c l m n; sources = record { from = 5; end = 5 + p }; controls = record { from = 9 + p; end = length d - 1 } })
+  unfolding foundBy
+  mixer-found p i c l m n e i= c= l= m= n= =
+      let q : 5 + p - 5 ≡ byte d 4 = omega arith in
+      let a : 5 + p ≡ 4 + 1 + byte d 4 = omega arith in
+      let b : 6 + p ≡ 4 + 1 + byte d 4 + 1 = omega arith in
+      let f : 8 + p ≡ 4 + 1 + byte d 4 + 1 + 2 = omega arith in
+      let g : 9 + p ≡ 4 + 1 + byte d 4 + 1 + 2 + 1 = omega arith in
+      let h : length d - 1 - (9 + p) ≡ length d - (4 + 1 + byte d 4 + 1 + 2 + 1 + 1) = omega arith in
+      record { fields = rw (q, h, i=, c=, l=, m=, n=, a, b, f, g) refl; sources = rw e refl; controls = rw g refl }
+
+  pub feature-found : (i s z n : ℕ) → i ≡ byte d 3 → s ≡ byte d 4 → z ≡ byte d 5 → n ≡ byte d (length d - 1)
+      → KindRead kind.feature d (record { numbers = Feature i s z n; sources = noSpan; controls = record { from = 6; end = length d - 1 } })
+  unfolding foundBy
+  feature-found i s z n i= s= z= n= = let h : length d - 1 - 6 ≡ length d - 7 = omega arith in record { fields = rw (h, i=, s=, z=, n=) refl; sources = refl; controls = refl }
+
+-- the kind that was told
+abbrev kindTold : Entity → Option Kind
+kindTold told.Unknown = none
+kindTold (told.Input i t c) = some kind.input
+kindTold (told.Output i t s) = some kind.output
+kindTold (told.Mixer i p c) = some kind.mixer
+kindTold (told.Selector i p) = some kind.selector
+kindTold (told.Feature i s n) = some kind.feature
+
+told-own : (k : Kind) (v : Value (formatOf k)) → kindTold (entityIn (some (fieldsAt k v))) ≡ some k
+told-own kind.input v = refl
+told-own kind.output v = refl
+told-own kind.mixer v = refl
+told-own kind.selector v = refl
+told-own kind.feature v = refl
+
+layout-own : (k : Kind) (v : Value (formatOf k)) → layoutBy (fieldsAt k v) ≡ k
+layout-own kind.input v = refl
+layout-own kind.output v = refl
+layout-own kind.mixer v = refl
+layout-own kind.selector v = refl
+layout-own kind.feature v = refl
+
+module _ (d : List ℕ) where
+  found-told : (k : Kind) → kindTold (entityOf d) ≡ some k → foundBy k d ≡ foundIn d
+  unfolding entityOf foundBy foundIn
+  found-told k q = go (fieldsOf d) refl q
+    where
+      go : (o : Option Fields) → fieldsOf d ≡ o → kindTold (entityIn o) ≡ some k → laid (fieldsAt k (valueAt (formatOf k) d 3)) ≡ foundAs o
+      go none e h = absurd (none-some h)
+      go (some f) e h =
+          let t = found-by d f e in
+          let own : kindTold (entityIn (some f)) ≡ some (t .kind) = ap (λ (g : Fields). kindTold (entityIn (some g))) (sym (t .same)) ∙ told-own (t .kind) (valueAt (formatOf (t .kind)) d 3) in
+          let same : k ≡ t .kind = some-one (sym h ∙ own) in
+          ap (λ (j : Kind). laid (fieldsAt j (valueAt (formatOf j) d 3))) same ∙ ap laid (t .same)
+
+  spans-told : (place : Format → List ℕ → ℕ → Span) (k : Kind) → kindTold (entityOf d) ≡ some k → place (formatOf k) d 3 ≡ spanBy place d (fieldsOf d)
+  unfolding entityOf
+  spans-told place k q = go (fieldsOf d) refl q
+    where
+      go : (o : Option Fields) → fieldsOf d ≡ o → kindTold (entityIn o) ≡ some k → place (formatOf k) d 3 ≡ spanBy place d o
+      go none e h = absurd (none-some h)
+      go (some f) e h =
+          let t = found-by d f e in
+          let v = valueAt (formatOf (t .kind)) d 3 in
+          let own : kindTold (entityIn (some f)) ≡ some (t .kind) = ap (λ (g : Fields). kindTold (entityIn (some g))) (sym (t .same)) ∙ told-own (t .kind) v in
+          let same : k ≡ layoutBy f = some-one (sym h ∙ own) ∙ sym (ap layoutBy (sym (t .same)) ∙ layout-own (t .kind) v) in
+          ap (λ (j : Kind). place (formatOf j) d 3) same
+
+  no-spans : (place : Format → List ℕ → ℕ → Span) → kindTold (entityOf d) ≡ none → noSpan ≡ spanBy place d (fieldsOf d)
+  unfolding entityOf
+  no-spans place q = go (fieldsOf d) refl q
+    where
+      go : (o : Option Fields) → fieldsOf d ≡ o → kindTold (entityIn o) ≡ none → noSpan ≡ spanBy place d o
+      go none e h = refl
+      go (some f) e h = let t = found-by d f e in absurd (none-some (sym h ∙ ap (λ (g : Fields). kindTold (entityIn (some g))) (sym (t .same)) ∙ told-own (t .kind) (valueAt (formatOf (t .kind)) d 3)))
+
+  none-found : kindTold (entityOf d) ≡ none → wrong ≡ foundIn d
+  unfolding entityOf foundIn
+  none-found q = go (fieldsOf d) q
+    where
+      known : (f : Fields) → kindTold (entityIn (some f)) ≡ none → ⊥
+      known (fields.input i t a c l m n) h = none-some (sym h)
+      known (fields.output i t a s n) h = none-some (sym h)
+      known (fields.mixer i s c l m k n) h = none-some (sym h)
+      known (fields.selector i s n) h = none-some (sym h)
+      known (fields.feature i s z k n) h = none-some (sym h)
+
+      go : (o : Option Fields) → kindTold (entityIn o) ≡ none → wrong ≡ foundAs o
+      go none h = refl
+      go (some f) h = absurd (known f h)
+
+  module _ (e : Entity) (read : e ≡ entityOf d) where
+    by-kind : (k : Kind) (x : Item) → kindTold e ≡ some k → KindRead k d x → ReadAs d x
+    unfolding sourcesIn controlsIn
+    by-kind k x h q =
+        let t : kindTold (entityOf d) ≡ some k = ap kindTold (sym read) ∙ h in
+        record { fields = q .fields ∙ found-told k t; sources = q .sources ∙ spans-told sourcesAt k t; controls = q .controls ∙ spans-told controlsAt k t }
+
+    pub found-unknown : (x : Item) → e ≡ told.Unknown → x ≡ blankItem → ReadAs d x
+    unfolding sourcesIn controlsIn
+    found-unknown x h q =
+        let t : kindTold (entityOf d) ≡ none = ap kindTold (sym read ∙ h) in
+        rw q (record { fields = none-found t; sources = no-spans sourcesAt t; controls = no-spans controlsAt t })
+
+    module _ (x : Item) where
+      pub found-input : (i t : ℕ) (c : Cluster) → e ≡ told.Input i t c → KindRead kind.input d x → ReadAs d x
+      found-input i t c h q = by-kind kind.input x (ap kindTold h) q
+
+      pub found-output : (i t s : ℕ) → e ≡ told.Output i t s → KindRead kind.output d x → ReadAs d x
+      found-output i t s h q = by-kind kind.output x (ap kindTold h) q
+
+      pub found-mixer : (i p : ℕ) (c : Cluster) → e ≡ told.Mixer i p c → KindRead kind.mixer d x → ReadAs d x
+      found-mixer i p c h q = by-kind kind.mixer x (ap kindTold h) q
+
+      pub found-selector : (i p : ℕ) → e ≡ told.Selector i p → KindRead kind.selector d x → ReadAs d x
+      found-selector i p h q = by-kind kind.selector x (ap kindTold h) q
+
+      pub found-feature : (i s z : ℕ) → e ≡ told.Feature i s z → KindRead kind.feature d x → ReadAs d x
+      found-feature i s z h q = by-kind kind.feature x (ap kindTold h) q
+
+    -- a descriptor with a layout has a byte 2
+    some-byte : (k : Kind) → kindTold e ≡ some k → 1 ≤ length d
+    unfolding entityOf
+    some-byte k h = go (fieldsOf d) refl (ap kindTold (sym read) ∙ h)
+      where
+        go : (o : Option Fields) → fieldsOf d ≡ o → kindTold (entityIn o) ≡ some k → 1 ≤ length d
+        go none q j = absurd (none-some j)
+        go (some f) q j = let t = found-by d f q in let i = fits-inside (formatOf (t .kind)) d 3 (t .passes) in omega arith
+
+    pub mixer-some : (i p : ℕ) (c : Cluster) → e ≡ told.Mixer i p c → 1 ≤ length d
+    mixer-some i p c h = some-byte kind.mixer (ap kindTold h)
+
+    pub feature-some : (i s z : ℕ) → e ≡ told.Feature i s z → 1 ≤ length d
+    feature-some i s z h = some-byte kind.feature (ap kindTold h)
+
+-- ---- the result is settled
+
+numbersIn : Listed → Numbers
+numbersIn wrong = Unknown
+numbersIn (laid (fields.input i t a c l m n)) = Input i (wordOf t) a c (wordOf l) m n
+numbersIn (laid (fields.output i t a s n)) = Output i (wordOf t) a s n
+numbersIn (laid (fields.mixer i s c l m k n)) = Mixer i c (wordOf l) m n
+numbersIn (laid (fields.selector i s n)) = Selector i n
+numbersIn (laid (fields.feature i s z k n)) = Feature i s z n
+numbersIn (printed i s n) = Printed i n
+
+word-own : (n : ℕ) → wordOf (twoOf n) ≡ n
+word-own n = omega arith
+
+numbers-back : (x : Numbers) (s k : List ℕ) → numbersIn (listedOf x s k) ≡ x
+unfolding numbersIn
+numbers-back Unknown s k = refl
+numbers-back (Input i t a c l m n) s k = rw (word-own t, word-own l) refl
+numbers-back (Output i t a f n) s k = rw (word-own t) refl
+numbers-back (Mixer i c l m n) s k = rw (word-own l) refl
+numbers-back (Selector i n) s k = refl
+numbers-back (Feature i f z n) s k = refl
+numbers-back (Printed i n) s k = refl
+
+made-same : (x y : Numbers) (s t k l : Span) → x ≡ y → s ≡ t → k ≡ l
+    → _≡_ {A = Item} (record { numbers = x; sources = s; controls = k }) (record { numbers = y; sources = t; controls = l })
+made-same x y s t k l e f g = rw (e, f, g) refl
+
+pub read-one : (d : List ℕ) (r q : Item) → ReadAs d r → ReadAs d q → r ≡ q
+read-one d r q a b =
+    let x : r .numbers ≡ numbersIn (foundIn d) = sym (numbers-back (r .numbers) _ _) ∙ ap numbersIn (a .fields) in
+    let y : q .numbers ≡ numbersIn (foundIn d) = sym (numbers-back (q .numbers) _ _) ∙ ap numbersIn (b .fields) in
+    let n : r .numbers ≡ q .numbers = x ∙ sym y in
+    let s : r .sources ≡ q .sources = a .sources ∙ sym (b .sources) in
+    let c : r .controls ≡ q .controls = a .controls ∙ sym (b .controls) in
+    made-same (r .numbers) (q .numbers) (r .sources) (q .sources) (r .controls) (q .controls) n s c

@@ -1,0 +1,44 @@
+-- Head, sources and name are the layout's bytes.
+use borrow.Author.Needs.{needs}
+use Rattle.laying.specs.LayingLaws.{selector-pasted}
+use Rattle.laying.proofs.put_selector.Statement.{statement}
+use Rattle.laying.proofs.put_selector.Tie as tie
+
+ruleset laws = (selector-pasted, needs)
+
+add-n : tie.Need-add-n
+add-n c = search laws
+
+cast-t10 : tie.Need-cast-t10
+cast-t10 c = search laws
+
+cast-t11 : tie.Need-cast-t11
+cast-t11 c = search laws
+
+slice-aggregate-put-three : tie.Need-slice-aggregate-put-three
+slice-aggregate-put-three c = search laws
+
+slice-aggregate-put-three-2 : tie.Need-slice-aggregate-put-three-2
+slice-aggregate-put-three-2 c = search laws
+
+put-three-requires : tie.Need-put-three-requires
+put-three-requires c κs = search laws
+
+same-length : tie.Need-same-length
+same-length c = search laws
+
+returns : tie.Need-returns
+returns c = search laws
+
+pub put-selector-spec : {M : Type 1} → statement M
+put-selector-spec =
+    tie.close
+    (tie.spec
+    add-n
+    cast-t10
+    cast-t11
+    slice-aggregate-put-three
+    slice-aggregate-put-three-2
+    put-three-requires
+    same-length
+    returns)

@@ -1,0 +1,3 @@
+pub mod Paste
+pub mod Laying
+pub mod LayingLaws
