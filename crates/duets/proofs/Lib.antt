@@ -1,0 +1,4 @@
+pub mod Sound
+pub mod Isolation
+pub mod DuetRuns
+pub mod Crowded

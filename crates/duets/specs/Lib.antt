@@ -1,0 +1,4 @@
+pub mod Steps
+pub mod Isolation
+pub mod DuetRuns
+pub mod Crowded
