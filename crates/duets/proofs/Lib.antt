@@ -2,3 +2,4 @@ pub mod Sound
 pub mod Isolation
 pub mod DuetRuns
 pub mod Crowded
+pub mod Stretches

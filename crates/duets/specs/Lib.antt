@@ -2,3 +2,4 @@ pub mod Steps
 pub mod Isolation
 pub mod DuetRuns
 pub mod Crowded
+pub mod Stretches
