@@ -1,4 +1,5 @@
 -- A microphone comes and goes: each way out of the code.
+--   turned      ==  a refusal at a plug-in leaves box and sheet
 --   plug-thirty, plug-taken, plug-admitted  ==  the ways of a plug-in
 --   unplug-thirty, unplug-empty, unplug-done  ==  the ways of an unplugging
 use Prim.Native.Nat.{ℕ}
