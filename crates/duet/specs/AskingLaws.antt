@@ -115,10 +115,10 @@ module _ (b : Duet) (k : Side) (a : Bool) (h : a ≡ soundBeside b k) where
           let w : requestOf (x .state) own d (length l) ≡ o = ap (λ (z : List ℕ). requestOf (x .state) z d (length l)) i ∙ ap (λ (z : Socket). requestOf (z .state) (ownSetup (z .state .control) s) d (length l)) f in
           record {
             result =
-              e
-              ∙ ap (answeredBy b k) (g .result ∙ ap (answerOf (x .state)) w ∙ ap (λ (z : Socket). answerOf (z .state) o) f)
-              ∙ given-answer b k p o
-              ∙ ap (answerIn b k) (sym j);
+                e
+                ∙ ap (answeredBy b k) (g .result ∙ ap (answerOf (x .state)) w ∙ ap (λ (z : Socket). answerOf (z .state) o) f)
+                ∙ given-answer b k p o
+                ∙ ap (answerIn b k) (sym j);
             lent = g .lent ∙ ap (λ (z : Outcome). laid (bytesOf z) l) (w ∙ sym j);
           }
 

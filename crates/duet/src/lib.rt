@@ -439,7 +439,14 @@ fn settle(duet: Duet, side: Side, plugged: Plugged, draft: &[u8], sheet: &mut [u
 
 // A microphone on a side that is free, where the other has so many controls. It is read with a draft lent, and the sheet is written from there:
 // 62 comes behind the reader's refusals and must leave the sheet.
-fn admit(duet: Duet, side: Side, met: usize, config: &[u8], draft: &mut [u8], sheet: &mut [u8]) -> Admitted
+fn admit(
+    duet: Duet,
+    side: Side,
+    met: usize,
+    config: &[u8],
+    draft: &mut [u8],
+    sheet: &mut [u8],
+) -> Admitted
     requires { ⌜ length (now draft) ≡ wholeSheet ⌝ }
     ensures { λ r. ⌜ AdmittedIn duet side (admittedBy met (readingOf (now (config .entry)) (length (now (sheet .entry))))) (now (config .entry)) (now (sheet .entry)) r (now (sheet .exit)) ⌝ }
 {

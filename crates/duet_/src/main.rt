@@ -23,6 +23,7 @@ const SHEET: usize = 1024;
 
 // The bytes of a control in a put step, and of what stands before a side's controls.
 const PUT: usize = 13;
+
 const FRONT: usize = 6;
 
 // The last of the reader's numbers: a refusal up to it has a place.

@@ -35,10 +35,10 @@ module _ (f d : List ℕ) (n : ℕ) where
           room = m;
           long = length-set s i (getD f i 0) ∙ c .long;
           same =
-            ap (λ (x : List ℕ). set x i (getD f i 0)) (c .same)
-            ∙ ap (λ (j : ℕ). set (laid (take i f) d) j (getD f i 0)) (sym q)
-            ∙ laid-set (take i f) d (getD f i 0) w
-            ∙ ap (λ (x : List ℕ). laid x d) (sym (take-suc f i 0 (omega arith)) ∙ ap (λ (j : ℕ). take j f) (sym (add-one i)));
+              ap (λ (x : List ℕ). set x i (getD f i 0)) (c .same)
+              ∙ ap (λ (j : ℕ). set (laid (take i f) d) j (getD f i 0)) (sym q)
+              ∙ laid-set (take i f) d (getD f i 0) w
+              ∙ ap (λ (x : List ℕ). laid x d) (sym (take-suc f i 0 (omega arith)) ∙ ap (λ (j : ℕ). take j f) (sym (add-one i)));
         }
 
     over : n ≤ i → s ≡ take n f ++ drop n d
