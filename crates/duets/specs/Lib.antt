@@ -4,3 +4,4 @@ pub mod DuetRuns
 pub mod Crowded
 pub mod Stretches
 pub mod DuetRows
+pub mod StepsTold
