@@ -3,3 +3,5 @@ pub mod Demand2
 pub mod Demand3
 pub mod Cases
 pub mod TurnedAway
+pub mod Shuffled
+pub mod AnyOrder

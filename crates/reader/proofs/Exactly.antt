@@ -3,6 +3,7 @@
 --   clusters-on, controls-on  ==  what the reader has at an entity's index is the cluster on its ID; its controls are those of the descriptors
 --   reads-room              ==  the test of room decides rule 16
 --   first-by-place          ==  the first offender's place is the lowest of all offenders' places
+--   answers                 ==  the verdict is put together by the table's rows, each by what decides it
 --   accepted-exactly, refused-exactly  ==  THE THEOREMS, for every configuration and every room
 use Prim.Native.Nat.{ℕ, _+_, _*_, _≤_, _<_}
 use mathlib.Core.Path.{_≡_, refl, sym, ap, _∙_}
@@ -139,7 +140,7 @@ module _ (s : List ℕ) (k : Kept s) where
           omega arith
 
 module _ (s : List ℕ) (room : ℕ) where
-  answers : Answers (tableOfRows s room) (verdictOf s room)
+  pub answers : Answers (tableOfRows s room) (verdictOf s room)
   unfolding verdictOf judgedThen
   answers =
       cutting-answers s (λ k. keptRows k room) (surveyJudged s (surveyOf s) (roomJudged (surveyOf s) room none))

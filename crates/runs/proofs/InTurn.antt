@@ -4,6 +4,7 @@
 -- at that control's index: the controls to come stand as they stood, in a table that 30 has nothing against (standing-on). By induction along
 -- the list none of them is refused exactly where the tests of all pass, and then they leave what all leave (set-runs, get-runs). No law
 -- here looks at a selector or a size.
+--   get-asks ==  what a Get of a part is read as
 --   in-turn  ==  so it is in every state whose table 30 has nothing against, for every setup that 31 to 34 let pass
 use Prim.Native.Nat.{ℕ, _≤_, _<_}
 use mathlib.Core.Path.{_≡_, refl, sym, ap, _∙_, subst}
@@ -58,7 +59,7 @@ set-asks : (g : Target) → askedBy g 0x21 1 ≡ asks.Set g
 unfolding askedBy
 set-asks g = refl
 
-get-asks : (g : Target) (part : Part) → askedBy g 0xA1 (codeOf part) ≡ asks.Get part g
+pub get-asks : (g : Target) (part : Part) → askedBy g 0xA1 (codeOf part) ≡ asks.Get part g
 unfolding askedBy getAsked
 get-asks g Cur = refl
 get-asks g Min = refl

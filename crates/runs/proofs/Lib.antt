@@ -1,5 +1,5 @@
-mod Stored
-mod Shares
+pub mod Stored
+pub mod Shares
 pub mod Addressing
 mod Sets
 pub mod Taken

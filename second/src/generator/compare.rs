@@ -6,6 +6,7 @@ use std::process::{Command, Stdio};
 use super::lent::{self, Lent};
 use super::lists::{self, Lists};
 use super::moves::{self, Moves};
+use super::orders;
 use super::pairs::{self, Pairs};
 use super::random;
 use super::rng::Rng;
@@ -20,6 +21,10 @@ use crate::ways::Way;
 
 /// Configurations, and as many steps, of one run of `relay`.
 const BATCH: usize = 1000;
+/// One in so many of a batch's configurations is followed by its run in another order.
+const TWIN: usize = 10;
+/// Loads and requests behind each of two orders.
+const TWIN_STEPS: usize = 20;
 
 /// What is to be compared.
 pub struct Job {
@@ -57,7 +62,7 @@ pub fn script(seed: u64, count: usize) -> Script {
 /// Compares batch after batch. The answer says how much was compared, or tells the first
 /// difference.
 pub fn run(job: &Job) -> Result<String, String> {
-    let (mut done, mut sheets) = (0, 0);
+    let (mut done, mut sheets, mut twins) = (0, 0, 0);
     let mut reach = Reach::default();
     for batch in 0.. {
         if done == job.count {
@@ -70,6 +75,9 @@ pub fn run(job: &Job) -> Result<String, String> {
         sheets += compare_sheets(job, &script)?;
         let lent = lent_script(seed, &script);
         compare_tape("lend", &job.lend, &lent.tape)?;
+        let (readings, answers) = twin_scripts(seed, now);
+        compare_tape("lend", &job.lend, &readings.tape)?;
+        compare_relay(job, &answers)?;
         let pairs = pair_script(seed, now);
         compare_tape("sheets", &job.sheets, &pairs.tape)?;
         let moves = move_script(seed, now);
@@ -81,6 +89,7 @@ pub fn run(job: &Job) -> Result<String, String> {
         compare_tape("writer", &job.writer, &lists.tape)?;
         reach.add(&script.reach);
         reach.add(&lent.reach);
+        twins += (readings.reach.lent + answers.reach.configurations) / 2;
         reach.add(&pairs.reach);
         reach.add(&moves.reach);
         reach.add(&routes.reach);
@@ -91,9 +100,9 @@ pub fn run(job: &Job) -> Result<String, String> {
     let (ways, all) = (reach.ways.len(), Way::ALL.len());
     Ok(format!(
         "no difference: {done} configurations and {done} other steps through `relay`, {sheets} \
-         configurations through `sheet` and as many sheets through `move`, {} through `lend`, {} \
-         pairs and {} moves through `sheets`, {} steps through `routes`, {} through `writer`; {ways} \
-         of the {all} clauses of refusals met",
+         configurations through `sheet` and as many sheets through `move`, {} through `lend`, \
+         {twins} with their runs in two orders, {} pairs and {} moves through `sheets`, {} steps \
+         through `routes`, {} through `writer`; {ways} of the {all} clauses of refusals met",
         reach.lent, reach.pairs, reach.moves, reach.routes, reach.lists
     ))
 }
@@ -106,6 +115,19 @@ fn lent_script(seed: u64, script: &Script) -> Lent {
         lent::random_length(&mut rng, &mut lent, config);
     }
     lent
+}
+
+/// Configurations with their runs in two orders: readings for `lend`, and loads and requests for
+/// `relay`. They are held to one another while they are written, and what another program prints is
+/// then compared with these bytes, so it holds for both.
+fn twin_scripts(seed: u64, count: usize) -> (Lent, Script) {
+    let mut rng = Rng::new(seed.rotate_left(8));
+    let (mut lent, mut script) = (Lent::default(), Script::new());
+    for _ in (0..count).step_by(TWIN) {
+        orders::random_reading(&mut rng, &mut lent);
+        orders::random_answers(&mut rng, &mut script, TWIN_STEPS);
+    }
+    (lent, script)
 }
 
 /// So many pairs of sheets at random.

@@ -555,7 +555,7 @@ fn damage_bytes(rng: &mut Rng, bytes: &mut Vec<u8>) {
 }
 
 /// A good configuration that has controls for steps to go over.
-fn with_controls(rng: &mut Rng) -> Vec<u8> {
+pub fn with_controls(rng: &mut Rng) -> Vec<u8> {
     loop {
         let bytes = good(rng).bytes();
         if reader::read(&bytes, &mut [0; SHEET]).state.table.count >= 4 {
@@ -585,6 +585,14 @@ pub fn step(rng: &mut Rng, script: &mut Script) {
         _ => (REQUEST, request(rng, &script.state)),
     };
     script.step(kind, &body);
+}
+
+/// A load or a request, meant for this state.
+pub fn load_or_request(rng: &mut Rng, state: &State) -> (u8, Vec<u8>) {
+    match rng.below(4) {
+        0 => (LOAD, load(rng, state)),
+        _ => (REQUEST, request(rng, state)),
+    }
 }
 
 /// Controls of the state that serve a purpose, or all, or a made-up one.

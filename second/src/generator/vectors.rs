@@ -5,6 +5,7 @@ use std::path::Path;
 
 use super::build::{case_a, microphone, telephone, Telephone};
 use super::configs::{self, desk};
+use super::headsets;
 use super::lent::{self, lent_bytes, Lent};
 use super::lists::{self, list_bytes, Lists};
 use super::moves::{self, move_bytes, Moves};
@@ -86,6 +87,11 @@ pub fn make() -> Vectors {
     reach.add(&lent.reach);
     named.add(&lent.named);
     runs.push(Run::new("lend_steps", lent.tape.bytes.clone(), lent.tape.printed.as_str()));
+    let orders = headsets::lent(SEED + 6);
+    assert_eq!(lend::program(&orders.tape.bytes), orders.tape.printed);
+    reach.add(&orders.reach);
+    named.add(&orders.named);
+    runs.push(Run::new("lend_orders", orders.tape.bytes, orders.tape.printed));
     let pairs = pairs::all(SEED + 4);
     assert_eq!(sheets::program(&pairs.tape.bytes), pairs.tape.printed);
     reach.add(&pairs.reach);
@@ -106,9 +112,11 @@ pub fn make() -> Vectors {
     reach.add(&lists.reach);
     named.add(&lists.named);
     runs.push(Run::new("writer_steps", lists.tape.bytes.clone(), lists.tape.printed.as_str()));
-    for (name, (script, on_purpose)) in
-        [("relay_configs", configuration_script()), ("relay_steps", step_script())]
-    {
+    for (name, (script, on_purpose)) in [
+        ("relay_configs", configuration_script()),
+        ("relay_steps", step_script()),
+        ("relay_orders", headsets::relayed(SEED + 7)),
+    ] {
         assert_eq!(relay::program(&script.tape.bytes), script.tape.printed, "{name}");
         reach.add(&script.reach);
         named.add(&on_purpose);

@@ -17,6 +17,8 @@ use crate::numbers::{self, SHEET};
 use crate::reader;
 use crate::ways::Way;
 
+pub use topology::feature_of;
+
 /// A configuration with a name and the answer it must get.
 #[derive(Clone, Debug)]
 pub struct Case {

@@ -390,8 +390,8 @@ fn unit_clusters(cases: &mut Cases) {
     });
 }
 
-/// A Feature Unit over 16 channels that has `count` controls, at most 153.
-fn feature_of(id: u8, count: usize) -> Part {
+/// A Feature Unit over the 16 channels of 1 that has `count` controls, at most 153.
+pub fn feature_of(id: u8, count: usize) -> Part {
     let mut masks = vec![0; 34];
     let bits = (0..17 * 9).map(|at| (at / 9, [0, 1, 2, 3, 4, 6, 7, 8, 9][at % 9]));
     for (channel, bit) in bits.take(count) {

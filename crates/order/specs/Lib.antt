@@ -1,0 +1,4 @@
+pub mod Permuted
+pub mod Same
+pub mod Blind
+pub mod Before
