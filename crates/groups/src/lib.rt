@@ -225,9 +225,9 @@ pub fn framed_third(config: &[u8]) -> Framing
     ensures { λ r. ⌜ r ≡ thirdFramedOf (now (config .entry)) ⌝ }
 {
     let location = interfaces::locate(config);
-    let refusal = location.refusal;
-    if refusal.number != 0 {
-        return refused(refusal.number, refusal.place);
+    let verdict = location.refusal;
+    if verdict.number != 0 {
+        return refused(verdict.number, verdict.place);
     }
     let frame = frame_from(config, location.control);
     with_frame(judge_third_group(config, frame), frame)

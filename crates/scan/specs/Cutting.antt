@@ -10,9 +10,10 @@
 --   reachBy m s     ==  the place up to which they stand from the first byte on
 --   breachBy m s    ==  nowhere, or the place where a piece's length is below the least or runs past the end
 --   MisfitBy m s p  ==  pieces stand up to place p, p is not the end, and none stands there
+--   own-byte, first-byte  ==  what stands at an offset within a piece is the piece's own byte
 -- Of descriptors:
 --   oneByte         ==  the measure: the first byte, 2 at least
---   Descriptor, Cutting, endAt, restFrom, rest, breach3, Misfit  ==  the same by that measure
+--   Descriptor, Cutting, endAt, rest, breach3, Misfit  ==  the same by that measure
 --   Rule3 s         ==  there is a cutting of s
 --   reach s at      ==  the place up to which descriptors stand from place at on
 use Prim.Native.Nat.{ℕ, zero, suc, _+_, _≤_, _<_}
@@ -66,7 +67,6 @@ pub record MisfitBy (m : Measure) (s : List ℕ) (p : ℕ) : Type 0 where
   pub inside : p < length s
   pub none : m .least ≤ m .told s p → p + m .told s p ≤ length s → ⊥
 
--- what stands at an offset within a piece is the piece's own byte
 pub own-byte : (s : List ℕ) (at : ℕ) (d tail : List ℕ) → drop at s ≡ d ++ tail → (k : ℕ) → k < length d → byte s (at + k) ≡ byte d k
 own-byte s at d tail e k h = sym (getD-drop at s k 0) ∙ ap (λ (l : List ℕ). byte l k) e ∙ List·getD-append d tail 0 k h
 
