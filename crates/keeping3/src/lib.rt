@@ -80,7 +80,14 @@ fn few(c: u8) -> bool
 }
 
 // Whether a Mixer of p pins and this length, which names the cluster of an ID, keeps its rule.
-fn mixer_kept(clusters: &[u8], given: &[u16; 256], ids: &[u8], p: u8, cluster: u16, size: usize) -> bool
+fn mixer_kept(
+    clusters: &[u8],
+    given: &[u16; 256],
+    ids: &[u8],
+    p: u8,
+    cluster: u16,
+    size: usize,
+) -> bool
     requires { ⌜ length (now ids) ≤ 255 ⌝ }
     ensures { λ r. ⌜ r ≡ (within 1 (channelsOf (clusterWith (now (clusters .entry)) cluster)) mostChannels && eqb size (mixerLength p (channelsOf (clusterWith (now (clusters .entry)) cluster)) (channelsIn (map (clusterOn (now (clusters .entry)) (now (given .entry))) (now (ids .entry)))))) ⌝ }
 {
