@@ -3,27 +3,30 @@
 //!
 //! The work stands in three layers, as in document 01: cutting ([`cut`]), topology ([`entity`],
 //! [`topology`], [`streaming`], put together by [`reader`]) and requests ([`controls`],
-//! [`settings`], [`requests`]). Above them stand the programs [`sheet`], [`lend`] and [`relay`], and
-//! beside them the two forms of a sheet ([`forms`]), what changed between two sheets
-//! ([`differences`], [`sheets`]), the mover from one form to the other ([`mover`]), the routes up to the
-//! Input Terminals ([`routes`]), the writer of a header and a run ([`writer`]) and the [`generator`].
+//! [`settings`], [`requests`]). Above them stand the programs [`sheet`], [`lend`] and [`relay`], the
+//! duet box ([`sides`]) with its program [`duet`], and beside them the two forms of a sheet
+//! ([`forms`]), what changed between two sheets ([`differences`], [`sheets`]), the mover from one form
+//! to the other ([`mover`]), the routes up to the Input Terminals ([`routes`]), the writer of a header
+//! and a run ([`writer`]) and the [`generator`].
 //!
-//! `second sheet`, `second lend`, `second relay`, `second sheets`, `second routes`, `second writer`: the
-//! programs, from standard input to standard output.
+//! `second sheet`, `second lend`, `second relay`, `second sheets`, `second routes`, `second writer`,
+//! `second duet`: the programs, from standard input to standard output.
 //! `second differ`: the program `compare`, over the files `left` and `right` of the folder.
 //! `second move new|old`: the program `move`.
 //! `second way ID`: the program `way`.
 //! `second vectors DIR [--report]`: writes the vectors; fails if a clause is not reached.
 //! `second fuzz SEED COUNT`: a fresh script of COUNT configurations and COUNT other steps.
-//! `second compare SEED COUNT EVERY SHEET LEND RELAY SHEETS MOVE ROUTES WRITER`: fresh inputs through
-//! the programs SHEET, LEND, RELAY, SHEETS, MOVE, ROUTES and WRITER (each a command with its arguments)
-//! and through this one; one configuration in EVERY goes through SHEET, and as many sheets through MOVE.
+//! `second compare SEED COUNT EVERY SHEET LEND RELAY SHEETS MOVE ROUTES WRITER DUET`: fresh inputs
+//! through the programs SHEET, LEND, RELAY, SHEETS, MOVE, ROUTES, WRITER and DUET (each a command with
+//! its arguments) and through this one; one configuration in EVERY goes through SHEET, and as many
+//! sheets through MOVE.
 
 #![deny(missing_docs)]
 
 mod controls;
 mod cut;
 mod differences;
+mod duet;
 mod entity;
 mod forms;
 mod generator;
@@ -37,6 +40,7 @@ mod routes;
 mod settings;
 mod sheet;
 mod sheets;
+mod sides;
 mod streaming;
 mod topology;
 mod ways;
@@ -49,8 +53,8 @@ use std::process::ExitCode;
 use generator::{compare, vectors};
 
 const USAGE: &str = "usage: second sheet | lend | relay | sheets | differ | move new|old \
-                     | routes | way ID | writer | vectors DIR [--report] | fuzz SEED COUNT \
-                     | compare SEED COUNT EVERY SHEET LEND RELAY SHEETS MOVE ROUTES WRITER";
+                     | routes | way ID | writer | duet | vectors DIR [--report] | fuzz SEED COUNT \
+                     | compare SEED COUNT EVERY SHEET LEND RELAY SHEETS MOVE ROUTES WRITER DUET";
 
 fn main() -> ExitCode {
     let arguments: Vec<String> = std::env::args().skip(1).collect();
@@ -73,6 +77,7 @@ fn run(words: &[&str]) -> Result<Vec<u8>, String> {
         ["sheet"] => Ok(sheet::program(&input()?).into_bytes()),
         ["lend"] => Ok(lend::program(&input()?).into_bytes()),
         ["relay"] => Ok(relay::program(&input()?).into_bytes()),
+        ["duet"] => Ok(duet::program(&input()?).into_bytes()),
         ["sheets"] => Ok(sheets::program(&input()?).into_bytes()),
         ["move", words @ ..] => mover::program(words, input),
         ["routes"] => Ok(routes::program(&input()?).into_bytes()),
@@ -84,7 +89,7 @@ fn run(words: &[&str]) -> Result<Vec<u8>, String> {
         ["fuzz", seed, count] => {
             Ok(compare::script(number(seed)?, number(count)? as usize).tape.bytes)
         }
-        ["compare", seed, count, every, sheet, lend, relay, sheets, mover, routes, writer] => {
+        ["compare", seed, count, every, sheet, lend, relay, sheets, mover, routes, writer, duet] => {
             let command = |text: &str| text.split_whitespace().map(str::to_string).collect();
             let job = compare::Job {
                 seed: number(seed)?,
@@ -96,6 +101,7 @@ fn run(words: &[&str]) -> Result<Vec<u8>, String> {
                 mover: command(mover),
                 routes: command(routes),
                 writer: command(writer),
+                duet: command(duet),
                 every: number(every)? as usize,
             };
             compare::run(&job).map(|line| (line + "\n").into_bytes())

@@ -14,6 +14,8 @@ pub const OLD_PINS: usize = 8;
 pub const CHANNELS: usize = 16;
 /// "more than 128 controls".
 pub const CONTROLS: usize = 128;
+/// The duet box "holds at most 192 controls for both sides together".
+pub const DUET_CONTROLS: usize = 192;
 /// "The new record is 32 bytes": eight bytes and then one for each pin.
 pub const RECORD: usize = 8 + PINS;
 /// "Records of 16 bytes": those of an old sheet.
@@ -22,9 +24,10 @@ pub const OLD_RECORD: usize = 8 + OLD_PINS;
 pub const SHEET: usize = RECORD * ENTITIES;
 /// The kind of a Selector, and the one that old sheets show for a printed Selector.
 pub const SELECTORS: [u8; 2] = [0x05, 0x15];
-/// The most bytes that a step of a `relay` script, or the configuration of a `lend` step, may have.
+/// The most bytes that a step of a `relay` or `duet` script, or the configuration of a `lend` step,
+/// may have.
 pub const STEP: usize = 8192;
-/// The most room that a reply buffer of a `relay` script may have.
+/// The most room that a reply buffer of a `relay` or `duet` script may have.
 pub const REPLY: usize = 64;
 /// The most bytes that a step of `lend` may ask for, and a move of `sheets`.
 pub const LENT: usize = 2048;

@@ -21,8 +21,10 @@ pub const SHOW: u8 = 4;
 /// 05: a state, unchecked.
 pub const PUT: u8 = 5;
 
+/// The bytes of a put before its controls: a number and a count.
+pub const PUT_OPENING: usize = 3;
 /// The bytes of one control in a put.
-const PUT_CONTROL: usize = 13;
+pub const PUT_CONTROL: usize = 13;
 
 /// What a step prints, and the clause if it is a refusal.
 #[derive(Clone, Debug, PartialEq, Eq)]
@@ -83,11 +85,13 @@ pub fn step(state: &mut State, kind: u8, body: &[u8]) -> Result<Printed, BadStep
     }
 }
 
-fn plain(lines: String) -> Printed {
+/// An answer that is no refusal.
+pub fn plain(lines: String) -> Printed {
     Printed { lines, way: None }
 }
 
-fn refused(way: Way) -> Printed {
+/// `refused N`.
+pub fn refused(way: Way) -> Printed {
     Printed { lines: format!("refused {}\n", way.number()), way: Some(way) }
 }
 
@@ -101,33 +105,45 @@ fn plug_in(state: &mut State, config: &[u8]) -> Printed {
 
 /// 11 bytes.
 fn load(state: &mut State, body: &[u8]) -> Result<Printed, BadStep> {
-    if body.len() != 11 {
-        return Err(BadStep);
-    }
-    let number = |at| two_bytes(body, at) as u16;
-    let load = Load {
-        name: (body[0], body[1], body[2]),
-        min: number(3),
-        max: number(5),
-        res: number(7),
-        cur: number(9),
-    };
+    let load = read_load(body)?;
     Ok(match requests::load(&mut state.table, &load) {
         Ok(()) => plain("loaded\n".to_string()),
         Err(way) => refused(way),
     })
 }
 
-/// "two bytes: room m of the reply buffer (at most 64); one byte: length s of the setup; s bytes
-/// of setup; the rest is the data of a Set".
+/// A load from its 11 bytes.
+pub fn read_load(body: &[u8]) -> Result<Load, BadStep> {
+    if body.len() != 11 {
+        return Err(BadStep);
+    }
+    let number = |at| two_bytes(body, at) as u16;
+    Ok(Load {
+        name: (body[0], body[1], body[2]),
+        min: number(3),
+        max: number(5),
+        res: number(7),
+        cur: number(9),
+    })
+}
+
 fn request(state: &mut State, body: &[u8]) -> Result<Printed, BadStep> {
+    over_body(body, |setup, data, reply| requests::request(state, setup, data, reply))
+}
+
+/// "two bytes: room m of the reply buffer (at most 64); one byte: length s of the setup; s bytes
+/// of setup; the rest is the data of a Set": what `ask` answers to that request, printed.
+pub fn over_body(
+    body: &[u8],
+    ask: impl FnOnce(&[u8], &[u8], &mut [u8]) -> Result<Reply, Way>,
+) -> Result<Printed, BadStep> {
     if body.len() < 3 || body.len() < 3 + usize::from(body[2]) {
         return Err(BadStep);
     }
     let room = two_bytes(body, 0).min(REPLY);
     let (setup, data) = body[3..].split_at(usize::from(body[2]));
     let mut reply = [0; REPLY];
-    Ok(match requests::request(state, setup, data, &mut reply[..room]) {
+    Ok(match ask(setup, data, &mut reply[..room]) {
         Ok(Reply::Set) => plain("set\n".to_string()),
         Ok(Reply::Got(size)) => {
             let bytes: String = reply[..size].iter().map(|byte| format!(" {byte:02X}")).collect();
@@ -138,7 +154,7 @@ fn request(state: &mut State, body: &[u8]) -> Result<Printed, BadStep> {
 }
 
 /// "`table C`, then, if C is at most 128, a line for each control".
-fn show(table: &Table) -> String {
+pub fn show(table: &Table) -> String {
     let mut lines = format!("table {}\n", table.count);
     for one in table.controls().unwrap_or(&[]) {
         let fields = [
@@ -161,19 +177,24 @@ fn show(table: &Table) -> String {
 /// "AudioControl number; count, two bytes; then at most 128 controls of 13 bytes ... The places
 /// not given are all zeros. The state becomes exactly this, unchecked".
 fn put(body: &[u8]) -> Result<State, BadStep> {
-    if body.len() < 3 {
+    if body.len() < PUT_OPENING {
         return Err(BadStep);
     }
-    let controls = body[3..].chunks_exact(PUT_CONTROL);
+    put_state(body[0], two_bytes(body, 1) as u16, &body[PUT_OPENING..])
+}
+
+/// A state of this number and count with these controls, "at most 128 controls of 13 bytes".
+pub fn put_state(number: u8, count: u16, bytes: &[u8]) -> Result<State, BadStep> {
+    let controls = bytes.chunks_exact(PUT_CONTROL);
     if !controls.remainder().is_empty() || controls.len() > CONTROLS {
         return Err(BadStep);
     }
     let mut table = Table::empty();
-    table.count = two_bytes(body, 1) as u16;
+    table.count = count;
     for (place, bytes) in table.places.iter_mut().zip(controls) {
         *place = put_control(bytes);
     }
-    Ok(State { number: body[0], table })
+    Ok(State { number, table })
 }
 
 /// "unit, channel, selector, pins, loaded (0 no, else yes), MIN, MAX, RES, CUR two bytes each".

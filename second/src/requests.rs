@@ -8,6 +8,9 @@ use crate::ways::Way;
 /// "channel number 255 of a Feature Unit addresses that selector on all channels that have it".
 pub const ALL_CHANNELS: u8 = 255;
 
+/// Where a setup has the interface number: the "wIndex low byte".
+pub const NUMBER_AT: usize = 4;
+
 /// What the box holds between steps.
 #[derive(Clone, Debug, PartialEq, Eq)]
 pub struct State {
@@ -188,10 +191,7 @@ pub fn request(
     if let Some(way) = table_breach(&state.table) {
         return Err(way);
     }
-    if setup.len() != 8 {
-        return Err(Way::SetupLength);
-    }
-    let asks = Asks::of(setup[0], setup[1]).ok_or(Way::SetupRequest)?;
+    let asks = asked(setup)?;
     let places = address(state, setup)?;
     let addressed: Vec<Control> = places.iter().map(|&place| state.table.places[place]).collect();
     let holds = Holds::of(setup[3]).expect("refusal 30 comes first");
@@ -210,10 +210,23 @@ pub fn request(
     Ok(Reply::Got(sent.len()))
 }
 
+/// Refusal 31: "setup not 8 bytes, or type and request not" one of the five.
+fn asked(setup: &[u8]) -> Result<Asks, Way> {
+    if setup.len() != 8 {
+        return Err(Way::SetupLength);
+    }
+    Asks::of(setup[0], setup[1]).ok_or(Way::SetupRequest)
+}
+
+/// Refusal 31 alone, for what stands above this layer.
+pub fn check_setup(setup: &[u8]) -> Result<(), Way> {
+    asked(setup).map(|_| ())
+}
+
 /// Refusals 32, 33 and 34: the places of the addressed controls, "from the lowest such channel
 /// up". They are of one selector; a request for one channel has one of them.
 fn address(state: &State, setup: &[u8]) -> Result<Vec<usize>, Way> {
-    if setup[4] != state.number {
+    if setup[NUMBER_AT] != state.number {
         return Err(Way::InterfaceNumber);
     }
     let (channel, selector, unit) = (setup[2], setup[3], setup[5]);

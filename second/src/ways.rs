@@ -165,6 +165,14 @@ ways! {
     CollectionLong = 47, "writer: the collection list has more than 247 numbers";
     BufferShort = 48, "writer: the buffer is too short";
     ListShort = 49, "the lent list is too short for the routes";
+    SidesOver = 30, "duet: over 192 controls in all";
+    PresentedNumber = 32, "duet: a presented number other than 0 and 1";
+    SideTaken = 61, "duet, plug-in: the side is taken";
+    SidesFull = 62, "duet, plug-in: both sides' controls would pass 192";
+    UnplugEmpty = 63, "duet, unplugging: an empty side";
+    LoadEmpty = 63, "duet, load: an empty side";
+    RequestEmpty = 63, "duet, request: an empty side";
+    StretchUnknown = 64, "duet, stretch: an unknown ID";
 }
 
 impl Way {
@@ -201,7 +209,7 @@ mod tests {
 
     #[test]
     fn every_number_of_the_papers_has_a_way() {
-        let wanted = (1..=17).chain([20, 21]).chain(30..=39).chain(41..=49);
+        let wanted = (1..=17).chain([20, 21]).chain(30..=39).chain(41..=49).chain(61..=64);
         for number in wanted {
             assert!(Way::ALL.iter().any(|way| way.number() == number), "{number}");
         }

@@ -1,4 +1,5 @@
 -- Demand 2, proved.
+--   runs-so  ==  from every state that 30 has nothing against, every run is as demand 2 asks
 use mathlib.Core.Path.{_≡_, sym, ap, subst}
 use mathlib.Core.List.{List}
 use Prim.Native.Nat.{ℕ}
@@ -19,7 +20,7 @@ use Rattle.runs.proofs.InTurn.{in-turn}
 use Rattle.runs.proofs.Rows.{step-rows}
 use Rattle.demands.specs.Demand2.{EveryRun, Demand2}
 
-runs-so : (st : State) → Sound (st .table) → (run : List Step) → Wired run → EveryRun st run
+pub runs-so : (st : State) → Sound (st .table) → (run : List Step) → Wired run → EveryRun st run
 runs-so st h run w =
     let s = run-sound st run w h in
     record {

@@ -167,40 +167,11 @@ fn ask_step(state: State, body: &[u8]) -> Next {
     ask(state, room, &body[3..end], &body[end..])
 }
 
-fn show_control(c: Control) {
-    say_number(c.unit as u64);
-    say_next(c.channel as u64);
-    say_next(c.selector as u64);
-    say_next(c.pins as u64);
-    say_next(c.loaded as u64);
-    say_next(c.min as u64);
-    say_next(c.max as u64);
-    say_next(c.res as u64);
-    say_next(c.cur as u64);
-    say(b"\n");
-}
-
-// The first controls of a table, a line each.
-fn show_controls(table: Table, count: usize) {
-    let mut i: usize = 0;
-    while i < count {
-        show_control(table::control_at(table, i));
-        i += 1;
-    }
-}
-
 fn show(state: State, body: &[u8]) -> Next {
     if body.len() != 0 {
         return bad(state);
     }
-    let table = state.table;
-    let count = table.count;
-    say(b"table");
-    say_next(count as u64);
-    say(b"\n");
-    if count <= table::CONTROLS {
-        show_controls(table, count);
-    }
+    listing::show(state.table);
     good(state)
 }
 

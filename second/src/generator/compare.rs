@@ -3,6 +3,9 @@
 use std::io::Write;
 use std::process::{Command, Stdio};
 
+use super::duet_random;
+use super::duets::{put_duet, Duets};
+use super::isolation;
 use super::lent::{self, Lent};
 use super::lists::{self, Lists};
 use super::moves::{self, Moves};
@@ -13,10 +16,12 @@ use super::rng::Rng;
 use super::routes::{self, Routes};
 use super::script::{put_body, step_bytes, Reach, Script};
 use super::tape::Tape;
+use crate::duet;
 use crate::mover::{self, Wanted};
 use crate::relay::{self, PLUG_IN};
 use crate::requests::State;
 use crate::sheet;
+use crate::sides::Duet;
 use crate::ways::Way;
 
 /// Configurations, and as many steps, of one run of `relay`.
@@ -25,6 +30,8 @@ const BATCH: usize = 1000;
 const TWIN: usize = 10;
 /// Loads and requests behind each of two orders.
 const TWIN_STEPS: usize = 20;
+/// One pair of runs of `duet` that agree on one side to so many of a batch's steps.
+const TWO_RUNS: usize = 100;
 
 /// What is to be compared.
 pub struct Job {
@@ -46,6 +53,8 @@ pub struct Job {
     pub routes: Vec<String>,
     /// The program `writer` and its arguments.
     pub writer: Vec<String>,
+    /// The program `duet` and its arguments.
+    pub duet: Vec<String>,
     /// One configuration in so many goes through `sheet` too, and as many sheets through `move`;
     /// none if 0.
     pub every: usize,
@@ -87,6 +96,8 @@ pub fn run(job: &Job) -> Result<String, String> {
         compare_tape("routes", &job.routes, &routes.tape)?;
         let lists = list_script(seed, now);
         compare_tape("writer", &job.writer, &lists.tape)?;
+        let duets = duet_script(seed, now);
+        compare_duet(job, &duets)?;
         reach.add(&script.reach);
         reach.add(&lent.reach);
         twins += (readings.reach.lent + answers.reach.configurations) / 2;
@@ -94,6 +105,7 @@ pub fn run(job: &Job) -> Result<String, String> {
         reach.add(&moves.reach);
         reach.add(&routes.reach);
         reach.add(&lists.reach);
+        reach.add(&duets.reach);
         done += now;
         eprintln!("{done} of {} configurations and steps", job.count);
     }
@@ -102,8 +114,9 @@ pub fn run(job: &Job) -> Result<String, String> {
         "no difference: {done} configurations and {done} other steps through `relay`, {sheets} \
          configurations through `sheet` and as many sheets through `move`, {} through `lend`, \
          {twins} with their runs in two orders, {} pairs and {} moves through `sheets`, {} steps \
-         through `routes`, {} through `writer`; {ways} of the {all} clauses of refusals met",
-        reach.lent, reach.pairs, reach.moves, reach.routes, reach.lists
+         through `routes`, {} through `writer`, {} through `duet`; {ways} of the {all} clauses of \
+         refusals met",
+        reach.lent, reach.pairs, reach.moves, reach.routes, reach.lists, reach.duets
     ))
 }
 
@@ -170,6 +183,20 @@ fn list_script(seed: u64, count: usize) -> Lists {
     all
 }
 
+/// So many steps of `duet` at random, and pairs of runs that agree on one side, which are held to one
+/// another while they are written.
+fn duet_script(seed: u64, count: usize) -> Duets {
+    let mut rng = Rng::new(seed.rotate_left(24));
+    let mut duets = Duets::new();
+    for _ in 0..count {
+        duet_random::step(&mut rng, &mut duets);
+    }
+    for _ in (0..count).step_by(TWO_RUNS) {
+        isolation::two_runs(&mut rng, &mut duets);
+    }
+    duets
+}
+
 /// Compares what `move` prints for sheets at random, one for each configuration of `sheet`.
 fn compare_moves(job: &Job, seed: u64, count: usize) -> Result<(), String> {
     if job.every == 0 {
@@ -216,6 +243,21 @@ fn compare_relay(job: &Job, script: &Script) -> Result<(), String> {
         Some((index, answers)) => Err(tell_step(script, index, &answers)),
         None => Ok(()),
     }
+}
+
+/// Compares what `duet` prints. The first difference is told with the box before it as a put step.
+fn compare_duet(job: &Job, duets: &Duets) -> Result<(), String> {
+    let got = output(&job.duet, &duets.tape.bytes)?;
+    let Some((index, answers)) = duets.tape.difference(&got) else { return Ok(()) };
+    let mut before = Duet::empty();
+    for step in duets.tape.steps().take(index) {
+        duet::step(&mut before, step[0], &step[3..]).expect("a good step");
+    }
+    Err(format!(
+        "difference in `duet`\nbox before, as a step: {}\nstep: {}\n{answers}",
+        hex(&step_bytes(duet::PUT, &put_duet(&before))),
+        hex(duets.tape.step(index))
+    ))
 }
 
 /// Compares what a program of this name prints for steps that hang on none before them.

@@ -27,7 +27,7 @@ const RANDOM_STEPS: usize = 12;
 const STEREO: (u8, u16, u8) = (2, 0x0003, 0);
 
 /// A step of `relay` with the line that it has to print.
-type Said = (u8, Vec<u8>, String);
+pub type Said = (u8, Vec<u8>, String);
 
 /// A configuration, what every order of its run is answered, and steps that follow it.
 struct Headset {
@@ -124,7 +124,7 @@ fn to_host(id: u8, source: u8) -> Part {
 
 /// Five entities with every kind: a Mixer, a Selector behind it, mute on the master and channel 2,
 /// volume on all, bass, delay and loudness on channel 1.
-fn five() -> Plan {
+pub fn five() -> Plan {
     let masks = vec![0x03, 0, 0x86, 0x02, 0x03, 0];
     let parts = vec![
         input(9, STEREO),
@@ -149,7 +149,7 @@ fn four() -> Plan {
 }
 
 /// Two Feature Units with the same masks, one behind the other.
-fn two_units() -> Plan {
+pub fn two_units() -> Plan {
     let unit = |id, source| Part::Feature { id, source, size: 1, masks: vec![0x02, 0x03, 0x02] };
     streamed(0, vec![input(9, STEREO), unit(7, 9), unit(4, 7), to_host(2, 4)], 2)
 }
@@ -169,8 +169,8 @@ fn good() -> Vec<Headset> {
         Headset { steps: case_a_steps(), ..Headset::new(case_a(), "accepted 0 3 2") },
         Headset::new(two_names().bytes(), "accepted 0 4 1"),
         Headset::new(four().bytes(), "accepted 5 4 4"),
-        Headset { steps: unit_steps(), ..Headset::new(two_units().bytes(), "accepted 0 4 8") },
-        Headset { steps: five_steps(), ..Headset::new(five().bytes(), "accepted 6 5 9") },
+        Headset { steps: unit_steps(0), ..Headset::new(two_units().bytes(), "accepted 0 4 8") },
+        Headset { steps: five_steps(6, 5), ..Headset::new(five().bytes(), "accepted 6 5 9") },
         Headset::new(telephone(Telephone::Tables, 2, 0x61), "accepted 0 9 3"),
         Headset::new(desk().bytes(), "accepted 0 9 17"),
     ]
@@ -209,8 +209,8 @@ fn case_a_steps() -> Vec<Said> {
     ]
 }
 
-/// Both units have the same selectors, and each answers for itself.
-fn unit_steps() -> Vec<Said> {
+/// Both units have the same selectors, and each answers for itself; interface `number`.
+pub fn unit_steps(number: u8) -> Vec<Said> {
     let mut steps = Vec::new();
     for (unit, base) in [(4, 100), (7, 200)] {
         for channel in 0..=2 {
@@ -221,54 +221,55 @@ fn unit_steps() -> Vec<Said> {
     steps.push(load((4, 1, 1), [0; 4], "refused 20"));
     for (unit, base) in [(7, 200), (4, 100)] {
         let all = (unit, ALL_CHANNELS, 2);
-        steps.push(ask(CUR, 0, all, 6, &got(&[base, 0, base + 1, 0, base + 2, 0])));
+        steps.push(ask(CUR, number, all, 6, &got(&[base, 0, base + 1, 0, base + 2, 0])));
     }
     steps.extend([
-        set(0, (7, ALL_CHANNELS, 2), &[1, 0, 2, 0, 3, 0], "set"),
-        ask(CUR, 0, (4, 0, 2), 2, "got 64 00"),
-        ask(CUR, 0, (7, 2, 2), 2, "got 03 00"),
-        set(0, (4, ALL_CHANNELS, 1), &[1], "set"),
-        ask(CUR, 0, (7, 1, 1), 1, "got 00"),
-        ask(CUR, 0, (4, ALL_CHANNELS, 3), 2, "refused 34"),
-        ask(CUR, 0, (9, 0, 2), 2, "refused 33"),
+        set(number, (7, ALL_CHANNELS, 2), &[1, 0, 2, 0, 3, 0], "set"),
+        ask(CUR, number, (4, 0, 2), 2, "got 64 00"),
+        ask(CUR, number, (7, 2, 2), 2, "got 03 00"),
+        set(number, (4, ALL_CHANNELS, 1), &[1], "set"),
+        ask(CUR, number, (7, 1, 1), 1, "got 00"),
+        ask(CUR, number, (4, ALL_CHANNELS, 3), 2, "refused 34"),
+        ask(CUR, number, (9, 0, 2), 2, "refused 33"),
         show(),
     ]);
     steps
 }
 
 /// Loads and requests over the five entities: blocks and single ones, refused ones among them.
-fn five_steps() -> Vec<Said> {
+/// `number` is the interface's, `other` is no interface's.
+pub fn five_steps(number: u8, other: u8) -> Vec<Said> {
     let (volume, mute, bass, pin) =
         ((2, ALL_CHANNELS, 2), (2, ALL_CHANNELS, 1), (2, 1, 3), (200, 0, 0));
     vec![
         load((2, 0, 2), [signed(-5120), 0, 256, signed(-300)], "loaded"),
         load((2, 1, 2), [signed(-100), 100, 7, 3], "loaded"),
-        ask(CUR, 6, volume, 6, "refused 36"),
+        ask(CUR, number, volume, 6, "refused 36"),
         load((2, 2, 2), [1000, 0, 1000, 501], "refused 21"),
         load((2, 2, 2), [0, 1000, 1000, 501], "loaded"),
         load((2, 3, 2), [0, 1000, 1000, 501], "refused 20"),
         load(pin, [1, 2, 1, 1], "refused 20"),
         load(bass, [narrow(-10), 9, 4, 9], "loaded"),
-        ask(CUR, 6, volume, 6, "got 00 FF 05 00 E8 03"),
-        ask(MIN, 6, volume, 3, "got 00 EC 9C"),
+        ask(CUR, number, volume, 6, "got 00 FF 05 00 E8 03"),
+        ask(MIN, number, volume, 3, "got 00 EC 9C"),
         // -384 gives -512; -100 + 28 * 7 is 96; 499 is nearer to 0.
-        set(6, volume, &[0x80, 0xFE, 200, 0, 0xF3, 0x01], "set"),
-        ask(CUR, 6, volume, 64, "got 00 FE 60 00 00 00"),
-        set(6, volume, &[0, 0, 0, 0], "refused 37"),
-        set(6, mute, &[1, 2], "refused 38"),
-        set(6, mute, &[0, 1], "set"),
-        ask(CUR, 6, mute, 2, "got 00 01"),
-        ask(MIN, 6, mute, 2, "refused 35"),
-        set(6, pin, &[2], "set"),
-        set(6, pin, &[3], "refused 38"),
-        ask(CUR, 6, pin, 1, "got 02"),
-        ask(CUR, 6, (200, ALL_CHANNELS, 0), 1, "refused 34"),
-        ask(CUR, 6, (2, 1, 8), 2, "refused 36"),
-        ask(CUR, 5, bass, 1, "refused 32"),
-        ask(CUR, 6, (4, 0, 0), 1, "refused 33"),
-        ask((0xA1, 0x01), 6, bass, 1, "refused 31"),
-        (REQUEST, request_body(0, &setup(CUR, 6, bass, 1), &[]), "refused 39".to_string()),
-        ask(CUR, 6, bass, 1, "got 06"),
+        set(number, volume, &[0x80, 0xFE, 200, 0, 0xF3, 0x01], "set"),
+        ask(CUR, number, volume, 64, "got 00 FE 60 00 00 00"),
+        set(number, volume, &[0, 0, 0, 0], "refused 37"),
+        set(number, mute, &[1, 2], "refused 38"),
+        set(number, mute, &[0, 1], "set"),
+        ask(CUR, number, mute, 2, "got 00 01"),
+        ask(MIN, number, mute, 2, "refused 35"),
+        set(number, pin, &[2], "set"),
+        set(number, pin, &[3], "refused 38"),
+        ask(CUR, number, pin, 1, "got 02"),
+        ask(CUR, number, (200, ALL_CHANNELS, 0), 1, "refused 34"),
+        ask(CUR, number, (2, 1, 8), 2, "refused 36"),
+        ask(CUR, other, bass, 1, "refused 32"),
+        ask(CUR, number, (4, 0, 0), 1, "refused 33"),
+        ask((0xA1, 0x01), number, bass, 1, "refused 31"),
+        (REQUEST, request_body(0, &setup(CUR, number, bass, 1), &[]), "refused 39".to_string()),
+        ask(CUR, number, bass, 1, "got 06"),
     ]
 }
 

@@ -36,6 +36,11 @@ impl<'a> Apart<'a> {
         Some(Apart { before: &config[..from], run, behind: &config[to..] })
     }
 
+    /// The run's descriptors.
+    pub fn run(&self) -> &[&'a [u8]] {
+        &self.run
+    }
+
     /// How many descriptors the run has.
     pub fn count(&self) -> usize {
         self.run.len()

@@ -752,6 +752,15 @@ fn value(rng: &mut Rng, control: &Control) -> u16 {
     }
 }
 
+/// A put, of a good table more often than not.
+pub fn some_put(rng: &mut Rng, state: &State) -> Vec<u8> {
+    if rng.one_in(3) {
+        put_spoilt(rng, state)
+    } else {
+        put_good(rng)
+    }
+}
+
 /// A table that is one, its controls in any order.
 fn put_good(rng: &mut Rng) -> Vec<u8> {
     let mut controls = if rng.one_in(3) { sample() } else { blocks(rng) };

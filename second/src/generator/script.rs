@@ -29,6 +29,8 @@ pub struct Reach {
     pub routes: usize,
     /// Steps of `writer`.
     pub lists: usize,
+    /// Steps of `duet`.
+    pub duets: usize,
 }
 
 impl Reach {
@@ -71,6 +73,12 @@ impl Reach {
         self.count_answer(printed);
     }
 
+    /// Counts one answer of `duet`.
+    pub fn count_duet(&mut self, printed: &Printed) {
+        self.duets += 1;
+        self.count_answer(printed);
+    }
+
     fn count_answer(&mut self, printed: &Printed) {
         match printed.way {
             Some(way) => *self.ways.entry(way).or_default() += 1,
@@ -96,6 +104,7 @@ impl Reach {
         self.moves += other.moves;
         self.routes += other.routes;
         self.lists += other.lists;
+        self.duets += other.duets;
     }
 }
 

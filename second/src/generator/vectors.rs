@@ -1,11 +1,17 @@
 //! The vectors: for each run of a program a folder with its `stdin`, its files and its `stdout`.
+//! Those of `duet` that are short stand in `duet_ends`.
 
 use std::fs;
 use std::path::Path;
 
 use super::build::{case_a, microphone, telephone, Telephone};
 use super::configs::{self, desk};
+use super::duet_ends;
+use super::duet_random;
+use super::duet_steps;
+use super::duets::Duets;
 use super::headsets;
+use super::isolation;
 use super::lent::{self, lent_bytes, Lent};
 use super::lists::{self, list_bytes, Lists};
 use super::moves::{self, move_bytes, Moves};
@@ -15,6 +21,7 @@ use super::rng::Rng;
 use super::routes::{self as ways, route_bytes, Routes};
 use super::script::{step_bytes, Reach, Script};
 use super::steps;
+use crate::duet;
 use crate::lend;
 use crate::mover;
 use crate::numbers::{CONFIGURATION_MOST, CONTROLS, FIELDS, LENT, LIST, ROOM, STEP};
@@ -33,6 +40,10 @@ const CONFIGURATIONS: usize = 2400;
 const STEPS: usize = 14000;
 /// Configurations at random over which those steps go.
 const STEP_CONFIGURATIONS: usize = 350;
+/// Steps of `duet` at random, beside those made on purpose.
+const DUET_STEPS: usize = 3000;
+/// Pairs of runs that agree on one side.
+const TWO_RUNS: usize = 12;
 /// What the vectors have to have at least.
 const LEAST: (usize, usize) = (2000, 20000);
 
@@ -52,7 +63,7 @@ pub struct Run {
 
 impl Run {
     /// A run that reads standard input.
-    fn new(name: impl Into<String>, stdin: Vec<u8>, stdout: impl Into<Vec<u8>>) -> Run {
+    pub fn new(name: impl Into<String>, stdin: Vec<u8>, stdout: impl Into<Vec<u8>>) -> Run {
         Run { name: name.into(), words: vec![], stdin, files: vec![], stdout: stdout.into() }
     }
 }
@@ -73,6 +84,8 @@ pub struct Vectors {
     routes: Routes,
     /// The steps of `writer`.
     lists: Lists,
+    /// The steps of `duet` made on purpose.
+    duets: Duets,
     /// What is reached on purpose, before anything at random.
     pub named: Reach,
 }
@@ -122,6 +135,15 @@ pub fn make() -> Vectors {
         named.add(&on_purpose);
         runs.push(Run::new(name, script.tape.bytes, script.tape.printed));
     }
+    let mut duets = Duets::new();
+    duet_steps::all(&mut duets);
+    named.add(&duets.reach);
+    for (name, script) in [("duet_steps", &duets), ("duet_random", &random_duets())] {
+        assert_eq!(duet::program(&script.tape.bytes), script.tape.printed, "{name}");
+        reach.add(&script.reach);
+        runs.push(Run::new(name, script.tape.bytes.clone(), script.tape.printed.as_str()));
+    }
+    runs.extend(duet_ends::all());
     runs.extend(quiet_ends());
     runs.extend(kept_steps());
     runs.extend(bad_steps());
@@ -134,7 +156,7 @@ pub fn make() -> Vectors {
     runs.extend(told_ways());
     runs.push(longest_list());
     runs.extend(bad_lists());
-    Vectors { runs, reach, named, lent, pairs, moves, routes, lists }
+    Vectors { runs, reach, named, lent, pairs, moves, routes, lists, duets }
 }
 
 /// Every configuration made on purpose, with its answer held to what is written there, and more at
@@ -166,6 +188,20 @@ fn step_script() -> (Script, Reach) {
     let mut rng = Rng::new(SEED + 1);
     random::fill(&mut rng, &mut script, STEP_CONFIGURATIONS, STEPS);
     (script, named)
+}
+
+/// Steps of `duet` at random, from an empty box, and pairs of runs that agree on one side.
+fn random_duets() -> Duets {
+    let mut rng = Rng::new(SEED + 8);
+    let mut duets = Duets::new();
+    duets.clear();
+    for _ in 0..DUET_STEPS {
+        duet_random::step(&mut rng, &mut duets);
+    }
+    for _ in 0..TWO_RUNS {
+        isolation::two_runs(&mut rng, &mut duets);
+    }
+    duets
 }
 
 /// Runs of `sheet`: the papers' examples, some made on purpose by name, some at random.
@@ -541,8 +577,19 @@ impl Vectors {
             .filter(|way| !reached(way))
             .map(|way| format!("{} {}", way.number(), way.words()))
             .collect();
-        for word in ["accepted", "loaded", "set", "got", "table", "put", "moved", "routes", "wrote"]
-        {
+        for word in [
+            "accepted",
+            "loaded",
+            "set",
+            "got",
+            "table",
+            "put",
+            "moved",
+            "routes",
+            "wrote",
+            "unplugged",
+            "bytes",
+        ] {
             if !self.named.answers.contains_key(word) {
                 missing.push(format!("an answer `{word}`"));
             }
@@ -558,6 +605,7 @@ impl Vectors {
         missing.extend(self.moves.missing());
         missing.extend(self.routes.missing());
         missing.extend(self.lists.missing());
+        missing.extend(self.duets.missing());
         missing
     }
 
@@ -585,6 +633,7 @@ impl Vectors {
         lines += &format!("{} moves of sheets ({} on purpose)\n", reach.moves, named.moves);
         lines += &format!("{} steps of routes ({} on purpose)\n", reach.routes, named.routes);
         lines += &format!("{} lists of entities ({} on purpose)\n", reach.lists, named.lists);
+        lines += &format!("{} steps of the duet box ({} on purpose)\n", reach.duets, named.duets);
         lines += &format!("{} runs, {bytes} bytes\n", self.runs.len());
         lines
     }

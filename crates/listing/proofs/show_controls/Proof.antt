@@ -1,8 +1,8 @@
 -- The loop's count does not pass the number of controls to show, so it ends.
 use borrow.Author.Needs.{needs}
 use Prim.Native.Nat.{_-_, _≤_}
-use Rattle.relay.proofs.show_controls.Statement.{statement}
-use Rattle.relay.proofs.show_controls.Tie as tie
+use Rattle.listing.proofs.show_controls.Statement.{statement}
+use Rattle.listing.proofs.show_controls.Tie as tie
 
 abbrev Inv-loop : tie.InvT-loop
 Inv-loop table count i₀ i = i ≤ count

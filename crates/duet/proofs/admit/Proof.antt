@@ -1,0 +1,48 @@
+-- The ways of an admission.
+use borrow.Author.Needs.{needs}
+use Rattle.duet.proofs.Admitting.{away, let-in, sheet-holds, draft-holds}
+use Rattle.duet.proofs.admit.Statement.{statement}
+use Rattle.duet.proofs.admit.Tie as tie
+
+ruleset laws = (away, let-in, sheet-holds, draft-holds, needs)
+
+read-draft-requires : tie.Need-read-draft-requires
+read-draft-requires c κs = search laws
+
+judge-reading-requires : tie.Need-judge-reading-requires
+judge-reading-requires c κs = search laws
+
+turned-away-requires : tie.Need-turned-away-requires
+turned-away-requires c κs = search laws
+
+same-length : tie.Need-same-length
+same-length c = search laws
+
+returns : tie.Need-returns
+returns c = search laws
+
+settle-requires : tie.Need-settle-requires
+settle-requires c κs = search laws
+
+same-length-2 : tie.Need-same-length-2
+same-length-2 c = search laws
+
+same-length-3 : tie.Need-same-length-3
+same-length-3 c = search laws
+
+returns-2 : tie.Need-returns-2
+returns-2 c = search laws
+
+pub admit-spec : {M : Type 1} → statement M
+admit-spec =
+    tie.close
+    (tie.spec
+    read-draft-requires
+    judge-reading-requires
+    turned-away-requires
+    same-length
+    returns
+    settle-requires
+    same-length-2
+    same-length-3
+    returns-2)

@@ -1,0 +1,8 @@
+pub mod Box
+pub mod Plugging
+pub mod Asking
+pub mod Stretch
+pub mod Drafts
+pub mod BoxLaws
+pub mod AskingLaws
+pub mod PluggingLaws

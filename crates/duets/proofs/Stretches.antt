@@ -1,0 +1,127 @@
+-- The stretch, proved: where the reader accepts, the first entity that bears an ID is the only one, and its place is its descriptor's.
+--   stretch-shown  ==  THE THEOREM
+use Prim.Native.Nat.{ℕ, _*_, _≤_, _<_}
+use mathlib.Core.Path.{_≡_, refl, sym, ap, _∙_, subst}
+use mathlib.Core.Bool.{Bool, true, false}
+use mathlib.Core.List.{List, []}
+use mathlib.Core.Logic.{⊎-elim}
+use native.Mathlib.Omega.{arith}
+use lib.Dec.{eqb}
+use lib.ListN.{length, getD}
+use borrow.Author.Tests.{eq-eqb, ne-eqb, le-leb}
+use Rattle.ground.specs.declared.Place.{Place}
+use Rattle.ground.specs.declared.Place.the-variants as place
+use Rattle.ground.specs.declared.Refusal.{Refusal}
+use Rattle.ground.specs.Pick.{yes, no, decided, reads-eq}
+use Rattle.ground.specs.Lists.{member-at, member-index}
+use Rattle.ground.specs.Places.{first-some, first-none}
+use Rattle.ground.specs.Refuse.{none, refuse, keptAt}
+use Rattle.graph.specs.Members.{_∈_}
+use Rattle.edition.specs.Edition.{ownId}
+use Rattle.edition.specs.Audio.{audio}
+use Rattle.entities.specs.declared.Run.{Run}
+use Rattle.entities.specs.Run.{held, idAt, placeAt}
+use Rattle.entities.specs.Represents.{Represents}
+use Rattle.cutting.specs.declared.Survey.{Survey}
+use Rattle.cutting.specs.Survey.{surveyOf}
+use Rattle.cutting.specs.Rules1to9.{Kept}
+use Rattle.ids.specs.Breach.{bears}
+use Rattle.ids.specs.OwnIds.{own-ids}
+use Rattle.records.specs.Records.{recordSize, roomFor}
+use Rattle.topology.specs.declared.Finding.{Finding}
+use Rattle.topology.specs.declared.Reading.{Reading}
+use Rattle.topology.specs.Reading.{clustersAt, roomJudged, verdictOf, findingWith, findingOf, refusedReading, readingOf}
+use Rattle.topology.specs.Verdict.{finding-taken, verdict-refused, verdict-room}
+use Rattle.reader.specs.Configuration.{runOf, placeOfRun, Configuration}
+use Rattle.reader.proofs.Surveyed.{entitiesOf, survey-kept, represented}
+use Rattle.reader.proofs.Exactly.{accepted-exactly}
+use Rattle.reader.proofs.Shows.{number-told}
+use Rattle.duet.specs.declared.Located.{Located}
+use Rattle.duet.specs.declared.Located.the-variants.{Refused, From}
+use Rattle.duet.specs.Stretch.{entityPlace, known, locatedBy, locatedIn, refusalOf, bytesAt}
+use Rattle.duet.specs.Drafts.{wholeSheet}
+use Rattle.duets.specs.Stretches.{StretchShown}
+
+module _ (s : List ℕ) where
+  abbrev found : Finding
+  found = findingOf s
+
+  -- what is refused by the rules 1 to 15 is refused so with every sheet
+  refused-so : (room : ℕ) → (found .refusal .number ≡ 0 → ⊥) → found .refusal ≡ verdictOf s room
+  refused-so room n = verdict-refused s found refl room n
+
+  roomy : (room : ℕ) → wholeSheet ≤ room → found .refusal .number ≡ 0 → verdictOf s room .number ≡ 0
+  unfolding roomJudged roomFor refuse
+  roomy room h z =
+      let e = le-leb (held (surveyOf s .run) * recordSize) room (omega arith) in
+      ap (λ (r : Refusal). r .number) (verdict-room s found refl room z ∙ ap (λ (b : Bool). refuse 16 (keptAt b (surveyOf s .header)) none) e)
+
+  judged-so : (x room : ℕ) → wholeSheet ≤ room → (readingOf s room .number ≡ 0 → ⊥) → locatedIn s x ≡ Refused (readingOf s room .number) (readingOf s room .place)
+  unfolding locatedBy readingOf refusedReading
+  judged-so x room h n =
+      no _ _ (ne-eqb _ _ broken)
+      ∙ ap (λ (r : Refusal). Refused (r .number) (r .place)) (refused-so room broken)
+      ∙ sym (ap (λ (r : Reading). Refused (r .number) (r .place)) (no _ _ (ne-eqb _ _ (λ z. n (number-told s room ∙ z)))))
+    where
+      broken : found .refusal .number ≡ 0 → ⊥
+      broken z = n (number-told s room ∙ roomy room h z)
+
+  module _ (t : Configuration s) where
+    abbrev ds : List (List ℕ)
+    ds = runOf (t .kept)
+
+    abbrev run : Run
+    run = entitiesOf (t .kept)
+
+    r : Represents audio s (placeOfRun (t .kept)) ds run
+    r = represented s (t .kept)
+
+    kept : found .refusal .number ≡ 0
+    kept = ⊎-elim (λ (z : found .refusal .number ≡ 0). z) (λ (n : found .refusal .number ≡ 0 → ⊥). absurd (n (ap (λ (y : Refusal). y .number) (refused-so wholeSheet n) ∙ taken))) (decided (eqb (found .refusal .number) 0) (reads-eq (found .refusal .number) 0))
+      where
+        taken : verdictOf s wholeSheet .number ≡ 0
+        taken = accepted-exactly s wholeSheet .1 (t, (let l = t .kept .rule8 .1 in omega arith))
+
+    run-is : found .run ≡ run
+    unfolding findingWith
+    run-is = ap (λ (f : Finding). f .run) (finding-taken s found refl kept) ∙ ap (λ (v : Survey). v .run) (survey-kept s (t .kept))
+
+    located-in : (x : ℕ) → locatedIn s x ≡ known (entityPlace run x)
+    unfolding locatedBy
+    located-in x = yes _ _ (eq-eqb _ _ kept) ∙ ap (λ (v : Run). known (entityPlace v x)) run-is
+
+    none-bears : (x : ℕ) → ((d : List ℕ) → d ∈ ds → ownId d ≡ x → ⊥) → entityPlace run x ≡ place.Nowhere
+    unfolding entityPlace
+    none-bears x h =
+        first-none (bears run x) (λ i. place.At (placeAt run i)) place.Nowhere (held run)
+        (λ j l. let m : j < length ds = (let c = r .counted in omega arith) in ne-eqb _ _ (λ e. h (getD ds j []) (member-at [] ds j m) (sym (r .id j m) ∙ e)))
+
+    bears-first : (i : ℕ) → i < length ds → entityPlace run (ownId (getD ds i [])) ≡ place.At (placeAt run i)
+    unfolding entityPlace
+    bears-first i l =
+        first-some (bears run (ownId (getD ds i []))) (λ j. place.At (placeAt run j)) place.Nowhere (held run) i
+        (record {
+          inside = let c = r .counted in omega arith;
+          passes = eq-eqb _ _ (r .id i l);
+          none-before = λ j m. let q : j < length ds = omega arith in ne-eqb _ _ (λ e. let w : j ≡ i = own-ids ds (t .connected .rule10) j i q l (sym (r .id j q) ∙ e) in omega arith);
+        })
+
+    stands : (i : ℕ) → i < length ds → (refusalOf (locatedIn s (ownId (getD ds i []))) ≡ none) × (bytesAt s (locatedIn s (ownId (getD ds i []))) ≡ getD ds i [])
+    stands i l =
+        let e : locatedIn s (ownId (getD ds i [])) ≡ From (placeAt run i) = located-in (ownId (getD ds i [])) ∙ ap known (bears-first i l) in
+        (ap refusalOf e, ap (bytesAt s) e ∙ r .bytes i l)
+
+  empties : (y : Located) → (refusalOf y .number ≡ 0 → ⊥) → bytesAt s y ≡ []
+  empties (Refused n p) h = refl
+  empties (From p) h = absurd (h refl)
+
+-- THE THEOREM
+pub stretch-shown : (s : List ℕ) → StretchShown s
+stretch-shown s = record {
+  shown = λ t d m.
+      let i = member-index [] m in
+      subst (λ (e : List ℕ). (refusalOf (locatedIn s (ownId e)) ≡ none) × (bytesAt s (locatedIn s (ownId e)) ≡ e)) (i .2) (stands s t (i .0) (i .1));
+  unknown = λ t x h. located-in s t x ∙ ap known (none-bears s t x h);
+  by-the-reader = judged-so s;
+  empty = λ x h. empties s (locatedIn s x) h;
+}
