@@ -81,6 +81,11 @@ impl Group<'_> {
         self.interface.bytes[4]
     }
 
+    /// Byte 7.
+    pub fn protocol(&self) -> u8 {
+        self.interface.bytes[7]
+    }
+
     /// From bytes 5 and 6.
     pub fn purpose(&self) -> Purpose {
         match (self.interface.bytes[5], self.interface.bytes[6]) {
@@ -116,14 +121,22 @@ pub fn cut(config: &[u8]) -> Result<Cut<'_>, Refusal> {
 
 /// Cuts a configuration, refusing with 1 to 7.
 pub fn cut_whatever_run(config: &[u8]) -> Result<Cut<'_>, Refusal> {
-    check_opening(config)?;
-    let groups = group(descriptors(config)?);
-    let control = check_interfaces(&groups, config.len())?;
+    let (groups, control) = outline(config)?;
+    let control = &groups[control];
     let header = find_header(control, config.len())?;
-    let run = cut_run(control, header)?;
+    let run = cut_run(control, header, 5, [Way::TotalWrong, Way::ClassAfterRun])?;
     check_collection(&groups, header)?;
     let control_number = control.number();
     Ok(Cut { control_number, header, run, groups })
+}
+
+/// The groups, and the index of the AudioControl one: what is the same in both editions. Refuses with
+/// 1 to 4.
+pub fn outline(config: &[u8]) -> Result<(Vec<Group<'_>>, usize), Refusal> {
+    check_opening(config)?;
+    let groups = group(descriptors(config)?);
+    let control = check_interfaces(&groups, config.len())?;
+    Ok((groups, control))
 }
 
 /// Refusal 8: "no entity, or more than 32".
@@ -189,8 +202,8 @@ fn group(descriptors: Vec<Descriptor<'_>>) -> Vec<Group<'_>> {
 }
 
 /// Refusal 4, at the "first such descriptor; L if only the AudioControl one is missing".
-fn check_interfaces<'g, 'a>(groups: &'g [Group<'a>], end: usize) -> Result<&'g Group<'a>, Refusal> {
-    let mut control: Option<&Group> = None;
+fn check_interfaces(groups: &[Group], end: usize) -> Result<usize, Refusal> {
+    let mut control = None;
     for (index, group) in groups.iter().enumerate() {
         let refuse = |way| Err(Refusal::at(way, group.interface.place));
         if group.interface.len() != 9 {
@@ -208,7 +221,7 @@ fn check_interfaces<'g, 'a>(groups: &'g [Group<'a>], end: usize) -> Result<&'g G
             return refuse(Way::SecondAudioControl);
         }
         if is_control {
-            control = Some(group);
+            control = Some(index);
         }
     }
     control.ok_or(Refusal::at(Way::NoAudioControl, end))
@@ -233,20 +246,22 @@ fn find_header<'a>(control: &Group<'a>, end: usize) -> Result<Descriptor<'a>, Re
 
 /// Refusal 6: "The run is all type 24 descriptors that follow it without a break in that group.
 /// Bytes 5..6 are the length of header and run together; no other type 24 stands later in the
-/// group."
-fn cut_run<'a>(
+/// group." The edition says where the total stands, and has clauses of its own.
+pub fn cut_run<'a>(
     control: &Group<'a>,
     header: Descriptor<'a>,
+    total_at: usize,
+    [total, after_run]: [Way; 2],
 ) -> Result<Vec<Descriptor<'a>>, Refusal> {
     let after = &control.body[1..];
     let run: Vec<Descriptor> =
         after.iter().take_while(|one| one.kind() == CLASS).copied().collect();
     let together = header.len() + run.iter().map(Descriptor::len).sum::<usize>();
-    if two_bytes(header.bytes, 5) != together {
-        return Err(Refusal::at(Way::TotalWrong, header.place));
+    if two_bytes(header.bytes, total_at) != together {
+        return Err(Refusal::at(total, header.place));
     }
     if after[run.len()..].iter().any(|one| one.kind() == CLASS) {
-        return Err(Refusal::at(Way::ClassAfterRun, header.place));
+        return Err(Refusal::at(after_run, header.place));
     }
     Ok(run)
 }

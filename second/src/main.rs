@@ -7,19 +7,21 @@
 //! duet box ([`sides`]) with its program [`duet`], and beside them the two forms of a sheet
 //! ([`forms`]), what changed between two sheets ([`differences`], [`sheets`]), the mover from one form
 //! to the other ([`mover`]), the routes up to the Input Terminals ([`routes`]), the writer of a header
-//! and a run ([`writer`]) and the [`generator`].
+//! and a run ([`writer`]), the 3.0 edition ([`edition3`]) with its programs ([`lend3`]) and the
+//! [`generator`].
 //!
 //! `second sheet`, `second lend`, `second relay`, `second sheets`, `second routes`, `second writer`,
-//! `second duet`: the programs, from standard input to standard output.
+//! `second duet`, `second lend3`: the programs, from standard input to standard output.
+//! `second sheet3`: the program `sheet3`, with the file `clusters` of the folder.
 //! `second differ`: the program `compare`, over the files `left` and `right` of the folder.
 //! `second move new|old`: the program `move`.
 //! `second way ID`: the program `way`.
 //! `second vectors DIR [--report]`: writes the vectors; fails if a clause is not reached.
 //! `second fuzz SEED COUNT`: a fresh script of COUNT configurations and COUNT other steps.
-//! `second compare SEED COUNT EVERY SHEET LEND RELAY SHEETS MOVE ROUTES WRITER DUET`: fresh inputs
-//! through the programs SHEET, LEND, RELAY, SHEETS, MOVE, ROUTES, WRITER and DUET (each a command with
-//! its arguments) and through this one; one configuration in EVERY goes through SHEET, and as many
-//! sheets through MOVE.
+//! `second compare SEED COUNT EVERY SHEET LEND RELAY SHEETS MOVE ROUTES WRITER DUET [LEND3]`: fresh inputs
+//! through the programs SHEET, LEND, RELAY, SHEETS, MOVE, ROUTES, WRITER, DUET and, where it is given,
+//! LEND3 (each a command with its arguments) and through this one; one configuration in EVERY goes
+//! through SHEET, and as many sheets through MOVE.
 
 #![deny(missing_docs)]
 
@@ -27,10 +29,12 @@ mod controls;
 mod cut;
 mod differences;
 mod duet;
+mod edition3;
 mod entity;
 mod forms;
 mod generator;
 mod lend;
+mod lend3;
 mod mover;
 mod numbers;
 mod reader;
@@ -53,8 +57,9 @@ use std::process::ExitCode;
 use generator::{compare, vectors};
 
 const USAGE: &str = "usage: second sheet | lend | relay | sheets | differ | move new|old \
-                     | routes | way ID | writer | duet | vectors DIR [--report] | fuzz SEED COUNT \
-                     | compare SEED COUNT EVERY SHEET LEND RELAY SHEETS MOVE ROUTES WRITER DUET";
+                     | routes | way ID | writer | duet | lend3 | sheet3 | vectors DIR [--report] \
+                     | fuzz SEED COUNT | compare SEED COUNT EVERY SHEET LEND RELAY SHEETS MOVE \
+                     ROUTES WRITER DUET [LEND3]";
 
 fn main() -> ExitCode {
     let arguments: Vec<String> = std::env::args().skip(1).collect();
@@ -76,6 +81,8 @@ fn run(words: &[&str]) -> Result<Vec<u8>, String> {
     match words {
         ["sheet"] => Ok(sheet::program(&input()?).into_bytes()),
         ["lend"] => Ok(lend::program(&input()?).into_bytes()),
+        ["lend3"] => Ok(lend3::program(&input()?).into_bytes()),
+        ["sheet3"] => lend3::told(Path::new("."), input).map(String::into_bytes),
         ["relay"] => Ok(relay::program(&input()?).into_bytes()),
         ["duet"] => Ok(duet::program(&input()?).into_bytes()),
         ["sheets"] => Ok(sheets::program(&input()?).into_bytes()),
@@ -89,19 +96,20 @@ fn run(words: &[&str]) -> Result<Vec<u8>, String> {
         ["fuzz", seed, count] => {
             Ok(compare::script(number(seed)?, number(count)? as usize).tape.bytes)
         }
-        ["compare", seed, count, every, sheet, lend, relay, sheets, mover, routes, writer, duet] => {
+        ["compare", seed, count, every, programs @ ..] if (8..=9).contains(&programs.len()) => {
             let command = |text: &str| text.split_whitespace().map(str::to_string).collect();
             let job = compare::Job {
                 seed: number(seed)?,
                 count: number(count)? as usize,
-                sheet: command(sheet),
-                lend: command(lend),
-                relay: command(relay),
-                sheets: command(sheets),
-                mover: command(mover),
-                routes: command(routes),
-                writer: command(writer),
-                duet: command(duet),
+                sheet: command(programs[0]),
+                lend: command(programs[1]),
+                relay: command(programs[2]),
+                sheets: command(programs[3]),
+                mover: command(programs[4]),
+                routes: command(programs[5]),
+                writer: command(programs[6]),
+                duet: command(programs[7]),
+                lend3: programs.get(8).map(|text| command(text)).unwrap_or_default(),
                 every: number(every)? as usize,
             };
             compare::run(&job).map(|line| (line + "\n").into_bytes())

@@ -24,12 +24,12 @@ pub const OLD_RECORD: usize = 8 + OLD_PINS;
 pub const SHEET: usize = RECORD * ENTITIES;
 /// The kind of a Selector, and the one that old sheets show for a printed Selector.
 pub const SELECTORS: [u8; 2] = [0x05, 0x15];
-/// The most bytes that a step of a `relay` or `duet` script, or the configuration of a `lend` step,
-/// may have.
+/// The most bytes that a step of a `relay` or `duet` script, the configuration of a `lend` step, or the
+/// configuration or the cluster buffer of a `lend3` step may have.
 pub const STEP: usize = 8192;
 /// The most room that a reply buffer of a `relay` or `duet` script may have.
 pub const REPLY: usize = 64;
-/// The most bytes that a step of `lend` may ask for, and a move of `sheets`.
+/// The most bytes that a step of `lend` or `lend3` may ask for, and a move of `sheets`.
 pub const LENT: usize = 2048;
 /// What each byte is that such a step lends, before anything is written to it.
 pub const MARK: u8 = 0xAA;
@@ -49,3 +49,9 @@ pub const COLLECTION: usize = DESCRIPTOR - 8;
 pub const ROOM: usize = 9000;
 /// The most numbers that the collection list of such a step may have, and the most bytes an entity.
 pub const FIELDS: usize = 600;
+/// "An AudioControl interface whose protocol byte (offset 7) is 0x30".
+pub const EDITION_3: u8 = 0x30;
+/// "length at 0..1, 7 or more": the least length of a cluster descriptor.
+pub const CLUSTER_LEAST: usize = 7;
+/// The most bytes that the program `sheet3` reads of its file: one more than a step of `lend3` takes.
+pub const CLUSTERS: usize = STEP + 1;

@@ -101,32 +101,38 @@ fn sources_of(entities: &[Entity], index: usize) -> Vec<usize> {
 }
 
 /// Refusal 12: "some upstream chain of sources is longer than 32 steps (no ranks exist)".
+fn check_chains(entities: &[Entity]) -> Result<(), Refusal> {
+    let sources: Vec<Vec<usize>> =
+        (0..entities.len()).map(|index| sources_of(entities, index)).collect();
+    match unranked(&sources) {
+        None => Ok(()),
+        Some((index, true)) => Err(Refusal::at(Way::ChainOnLoop, entities[index].place)),
+        Some((index, false)) => Err(Refusal::at(Way::ChainBelowLoop, entities[index].place)),
+    }
+}
+
+/// The first index without a rank, if there is one, and whether it stands on a loop.
 ///
 /// An entity gets a rank once all its sources have one. With at most 32 entities no chain without
 /// a return is longer than 31 steps, so those left without a rank are the ones that have a chain
 /// with no end: they stand on a loop or below one.
-fn check_chains(entities: &[Entity]) -> Result<(), Refusal> {
-    let mut ranked = vec![false; entities.len()];
-    for _ in 0..entities.len() {
-        for index in 0..entities.len() {
-            ranked[index] = sources_of(entities, index).iter().all(|&source| ranked[source]);
+pub fn unranked(sources: &[Vec<usize>]) -> Option<(usize, bool)> {
+    let mut ranked = vec![false; sources.len()];
+    for _ in 0..sources.len() {
+        for (index, above) in sources.iter().enumerate() {
+            ranked[index] = above.iter().all(|&source| ranked[source]);
         }
     }
-    match ranked.iter().position(|&has| !has) {
-        None => Ok(()),
-        Some(index) if reaches(entities, index, index) => {
-            Err(Refusal::at(Way::ChainOnLoop, entities[index].place))
-        }
-        Some(index) => Err(Refusal::at(Way::ChainBelowLoop, entities[index].place)),
-    }
+    let index = ranked.iter().position(|&has| !has)?;
+    Some((index, reaches(sources, index, index)))
 }
 
 /// Whether some chain of one step or more leads upstream from `from` to `to`.
-fn reaches(entities: &[Entity], from: usize, to: usize) -> bool {
-    let mut seen = vec![false; entities.len()];
+fn reaches(sources: &[Vec<usize>], from: usize, to: usize) -> bool {
+    let mut seen = vec![false; sources.len()];
     let mut open = vec![from];
     while let Some(index) = open.pop() {
-        for source in sources_of(entities, index) {
+        for &source in &sources[index] {
             if source == to {
                 return true;
             }

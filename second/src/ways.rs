@@ -173,12 +173,66 @@ ways! {
     LoadEmpty = 63, "duet, load: an empty side";
     RequestEmpty = 63, "duet, request: an empty side";
     StretchUnknown = 64, "duet, stretch: an unknown ID";
+    HeaderAtEndIn3 = 5, "3.0: header absent: the configuration ends";
+    HeaderAtGroupIn3 = 5, "3.0: header absent: the next group begins";
+    HeaderOpeningIn3 = 5, "3.0: header malformed: bytes 1 to 2";
+    HeaderLengthIn3 = 5, "3.0: header malformed: length is not 10";
+    TotalWrongIn3 = 6, "3.0: total wrong";
+    ClassAfterRunIn3 = 6, "3.0: class descriptors after the run";
+    NoEntityIn3 = 8, "3.0: no entity";
+    ManyEntitiesIn3 = 8, "3.0: more than 32 entities";
+    ClusterCut = 51, "3.0: fewer than two bytes left for a cluster descriptor";
+    ClusterShort = 51, "3.0: a cluster descriptor's length is below 7";
+    ClusterLong = 51, "3.0: a cluster descriptor's length runs past the end";
+    ClusterZero = 51, "3.0: a cluster descriptor's ID is 0";
+    ClusterTwice = 51, "3.0: a cluster descriptor's ID is repeated";
+    KindAbsentIn3 = 9, "3.0: too few bytes for a kind and an ID";
+    KindUnknownIn3 = 9, "3.0: any other kind";
+    InputTerminalLengthIn3 = 9, "3.0: Input Terminal: length is not 20";
+    OutputTerminalLengthIn3 = 9, "3.0: Output Terminal: length is not 19";
+    MixerPinsIn3 = 9, "3.0: Mixer: p is not 1 to 24";
+    MixerLengthIn3 = 9, "3.0: Mixer: length below 13+p";
+    SelectorPinsIn3 = 9, "3.0: Selector: p is not 1 to 24";
+    SelectorLengthIn3 = 9, "3.0: Selector: length is not 11+p";
+    FeatureLengthIn3 = 9, "3.0: Feature Unit: length below 7";
+    ClockLength = 9, "3.0: Clock Source: length is not 12";
+    IdZeroIn3 = 10, "3.0: ID zero";
+    IdRepeatedIn3 = 10, "3.0: ID borne by an earlier entity";
+    SourceZeroIn3 = 11, "3.0: a source ID is 0";
+    SourceUnknownIn3 = 11, "3.0: a source ID is unknown";
+    SourceOutputIn3 = 11, "3.0: a source ID is an Output Terminal's";
+    SourceClock = 11, "3.0: a source ID is a Clock Source's";
+    ClockZero = 11, "3.0: a Terminal's clock ID is 0";
+    ClockUnknown = 11, "3.0: a Terminal's clock ID is unknown";
+    ClockOther = 11, "3.0: a Terminal's clock ID is that of an entity other than a Clock Source";
+    ChainOnLoopIn3 = 12, "3.0: an upstream chain longer than 32 steps: on a loop";
+    ChainBelowLoopIn3 = 12, "3.0: an upstream chain longer than 32 steps: below a loop";
+    InputCluster = 52, "3.0: Input Terminal: the cluster ID is unknown";
+    MixerCluster = 52, "3.0: Mixer: the cluster ID is unknown";
+    InputChannelsZeroIn3 = 13, "3.0: Input Terminal: c is 0";
+    InputChannelsHighIn3 = 13, "3.0: Input Terminal: c is above 16";
+    MixerChannelsZeroIn3 = 13, "3.0: Mixer: c is 0";
+    MixerChannelsHighIn3 = 13, "3.0: Mixer: c is above 16";
+    MixerControlsIn3 = 13, "3.0: Mixer: length is not 13+p+N";
+    FeatureMasksIn3 = 13, "3.0: Feature Unit: length is not 7+4(c+1)";
+    SelectorContent = 13, "3.0: Selector: pins differ in cluster content";
+    SheetShortIn3 = 16, "3.0: sheet shorter than 32 bytes for each entity";
 }
 
 impl Way {
     /// Whether it is one of the reader's clauses of a configuration, 16 apart.
     pub fn is_of_configuration(self) -> bool {
         self < Way::SheetShort
+    }
+
+    /// Whether it is one that only a configuration of the 3.0 edition can get.
+    pub fn is_of_edition3(self) -> bool {
+        self >= Way::HeaderAtEndIn3
+    }
+
+    /// Whether it is one of the clauses that come before the edition is known: 1 to 4.
+    pub fn is_of_both_editions(self) -> bool {
+        self <= Way::NoAudioControl
     }
 
     /// Whether it is one of the reader's clauses of a list of entities: 8, 9, 17 and 10 to 13.
@@ -192,7 +246,8 @@ impl Way {
 pub struct Refusal {
     /// The clause, which bears the number.
     pub way: Way,
-    /// "an offset from the first byte"; of the writer "the entity's index from 0 in the list".
+    /// "an offset from the first byte", for 51 "in that buffer"; of the writer "the entity's index from
+    /// 0 in the list".
     pub place: usize,
 }
 
@@ -209,7 +264,8 @@ mod tests {
 
     #[test]
     fn every_number_of_the_papers_has_a_way() {
-        let wanted = (1..=17).chain([20, 21]).chain(30..=39).chain(41..=49).chain(61..=64);
+        let wanted =
+            (1..=17).chain([20, 21]).chain(30..=39).chain(41..=49).chain([51, 52]).chain(61..=64);
         for number in wanted {
             assert!(Way::ALL.iter().any(|way| way.number() == number), "{number}");
         }
@@ -218,7 +274,11 @@ mod tests {
     #[test]
     fn clauses_stand_in_the_order_of_the_papers() {
         for way in Way::ALL {
-            let (own, number) = (way.words().starts_with("writer"), way.number());
+            let number = way.number();
+            let third = way.words().starts_with("3.0");
+            assert_eq!(way.is_of_edition3(), third);
+            assert_eq!(way.is_of_both_editions(), number <= 4);
+            let own = third || way.words().starts_with("writer");
             assert_eq!(way.is_of_configuration(), number <= 17 && number != 16 && !own);
             assert_eq!(way.is_of_entities(), matches!(number, 8..=13 | 17) && !own);
         }

@@ -24,8 +24,9 @@ use Rattle.interfaces.specs.InterfaceLaws.{nine}
 use Rattle.collection.specs.Rule7.{Rule7}
 use Rattle.collection.specs.Reading.{collects}
 use Rattle.collection.specs.CollectionLaws.{reads-rule7}
-use Rattle.groups.specs.Rules5and6.{Rule5, listedOf, Rule6}
+use Rattle.groups.specs.Rules5and6.{Form, Rule5By, Rule5, listedOf, Rule6By, audioForm}
 use Rattle.groups.specs.Reading.{frameOf, frameFrom, headerOf, isHeader, straysFrom}
+use Rattle.groups.specs.Opening.{reads-header}
 use Rattle.groups.specs.FrameLaws.{Framed, framed, header-told, header-room, reads-rule5}
 use Rattle.groups.specs.TotalLaws.{reads-rule6, rule6-run}
 use Rattle.cutting.specs.Rules1to9.{Opened, headerPlace}
@@ -57,9 +58,10 @@ module _ (s : List ℕ) (o : Opened s) where
   header-place = frame-told .header-at
 
   pub rule5-reads : Reads (isHeader (headerOf s (frameOf s))) (Rule5 (o .tail))
-  rule5-reads = reads-rule5 s (o .tail) (frame-told .behind)
+  rule5-reads = reads-rule5 s (o .tail) (frame-told .behind) audioForm _ (reads-header (headerOf s (frameOf s)))
 
-  module _ (h : Rule5 (o .tail)) where
+  -- of a header of any form
+  module _ {form : Form} (h : Rule5By form (o .tail)) where
     pub header-is : h .header ≡ headerOf s (frameOf s)
     header-is = header-told s (o .tail) (frame-told .behind) (h .header) (h .others) (h .stands) .0
 
@@ -86,13 +88,13 @@ module _ (s : List ℕ) (o : Opened s) where
         let t : total (h .others) ≡ total (rest s (frameOf s .run)) = ap total others-are in
         omega arith
 
-    pub rule6-reads : Reads (eqb (frameOf s .header + word (headerOf s (frameOf s)) 5) (frameOf s .end) && not (straysFrom s (frameOf s .end))) (Rule6 (h .header) (h .others))
+    pub rule6-reads : Reads (eqb (frameOf s .header + word (headerOf s (frameOf s)) (form .told)) (frameOf s .end) && not (straysFrom s (frameOf s .end))) (Rule6By form (h .header) (h .others))
     unfolding frameOf frameFrom
-    rule6-reads = rw (others-are, ← header-is) (reads-rule6 s (h .header) (frameOf s .header) (frameOf s .run) (room .0) (room .1) full)
+    rule6-reads = rw (others-are, ← header-is) (reads-rule6 form s (h .header) (frameOf s .header) (frameOf s .run) (room .0) (room .1) full)
 
     pub rule7-reads : Reads (collects s (listedOf (headerOf s (frameOf s)))) (Rule7 (o .descriptors) (listedOf (h .header)))
     rule7-reads = rw (← cut-told, header-is) (reads-rule7 s (listedOf (headerOf s (frameOf s))))
 
-    pub run-is : (t : Rule6 (h .header) (h .others)) → runOf s (frameOf s) ≡ t .run
+    pub run-is : (t : Rule6By form (h .header) (h .others)) → runOf s (frameOf s) ≡ t .run
     unfolding runOf frameOf frameFrom
-    run-is t = rule6-run s (h .header) (frameOf s .header) (frameOf s .run) (room .0) (room .1) full (h .others) others-are t
+    run-is t = rule6-run form s (h .header) (frameOf s .header) (frameOf s .run) (room .0) (room .1) full (h .others) others-are t

@@ -93,8 +93,8 @@ module _ {s s′ : List ℕ} (h : Shuffled s s′) where
   ahead-long : 4 ≤ length (flatten ahead)
   unfolding total
   ahead-long =
-      let a = h .cut (h .control) (Memᴰ·append-right (h .before) (List·Memᴰ·head refl)) .two in
-      let b = h .cut (h .header) (Memᴰ·append-right (h .before) (List·Memᴰ·tail (List·Memᴰ·head refl))) .two in
+      let a = h .cut (h .control) (Memᴰ·append-right (h .before) (List·Memᴰ·head refl)) .long in
+      let b = h .cut (h .header) (Memᴰ·append-right (h .before) (List·Memᴰ·tail (List·Memᴰ·head refl))) .long in
       let l = length-flatten ahead in
       let t : total ahead ≡ total (h .before) + (length (h .control) + (length (h .header) + 0)) = total-append (h .before) (h .control ∷ h .header ∷ []) in
       omega arith

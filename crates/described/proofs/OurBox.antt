@@ -9,6 +9,7 @@ use Rattle.ground.specs.declared.Refusal.{Refusal}
 use Rattle.ground.specs.Pick.{yes, no}
 use Rattle.ground.specs.Rows.{answers-kept, answers-broken}
 use Rattle.fields.specs.Listed.{Listed}
+use Rattle.laying.specs.LayingLaws.{long-printed}
 use Rattle.writing.specs.declared.Wrote.{Wrote}
 use Rattle.writing.specs.Writing.{writtenOf, verdictOf, writerRows, Writes}
 use Rattle.described.specs.OurBox.{OurBox}
@@ -36,6 +37,7 @@ pub our-box : OurBox
 our-box = record {
   refused = λ ls cs m n p z. answers-broken (writerRows ls cs m) (verdictOf ls cs m) (numbered ls cs m) (verdict-answers ls cs m) n p z;
   accepted = λ ls cs m. answers-kept (writerRows ls cs m) (verdictOf ls cs m) (numbered ls cs m) (verdict-answers ls cs m);
+  withdrawn = λ i n s h. record { kind = refl; pins = h; long = long-printed i n s; pad = refl };
   untouched = untouched;
   stays = stays;
   read-back = λ s ls cs k f w. read-back-same s ls cs k w;

@@ -37,8 +37,8 @@ empty-unprinted p = let k = p .kind in omega arith
 -- what is laid, and not wrong, tells its own length first
 listed-descriptor : (l : Listed) → (WrongIn (descriptorOf l) → ⊥) → Descriptor (descriptorOf l)
 listed-descriptor wrong n = absurd (n (inl (empty-unlaid, empty-unprinted)))
-listed-descriptor (laid f) n = record { two = omega arith; own = refl }
-listed-descriptor (printed i s k) n = let e = long-printed i k s in record { two = omega arith; own = sym e }
+listed-descriptor (laid f) n = record { long = omega arith; own = refl }
+listed-descriptor (printed i s k) n = let e = long-printed i k s in record { long = omega arith; own = sym e }
 
 pub all-descriptors : (ls : List Listed) → ((d : List ℕ) → d ∈ descriptorsOf ls → WrongIn d → ⊥) → (d : List ℕ) → d ∈ descriptorsOf ls → Descriptor d
 all-descriptors [] h d m = absurd (List·Memᴰ·not-nil m)

@@ -150,7 +150,7 @@ module _ (s : List ℕ) (ls : List Listed) (cs : List ℕ) (k : EntitiesKeep ls)
   unfolding flatten
   written-cut = record {
     whole = ap (λ (x : List ℕ). header ++ x) (flatten-append ds (w .later ++ w .after) ∙ ap (λ (x : List ℕ). flatten ds ++ x) (w .cut .whole)) ∙ sym (append-assoc header (flatten ds) (w .behind));
-    each = λ d m. ⊎-elim (λ e. rw e (record { two = omega arith; own = header-own })) (λ j. ⊎-elim (ds-each d) (w .cut .each d) (List·Memᴰ·append-cases ds j)) (List·Memᴰ·cases-cons m);
+    each = λ d m. ⊎-elim (λ e. rw e (record { long = omega arith; own = header-own })) (λ j. ⊎-elim (ds-each d) (w .cut .each d) (List·Memᴰ·append-cases ds j)) (List·Memᴰ·cases-cons m);
   }
 
   tail-is : w .opened .tail ≡ header ∷ others
@@ -207,7 +207,7 @@ bytes-each (x ∷ ds) b d m = ⊎-elim (λ e. rw e (bytes-left x (flatten ds) b)
 
 -- a header says its own bytes
 header-again : (h : List ℕ) (n : ℕ) → Descriptor h → Header h → Bytes h → word h 5 ≡ length h + n → headerOf (listedOf h) n ≡ h
-header-again [] n c r b e = let t = c .two in absurd (omega arith)
+header-again [] n c r b e = let t = c .long in absurd (omega arith)
 header-again (x0 ∷ []) n c r b e = let l = r .long in absurd (omega arith)
 header-again (x0 ∷ x1 ∷ []) n c r b e = let l = r .long in absurd (omega arith)
 header-again (x0 ∷ x1 ∷ x2 ∷ []) n c r b e = let l = r .long in absurd (omega arith)

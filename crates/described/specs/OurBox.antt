@@ -13,7 +13,7 @@
 --   WrittenAgain s t    ==  these bytes stand in s where the header does, the writer writes them from the list and the collection list that were read, and refuses nothing
 --                           where it has room
 --   OurBox              ==  the refusals are exactly the rules of the list, by the first row that is not kept, at its index (refused), and there is none where
---                           every row is kept (accepted); a refusal leaves the buffer, and bytes past what is written stay (untouched, stays); read-back, written-again
+--                           every row is kept (accepted); a printed Selector of the list is one to the reader too, so that 17 is its row (withdrawn); a refusal leaves the buffer, and bytes past what is written stay (untouched, stays); read-back, written-again
 use Prim.Native.Nat.{ℕ, _≤_}
 use mathlib.Core.Path.{_≡_}
 use mathlib.Core.Logic.{_↔_}
@@ -26,6 +26,8 @@ use Rattle.ground.specs.Rows.{end, AllKept, FirstBroken}
 use Rattle.scan.specs.Cutting.{Cutting}
 use Rattle.search.specs.Want.{Interface, Class}
 use Rattle.layout.specs.declared.Cluster.{Cluster}
+use Rattle.layout.specs.Layouts.{Pins}
+use Rattle.layout.specs.Withdrawn.{Printed}
 use Rattle.edition.specs.Audio.{audio}
 use Rattle.collection.specs.Rule7.{Rule7}
 use Rattle.groups.specs.Rules5and6.{listedOf, GroupEnds}
@@ -34,7 +36,7 @@ use Rattle.clusters.specs.Rule13.{GivenOut}
 use Rattle.streaming.specs.Rule14.{Rule14}
 use Rattle.controls.specs.Rule15.{Rule15}
 use Rattle.reader.specs.Configuration.{runOf, Configuration}
-use Rattle.fields.specs.Listed.{Listed, foundIn}
+use Rattle.fields.specs.Listed.{Listed, printed, descriptorOf, foundIn}
 use Rattle.writing.specs.declared.Wrote.{Wrote}
 use Rattle.writing.specs.Writing.{mostNumbers, descriptorsOf, writtenOf, entityRows, writerRows, verdictOf, Writes}
 
@@ -81,6 +83,7 @@ pub record OurBox : Type 0 where
   pub refused : (ls : List Listed) (cs : List ℕ) (m n p : ℕ) → (n ≡ 0 → ⊥)
       → (verdictOf ls cs m ≡ record { number = n; place = p }) ↔ FirstBroken (writerRows ls cs m) n p
   pub accepted : (ls : List Listed) (cs : List ℕ) (m : ℕ) → (verdictOf ls cs m .number ≡ 0) ↔ AllKept (writerRows ls cs m)
+  pub withdrawn : (i n : ℕ) (s : List ℕ) → Pins (length s) → Printed (descriptorOf (printed i s n))
   pub untouched : (ls : List Listed) (cs before after : List ℕ) (r : Wrote) → Writes ls cs before after r → (r .number ≡ 0 → ⊥) → (after ≡ before) × (r .written ≡ 0)
   pub stays : (ls : List Listed) (cs before after : List ℕ) (r : Wrote) → Writes ls cs before after r → r .number ≡ 0
       → (take (r .written) after ≡ writtenOf ls cs) × (drop (r .written) after ≡ drop (r .written) before)

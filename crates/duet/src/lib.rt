@@ -1,5 +1,5 @@
 // The duet box (document 02, No. 11): two microphones behind one laptop. It stands on the request layer's promises: a plug-in, a load and a request
-// are handed down to one side's state, and no table is looked into. What it promises: for every box whatever, every side, configuration, sheet,
+// are handed down to one side's state; of a table only its count is read, and 30's test asked. What it promises: for every box whatever, every side, configuration, sheet,
 // load, setup, data and reply, exactly what specs/Plugging.antt and specs/Asking.antt say, and for every two configurations the stretch of
 // specs/Stretch.antt; a refusal leaves box, sheet and reply as they stood.
 ghost use mathlib.Core.Path.{_≡_};

@@ -3,10 +3,10 @@
 --                                    and the frame is where that is
 --   framed        ==  where rule 4 is kept, so it is
 --   header-told, header-room  ==  the first descriptor behind that interface is what stands where the header should; where it ends
---   reads-rule5   ==  the test of what stands there decides rule 5
+--   reads-rule5   ==  for every form of headers: the test of what stands there decides rule 5
 use Prim.Native.Nat.{ℕ, _+_, _-_, _≤_}
 use mathlib.Core.Path.{_≡_, refl, sym, ap, _∙_}
-use mathlib.Core.Bool.{true}
+use mathlib.Core.Bool.{Bool, true}
 use mathlib.Core.List.{List, [], _∷_, _++_, nil≢cons, head-eq-of-cons-eq, tail-eq-of-cons-eq}
 use lib.ListN.{length}
 use lib.Seq.{append-snoc}
@@ -14,7 +14,6 @@ use native.Mathlib.Omega.{arith}
 use Rattle.ground.specs.declared.Place.{Place}
 use Rattle.ground.specs.declared.Place.the-variants.{Nowhere, At}
 use Rattle.ground.specs.Pick.{Reads, reads-same, shows, true≠false}
-use Rattle.ground.specs.Numbers.{byte}
 use Rattle.ground.specs.Lists.{part, part-none, part-length, total, total-append, any, Some, reads-any}
 use Rattle.ground.specs.Refuse.{placeOr}
 use Rattle.scan.specs.Cutting.{endAt, rest}
@@ -24,9 +23,8 @@ use Rattle.search.specs.Found.{found, found-none, rest-split}
 use Rattle.search.specs.declared.Want.the-variants as want
 use Rattle.interfaces.specs.Rule4.{Rule4}
 use Rattle.interfaces.specs.InterfaceLaws.{nine}
-use Rattle.groups.specs.Rules5and6.{Header, Rule5}
-use Rattle.groups.specs.Reading.{frameOf, frameFrom, headerOf, isHeader}
-use Rattle.groups.specs.Opening.{reads-header}
+use Rattle.groups.specs.Rules5and6.{Form, Rule5By}
+use Rattle.groups.specs.Reading.{frameOf, frameFrom, headerOf}
 
 pub record Framed (s : List ℕ) (before : List (List ℕ)) (control : List ℕ) (tail : List (List ℕ)) : Type 0 where
   pub whole : rest s 0 ≡ before ++ control ∷ tail
@@ -112,16 +110,16 @@ module _ (s : List ℕ) (tail : List (List ℕ)) (e : rest s (frameOf s .header)
       let l : length h ≡ frameOf s .run - frameOf s .header = ap length (header-told h others q .0) ∙ part-length s (frameOf s .header) (frameOf s .run) (o .1) in
       (omega arith, o .1)
 
-  pub reads-rule5 : Reads (isHeader (headerOf s (frameOf s))) (Rule5 tail)
-  reads-rule5 =
-      reads-same (reads-header (headerOf s (frameOf s))) of
-      (λ r. rw (header-told (r .header) (r .others) (r .stands) .0) at (r .right))
+  pub reads-rule5 : (f : Form) (b : Bool) → Reads b (f .Right (headerOf s (frameOf s))) → Reads b (Rule5By f tail)
+  reads-rule5 f b r =
+      reads-same r of
+      (λ k. rw (header-told (k .header) (k .others) (k .stands) .0) at (k .right))
     where
-      of : Header (headerOf s (frameOf s)) → Rule5 tail
+      of : f .Right (headerOf s (frameOf s)) → Rule5By f tail
       of k =
           record {
             header = headerOf s (frameOf s);
             others = rest s (frameOf s .run);
-            stands = header-first (λ z. let l : 0 ≡ 8 + byte (headerOf s (frameOf s)) 7 = sym (ap length (header-none z)) ∙ k .long in omega arith);
+            stands = header-first (λ z. let l : length (headerOf s (frameOf s)) ≡ 0 = ap length (header-none z) in let i = f .some (headerOf s (frameOf s)) k in omega arith);
             right = k;
           }

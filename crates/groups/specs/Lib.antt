@@ -4,3 +4,4 @@ pub mod Opening
 pub mod FrameLaws
 pub mod TotalLaws
 pub mod Judged
+pub mod Third

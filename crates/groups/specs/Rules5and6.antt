@@ -3,13 +3,17 @@
 --   Opening h          ==  bytes 1 to 4 are 24 01 00 01
 --   Header h           ==  h opens so, byte 7 is n, length 8+n
 --   listedOf h         ==  the n numbers that the header h lists
---   Rule5 tail         ==  the descriptors tail behind the AudioControl interface begin with the header
+--   Form               ==  what differs between editions: Right h: h is a header; some: it is not empty; told: the offset at which a header tells the
+--                          length of header and run together
+--   Rule5By f tail     ==  the descriptors tail behind the AudioControl interface begin with a header of the form f
 --   GroupEnds ds       ==  ds is empty, or begins with the interface descriptor that opens the next group
---   Rule6 h others     ==  behind the header h: the run, then the group's other descriptors, none of type 24, then the next group;
---                          bytes 5..6 are the length of header and run together
-use Prim.Native.Nat.{ℕ, _+_}
+--   Rule6By f h others ==  behind the header h: the run, then the group's other descriptors, none of type 24, then the next group;
+--                          the two bytes where the form f tells it are the length of header and run together
+--   audioForm          ==  the form of the Audio 1.0 edition: the total at 5..6; Rule5, Rule6: the rules by it
+use Prim.Native.Nat.{ℕ, _+_, _≤_}
 use mathlib.Core.Path.{_≡_}
 use mathlib.Core.List.{List, [], _∷_, _++_, List·Memᴰ}
+use native.Mathlib.Omega.{arith}
 use lib.ListN.{length, take, drop}
 use Rattle.ground.specs.Numbers.{byte, word}
 use Rattle.ground.specs.Lists.{total}
@@ -25,17 +29,22 @@ pub record Header (h : List ℕ) : Type 0 where
 abbrev pub listedOf : List ℕ → List ℕ
 listedOf h = drop 8 h
 
-pub record Rule5 (tail : List (List ℕ)) : Type 0 where
+pub record Form : Type 1 where
+  pub Right : List ℕ → Type 0
+  pub some : (h : List ℕ) → Right h → 1 ≤ length h
+  pub told : ℕ
+
+pub record Rule5By (f : Form) (tail : List (List ℕ)) : Type 0 where
   pub header : List ℕ
   pub others : List (List ℕ)
   pub stands : tail ≡ header ∷ others
-  pub right : Header header
+  pub right : f .Right header
 
 pub data GroupEnds : List (List ℕ) → Type 0 where
   last : GroupEnds []
   next : {i : List ℕ} {ds : List (List ℕ)} → Interface i → GroupEnds (i ∷ ds)
 
-pub record Rule6 (header : List ℕ) (others : List (List ℕ)) : Type 0 where
+pub record Rule6By (f : Form) (header : List ℕ) (others : List (List ℕ)) : Type 0 where
   pub run : List (List ℕ)
   pub later : List (List ℕ)
   pub after : List (List ℕ)
@@ -44,4 +53,13 @@ pub record Rule6 (header : List ℕ) (others : List (List ℕ)) : Type 0 where
   pub no-class : (d : List ℕ) → List·Memᴰ d later → Class d → ⊥
   pub in-group : (d : List ℕ) → List·Memᴰ d later → Interface d → ⊥
   pub ends : GroupEnds after
-  pub length-told : word header 5 ≡ length header + total run
+  pub length-told : word header (f .told) ≡ length header + total run
+
+abbrev pub audioForm : Form
+audioForm = record { Right = Header; some = λ h k. let l = k .long in omega arith; told = 5 }
+
+abbrev pub Rule5 : List (List ℕ) → Type 0
+Rule5 tail = Rule5By audioForm tail
+
+abbrev pub Rule6 : List ℕ → List (List ℕ) → Type 0
+Rule6 header others = Rule6By audioForm header others

@@ -1,7 +1,7 @@
 -- Rule 6 and the test of it, both ways: the run is the longest stretch of type 24 descriptors behind the header, and the group's
 -- other descriptors behind it have no type 24 among them.
 --   type-of      ==  the byte behind a descriptor's place is its type
---   reads-rule6  ==  the test of rule 6 decides it
+--   reads-rule6  ==  for every form of headers: the test of rule 6 decides it
 --   rule6-run    ==  the run that the rule speaks of is what stands from where it begins up to the run's end
 use Prim.Native.Nat.{ℕ, _+_, _-_, _≤_}
 use mathlib.Core.Path.{_≡_, refl, sym, ap, _∙_}
@@ -23,7 +23,7 @@ use Rattle.scan.specs.CuttingLaws.{rest-none, rest-more, end-off}
 use Rattle.search.specs.Want.{Interface, Class, isClass, reads-interface, reads-class, wants, foundFrom}
 use Rattle.search.specs.Found.{Found, found, found-none, rest-split, rest-front}
 use Rattle.search.specs.declared.Want.the-variants as want
-use Rattle.groups.specs.Rules5and6.{GroupEnds, last, next, Rule6}
+use Rattle.groups.specs.Rules5and6.{GroupEnds, last, next, Form, Rule6By}
 use Rattle.groups.specs.Reading.{runEnd, straysFrom}
 
 -- neither of type 24 nor an interface descriptor: the group's other descriptors
@@ -165,8 +165,8 @@ later-stops [] after h last = stop-end
 later-stops [] after h (next {i = i} k) = stop-at (λ c. no-both i c k)
 later-stops (d ∷ later) after h k = stop-at (h d (List·Memᴰ·head refl) .0)
 
--- header is the header's place, h the header, from where the run begins
-module _ (s h : List ℕ) (header from : ℕ) (e : from ≡ header + length h) (inside : from ≤ length s) (full : from + total (rest s from) ≡ length s) where
+-- f is the form of headers, header the header's place, h the header, from where the run begins
+module _ (f : Form) (s h : List ℕ) (header from : ℕ) (e : from ≡ header + length h) (inside : from ≤ length s) (full : from + total (rest s from) ≡ length s) where
   r : Run s from
   r = run-found s from inside full
 
@@ -176,7 +176,7 @@ module _ (s h : List ℕ) (header from : ℕ) (e : from ≡ header + length h) (
       let b : total (rest s from) ≡ total (r .run) + total (r .beyond) = ap total (r .split) ∙ total-append (r .run) (r .beyond) in
       omega arith
 
-  rule6-of : (header + word h 5 ≡ runEnd s from) × Parted (rest s (runEnd s from)) → Rule6 h (rest s from)
+  rule6-of : (header + word h (f .told) ≡ runEnd s from) × Parted (rest s (runEnd s from)) → Rule6By f h (rest s from)
   rule6-of t =
       let p = t .1 in
       let a = r .end in
@@ -193,13 +193,13 @@ module _ (s h : List ℕ) (header from : ℕ) (e : from ≡ header + length h) (
         length-told = omega arith;
       }
 
-  plain-of : (k : Rule6 h (rest s from)) (d : List ℕ) → List·Memᴰ d (k .later) → Plain d
+  plain-of : (k : Rule6By f h (rest s from)) (d : List ℕ) → List·Memᴰ d (k .later) → Plain d
   plain-of k d m = (k .no-class d m, k .in-group d m)
 
-  run-one : (k : Rule6 h (rest s from)) → (r .run ≡ k .run) × (r .beyond ≡ k .later ++ k .after)
+  run-one : (k : Rule6By f h (rest s from)) → (r .run ≡ k .run) × (r .beyond ≡ k .later ++ k .after)
   run-one k = front-one Class (r .run) (r .beyond) (k .run) (k .later ++ k .after) (sym (r .split) ∙ k .split) (r .class) (k .class) (r .stops) (later-stops (k .later) (k .after) (plain-of k) (k .ends))
 
-  rule6-to : (k : Rule6 h (rest s from)) → (header + word h 5 ≡ runEnd s from) × Parted (rest s (runEnd s from))
+  rule6-to : (k : Rule6By f h (rest s from)) → (header + word h (f .told) ≡ runEnd s from) × Parted (rest s (runEnd s from))
   rule6-to k =
       let one = run-one k in
       let t : total (r .run) ≡ total (k .run) = ap total (one .0) in
@@ -207,15 +207,15 @@ module _ (s h : List ℕ) (header from : ℕ) (e : from ≡ header + length h) (
       let w = k .length-told in
       (omega arith, record { later = k .later; after = k .after; split = r .here ∙ one .1; plain = plain-of k; ends = k .ends })
 
-  pub reads-rule6 : Reads (eqb (header + word h 5) (runEnd s from) && not (straysFrom s (runEnd s from))) (Rule6 h (rest s from))
-  reads-rule6 = reads-same (reads-and _ _ (reads-eq (header + word h 5) (runEnd s from)) (reads-strays s (runEnd s from) end-inside)) rule6-of rule6-to
+  pub reads-rule6 : Reads (eqb (header + word h (f .told)) (runEnd s from) && not (straysFrom s (runEnd s from))) (Rule6By f h (rest s from))
+  reads-rule6 = reads-same (reads-and _ _ (reads-eq (header + word h (f .told)) (runEnd s from)) (reads-strays s (runEnd s from) end-inside)) rule6-of rule6-to
 
   -- the run's end is where the rule's run ends, and what stands up to there is that run
-  end-of : (k : Rule6 h (rest s from)) → runEnd s from ≡ from + total (k .run)
+  end-of : (k : Rule6By f h (rest s from)) → runEnd s from ≡ from + total (k .run)
   end-of k = r .end ∙ ap (λ (x : List (List ℕ)). from + total x) (run-one k .0)
 
-  run-of : (k : Rule6 h (rest s from)) → rest (take (runEnd s from) s) from ≡ k .run
+  run-of : (k : Rule6By f h (rest s from)) → rest (take (runEnd s from) s) from ≡ k .run
   run-of k = ap (λ (i : ℕ). rest (take i s) from) (end-of k) ∙ rest-front s from inside (k .run) (k .later ++ k .after) (k .split)
 
-  pub rule6-run : (others : List (List ℕ)) → others ≡ rest s from → (k : Rule6 h others) → rest (take (runEnd s from) s) from ≡ k .run
+  pub rule6-run : (others : List (List ℕ)) → others ≡ rest s from → (k : Rule6By f h others) → rest (take (runEnd s from) s) from ≡ k .run
   rule6-run others q = rw q run-of

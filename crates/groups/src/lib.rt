@@ -11,6 +11,7 @@ ghost use Rattle.ground.specs.Refuse.{none, placeOr};
 ghost use Rattle.search.specs.Want.{foundFrom};
 ghost use Rattle.groups.specs.Reading.{frameFrom, isHeader, opens, straysFrom};
 ghost use Rattle.groups.specs.Reading.{groupJudged, unframed, framedAs, framedOf};
+ghost use Rattle.groups.specs.Third.{isThirdHeader, thirdGroupJudged, thirdFramedOf};
 use ground::Place;
 use ground::Refusal;
 use scan::byte_at;
@@ -95,14 +96,15 @@ pub fn strays_from(config: &[u8], end: usize) -> bool
     }
 }
 
-// Whether bytes 5..6 of the header h tell the length of header and run together, and nothing of type 24 stands later in the group.
-fn total_right(config: &[u8], h: &[u8], header: usize, end: usize) -> bool
-    ensures { λ r. ⌜ r ≡ (eqb (header + word (now (h .entry)) 5) end && not (straysFrom (now (config .entry)) end)) ⌝ }
+// Whether the two bytes at an offset of the header h tell the length of header and run together, and nothing of type 24 stands later in the
+// group.
+fn total_right(config: &[u8], h: &[u8], told: usize, header: usize, end: usize) -> bool
+    ensures { λ r. ⌜ r ≡ (eqb (header + word (now (h .entry)) told) end && not (straysFrom (now (config .entry)) end)) ⌝ }
 {
     if end < header {
         return false;
     }
-    if end - header != word_at(h, 5) as usize {
+    if end - header != word_at(h, told) as usize {
         return false;
     }
     !strays_from(config, end)
@@ -137,7 +139,7 @@ fn judge_group(config: &[u8], f: Frame) -> Refusal
             place: header,
         };
     }
-    if !total_right(config, h, header, end) {
+    if !total_right(config, h, 5, header, end) {
         return Refusal {
             number: 6,
             place: header,
@@ -146,6 +148,45 @@ fn judge_group(config: &[u8], f: Frame) -> Refusal
     if !collection::is_right(config, stretch(h, 8, h.len())) {
         return Refusal {
             number: 7,
+            place: header,
+        };
+    }
+    Refusal {
+        number: 0,
+        place: 0,
+    }
+}
+
+// Whether a descriptor is a header of the 3.0 edition: 10 long, and 24 01.
+fn is_third_header(h: &[u8]) -> bool
+    ensures { λ r. ⌜ r ≡ isThirdHeader (now (h .entry)) ⌝ }
+{
+    if h.len() != 10 {
+        return false;
+    }
+    if byte_at(h, 1) != 0x24 {
+        return false;
+    }
+    byte_at(h, 2) == 1
+}
+
+// Rules 5 and 6 of the 3.0 edition.
+fn judge_third_group(config: &[u8], f: Frame) -> Refusal
+    ensures { λ r. ⌜ r ≡ thirdGroupJudged (now (config .entry)) f none ⌝ }
+{
+    let header = f.header;
+    let run = f.run;
+    let end = f.end;
+    let h = stretch(config, header, run);
+    if !is_third_header(h) {
+        return Refusal {
+            number: 5,
+            place: header,
+        };
+    }
+    if !total_right(config, h, 4, header, end) {
+        return Refusal {
+            number: 6,
             place: header,
         };
     }
@@ -177,4 +218,17 @@ pub fn framed(config: &[u8]) -> Framing
     }
     let frame = frame_from(config, location.control);
     with_frame(judge_group(config, frame), frame)
+}
+
+// The same by the rules 1 to 6 of the 3.0 edition, which has no rule 7.
+pub fn framed_third(config: &[u8]) -> Framing
+    ensures { λ r. ⌜ r ≡ thirdFramedOf (now (config .entry)) ⌝ }
+{
+    let location = interfaces::locate(config);
+    let verdict = location.refusal;
+    if verdict.number != 0 {
+        return refused(verdict.number, verdict.place);
+    }
+    let frame = frame_from(config, location.control);
+    with_frame(judge_third_group(config, frame), frame)
 }

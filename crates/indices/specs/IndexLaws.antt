@@ -91,7 +91,7 @@ module _ (s : List ℕ) (run : Run) where
 -- the index of a place, for descriptors whose places a run has
 module _ (ds : List (List ℕ)) (run : Run) (counted : held run ≡ length ds) (place : (i : ℕ) → i < length ds → placeAt run i ≡ 0 + total (take i ds)) (cut : (d : List ℕ) → d ∈ ds → Descriptor d) where
   longer : (d : List ℕ) → d ∈ ds → 0 < length d
-  longer d m = let t = cut d m .two in omega arith
+  longer d m = let t = cut d m .long in omega arith
 
   pub index-own : (i : ℕ) → i < length ds → indexAt run (0 + total (take i ds)) ≡ i
   unfolding indexAt

@@ -135,7 +135,7 @@ module _ (s : List ℕ) (k : Kept s) where
       later : f .offender < i → p ≤ placeAt (entitiesOf k) i
       later h =
           let n = represented s k .counted in
-          let q = places-rise (represented s k) (λ d m. let z = run-cut s k d m .two in omega arith) (f .offender) i h (omega arith) in
+          let q = places-rise (represented s k) (λ d m. let z = run-cut s k d m .long in omega arith) (f .offender) i h (omega arith) in
           let a = f .at in
           omega arith
 

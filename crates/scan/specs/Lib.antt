@@ -1,3 +1,4 @@
 pub mod Cutting
+pub mod PieceLaws
 pub mod CuttingLaws
 pub mod Search

@@ -69,7 +69,7 @@ module _ (w : Want) (s : List ℕ) where
           ap (λ (r : List (List ℕ)). isBefore (firstFrom (λ b d. wants w d) 0 [] r) e) whole
           ∙ ap (λ (i : ℕ). isBefore (firstFrom (λ b d. wants w d) 0 [] (passed ++ rest s e)) i) place
           ∙ first-before (wants w) 0 [] passed (rest s e)
-          (λ d m. let two = k .each d (rw whole (Memᴰ·append-left (rest s e) m)) .two in omega arith)
+          (λ d m. let two = k .each d (rw whole (Memᴰ·append-left (rest s e) m)) .long in omega arith)
           ∙ any-snoc (wants w) (g .behind) (part s at e)
           ∙ ap (λ (b : Bool). b || wants w (part s at e)) (sym (found-before w s t at g))
 

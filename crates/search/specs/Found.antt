@@ -81,7 +81,7 @@ found w s from q h e = of (first-at (λ b d. wants w d) (λ b d. wants w d ≡ t
     of : Breaks (λ b d. wants w d ≡ true) from (rest s from) q → Found w s from q
     of b =
         let p = b .place in
-        let two = k .each (b .offender) (rw (b .split) (of-split (b .before) (b .offender) (b .after))) .two in
+        let two = k .each (b .offender) (rw (b .split) (of-split (b .before) (b .offender) (b .after))) .long in
         let room = k .room in
         let all : total (rest s from) ≡ total (b .before) + (length (b .offender) + total (b .after)) = ap total (b .split) ∙ total-append (b .before) (b .offender ∷ b .after) in
         record {
@@ -103,7 +103,7 @@ found-before w s t at g =
     let k = standing s 0 (omega arith) in
     ap (λ (r : List (List ℕ)). isBefore (firstFrom (λ b d. wants w d) 0 [] r) at) (g .whole)
     ∙ ap (λ (i : ℕ). isBefore (firstFrom (λ b d. wants w d) 0 [] (g .behind ++ rest s at)) i) (g .place)
-    ∙ first-before (wants w) 0 [] (g .behind) (rest s at) (λ d m. let two = k .each d (rw (g .whole) (Memᴰ·append-left (rest s at) m)) .two in omega arith)
+    ∙ first-before (wants w) 0 [] (g .behind) (rest s at) (λ d m. let two = k .each d (rw (g .whole) (Memᴰ·append-left (rest s at) m)) .long in omega arith)
 
 pub found-room : (w : Want) (s : List ℕ) (from q : ℕ) → foundFrom s from w ≡ At q → q + 2 ≤ length s
 unfolding any

@@ -7,6 +7,7 @@ use super::duet_random;
 use super::duets::{put_duet, Duets};
 use super::isolation;
 use super::lent::{self, Lent};
+use super::lent3::{self, Lent3};
 use super::lists::{self, Lists};
 use super::moves::{self, Moves};
 use super::orders;
@@ -55,6 +56,8 @@ pub struct Job {
     pub writer: Vec<String>,
     /// The program `duet` and its arguments.
     pub duet: Vec<String>,
+    /// The program `lend3` and its arguments; empty where there is none to compare with.
+    pub lend3: Vec<String>,
     /// One configuration in so many goes through `sheet` too, and as many sheets through `move`;
     /// none if 0.
     pub every: usize,
@@ -98,6 +101,10 @@ pub fn run(job: &Job) -> Result<String, String> {
         compare_tape("writer", &job.writer, &lists.tape)?;
         let duets = duet_script(seed, now);
         compare_duet(job, &duets)?;
+        let thirds = third_script(seed, if job.lend3.is_empty() { 0 } else { now });
+        if !job.lend3.is_empty() {
+            compare_tape("lend3", &job.lend3, &thirds.tape)?;
+        }
         reach.add(&script.reach);
         reach.add(&lent.reach);
         twins += (readings.reach.lent + answers.reach.configurations) / 2;
@@ -106,6 +113,7 @@ pub fn run(job: &Job) -> Result<String, String> {
         reach.add(&routes.reach);
         reach.add(&lists.reach);
         reach.add(&duets.reach);
+        reach.add(&thirds.reach);
         done += now;
         eprintln!("{done} of {} configurations and steps", job.count);
     }
@@ -114,9 +122,9 @@ pub fn run(job: &Job) -> Result<String, String> {
         "no difference: {done} configurations and {done} other steps through `relay`, {sheets} \
          configurations through `sheet` and as many sheets through `move`, {} through `lend`, \
          {twins} with their runs in two orders, {} pairs and {} moves through `sheets`, {} steps \
-         through `routes`, {} through `writer`, {} through `duet`; {ways} of the {all} clauses of \
+         through `routes`, {} through `writer`, {} through `duet`, {} through `lend3`; {ways} of the {all} clauses of \
          refusals met",
-        reach.lent, reach.pairs, reach.moves, reach.routes, reach.lists, reach.duets
+        reach.lent, reach.pairs, reach.moves, reach.routes, reach.lists, reach.duets, reach.thirds
     ))
 }
 
@@ -195,6 +203,16 @@ fn duet_script(seed: u64, count: usize) -> Duets {
         isolation::two_runs(&mut rng, &mut duets);
     }
     duets
+}
+
+/// So many configurations of both editions at random, with their cluster buffers.
+fn third_script(seed: u64, count: usize) -> Lent3 {
+    let mut rng = Rng::new(seed.rotate_left(40));
+    let mut all = Lent3::default();
+    for _ in 0..count {
+        lent3::random(&mut rng, &mut all);
+    }
+    all
 }
 
 /// Compares what `move` prints for sheets at random, one for each configuration of `sheet`.

@@ -2,6 +2,8 @@
 
 pub mod blocks;
 pub mod build;
+pub mod build3;
+pub mod cases3;
 pub mod compare;
 pub mod configs;
 pub mod duet_ends;
@@ -11,11 +13,14 @@ pub mod duets;
 pub mod headsets;
 pub mod isolation;
 pub mod lent;
+pub mod lent3;
+pub mod lent3_ends;
 pub mod lists;
 pub mod moves;
 pub mod orders;
 pub mod pairs;
 pub mod random;
+pub mod random3;
 pub mod rng;
 pub mod routes;
 pub mod script;

@@ -223,7 +223,7 @@ fn feature(rng: &mut Rng, id: u8, source: u8, channels: u8) -> Part {
 }
 
 /// The streaming groups of these Terminals, and some groups beside.
-fn groups(rng: &mut Rng, streams: &[(u8, u8)]) -> Vec<GroupPlan> {
+pub fn groups(rng: &mut Rng, streams: &[(u8, u8)]) -> Vec<GroupPlan> {
     let mut groups = Vec::new();
     let mut number = 1;
     for &(id, channels) in streams {
@@ -281,7 +281,7 @@ fn another(rng: &mut Rng, byte: u8) -> u8 {
 }
 
 /// Changes a byte at `from` or later, if there is one.
-fn change_byte(rng: &mut Rng, bytes: &mut [u8], from: usize) {
+pub fn change_byte(rng: &mut Rng, bytes: &mut [u8], from: usize) {
     if bytes.len() > from {
         let at = from + rng.below(bytes.len() - from);
         bytes[at] = another(rng, bytes[at]);
@@ -289,7 +289,7 @@ fn change_byte(rng: &mut Rng, bytes: &mut [u8], from: usize) {
 }
 
 /// Makes a descriptor a little longer or shorter, its length byte too.
-fn change_length(rng: &mut Rng, bytes: &mut Vec<u8>) {
+pub fn change_length(rng: &mut Rng, bytes: &mut Vec<u8>) {
     let length = (bytes.len() as i32 + rng.between(-3, 3)).clamp(2, 255) as usize;
     bytes.resize(length, rng.byte());
     bytes[0] = length as u8;
@@ -321,7 +321,8 @@ fn damage(rng: &mut Rng, plan: &mut Plan) {
     }
 }
 
-fn on_part(rng: &mut Rng, plan: &mut Plan, change: impl FnOnce(&mut Rng, &mut Vec<u8>)) {
+/// Changes the bytes of an entity at random.
+pub fn on_part(rng: &mut Rng, plan: &mut Plan, change: impl FnOnce(&mut Rng, &mut Vec<u8>)) {
     if !plan.parts.is_empty() {
         let at = rng.below(plan.parts.len());
         let mut bytes = plan.parts[at].bytes();
@@ -330,7 +331,8 @@ fn on_part(rng: &mut Rng, plan: &mut Plan, change: impl FnOnce(&mut Rng, &mut Ve
     }
 }
 
-fn on_group(rng: &mut Rng, plan: &mut Plan, change: impl FnOnce(&mut Rng, &mut GroupPlan)) {
+/// Changes a group at random.
+pub fn on_group(rng: &mut Rng, plan: &mut Plan, change: impl FnOnce(&mut Rng, &mut GroupPlan)) {
     if !plan.groups.is_empty() {
         let at = rng.below(plan.groups.len());
         change(rng, &mut plan.groups[at]);
@@ -472,7 +474,8 @@ fn damage_body(rng: &mut Rng, group: &mut GroupPlan) {
     }
 }
 
-fn damage_groups(rng: &mut Rng, plan: &mut Plan) {
+/// Damages the groups.
+pub fn damage_groups(rng: &mut Rng, plan: &mut Plan) {
     let count = plan.groups.len();
     if count == 0 {
         plan.groups.push(idle(rng.byte(), 0));
@@ -525,7 +528,8 @@ fn damage_header(rng: &mut Rng, plan: &mut Plan) {
     }
 }
 
-fn damage_edges(rng: &mut Rng, plan: &mut Plan) {
+/// Damages what stands before or behind the groups, or the length.
+pub fn damage_edges(rng: &mut Rng, plan: &mut Plan) {
     match rng.below(3) {
         0 => plan.tail.push(filler(*rng.pick(&[0x24, 0x25, 0x05]), 2 + rng.below(9))),
         1 => plan.length = Some(rng.below(600) as u16),
@@ -534,7 +538,7 @@ fn damage_edges(rng: &mut Rng, plan: &mut Plan) {
 }
 
 /// Damage that knows nothing of descriptors.
-fn damage_bytes(rng: &mut Rng, bytes: &mut Vec<u8>) {
+pub fn damage_bytes(rng: &mut Rng, bytes: &mut Vec<u8>) {
     match rng.below(4) {
         0 => change_byte(rng, bytes, 0),
         1 => {

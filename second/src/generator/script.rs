@@ -31,6 +31,8 @@ pub struct Reach {
     pub lists: usize,
     /// Steps of `duet`.
     pub duets: usize,
+    /// Steps of `lend3`.
+    pub thirds: usize,
 }
 
 impl Reach {
@@ -79,6 +81,12 @@ impl Reach {
         self.count_answer(printed);
     }
 
+    /// Counts one answer of `lend3`.
+    pub fn count_third(&mut self, printed: &Printed) {
+        self.thirds += 1;
+        self.count_answer(printed);
+    }
+
     fn count_answer(&mut self, printed: &Printed) {
         match printed.way {
             Some(way) => *self.ways.entry(way).or_default() += 1,
@@ -105,6 +113,7 @@ impl Reach {
         self.routes += other.routes;
         self.lists += other.lists;
         self.duets += other.duets;
+        self.thirds += other.thirds;
     }
 }
 

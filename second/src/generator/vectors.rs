@@ -1,5 +1,6 @@
 //! The vectors: for each run of a program a folder with its `stdin`, its files and its `stdout`.
-//! Those of `duet` that are short stand in `duet_ends`.
+//! Those of `duet` that are short stand in `duet_ends`, those of `lend3` and all of `sheet3` in
+//! `lent3_ends`.
 
 use std::fs;
 use std::path::Path;
@@ -13,6 +14,8 @@ use super::duets::Duets;
 use super::headsets;
 use super::isolation;
 use super::lent::{self, lent_bytes, Lent};
+use super::lent3::{self, Lent3};
+use super::lent3_ends;
 use super::lists::{self, list_bytes, Lists};
 use super::moves::{self, move_bytes, Moves};
 use super::pairs::{self, pair_bytes, Pairs};
@@ -23,6 +26,7 @@ use super::script::{step_bytes, Reach, Script};
 use super::steps;
 use crate::duet;
 use crate::lend;
+use crate::lend3;
 use crate::mover;
 use crate::numbers::{CONFIGURATION_MOST, CONTROLS, FIELDS, LENT, LIST, ROOM, STEP};
 use crate::relay::{self, LOAD, PLUG_IN, PUT, REQUEST, SHOW};
@@ -48,6 +52,7 @@ const TWO_RUNS: usize = 12;
 const LEAST: (usize, usize) = (2000, 20000);
 
 /// One run of a program.
+#[derive(Clone)]
 pub struct Run {
     /// The folder's name, which opens with the program's.
     pub name: String,
@@ -86,6 +91,8 @@ pub struct Vectors {
     lists: Lists,
     /// The steps of `duet` made on purpose.
     duets: Duets,
+    /// The steps of `lend3`.
+    thirds: Lent3,
     /// What is reached on purpose, before anything at random.
     pub named: Reach,
 }
@@ -144,6 +151,12 @@ pub fn make() -> Vectors {
         runs.push(Run::new(name, script.tape.bytes.clone(), script.tape.printed.as_str()));
     }
     runs.extend(duet_ends::all());
+    let thirds = lent3::all(SEED + 9);
+    assert_eq!(lend3::program(&thirds.tape.bytes), thirds.tape.printed);
+    reach.add(&thirds.reach);
+    named.add(&thirds.named);
+    runs.push(Run::new("lend3_steps", thirds.tape.bytes.clone(), thirds.tape.printed.as_str()));
+    runs.extend(lent3_ends::all());
     runs.extend(quiet_ends());
     runs.extend(kept_steps());
     runs.extend(bad_steps());
@@ -156,7 +169,7 @@ pub fn make() -> Vectors {
     runs.extend(told_ways());
     runs.push(longest_list());
     runs.extend(bad_lists());
-    Vectors { runs, reach, named, lent, pairs, moves, routes, lists, duets }
+    Vectors { runs, reach, named, lent, pairs, moves, routes, lists, duets, thirds }
 }
 
 /// Every configuration made on purpose, with its answer held to what is written there, and more at
@@ -606,6 +619,7 @@ impl Vectors {
         missing.extend(self.routes.missing());
         missing.extend(self.lists.missing());
         missing.extend(self.duets.missing());
+        missing.extend(self.thirds.missing());
         missing
     }
 
@@ -634,6 +648,8 @@ impl Vectors {
         lines += &format!("{} steps of routes ({} on purpose)\n", reach.routes, named.routes);
         lines += &format!("{} lists of entities ({} on purpose)\n", reach.lists, named.lists);
         lines += &format!("{} steps of the duet box ({} on purpose)\n", reach.duets, named.duets);
+        lines +=
+            &format!("{} steps of both editions ({} on purpose)\n", reach.thirds, named.thirds);
         lines += &format!("{} runs, {bytes} bytes\n", self.runs.len());
         lines
     }

@@ -7,17 +7,17 @@ use lib.ListN.{length}
 use borrow.Author.Tests.{eq-eqb, ne-eqb}
 use Rattle.ground.specs.declared.Place.the-variants.{Nowhere, At}
 use Rattle.ground.specs.Pick.{yes, no}
-use Rattle.scan.specs.Cutting.{reach, breach3}
+use Rattle.scan.specs.Cutting.{reach, breachBy, breach3}
 use Rattle.opening.proofs.check_cutting.Statement.{statement}
 use Rattle.opening.proofs.check_cutting.Tie as tie
 
 module _ (s : List ℕ) (r : ℕ) (e : r ≡ reach s 0) where
   whole : r ≡ length s → Nowhere ≡ breach3 s
-  unfolding breach3
+  unfolding breachBy
   whole h = sym (yes _ _ (eq-eqb (reach s 0) (length s) (sym e ∙ h)))
 
   cut-short : (r ≡ length s → ⊥) → At r ≡ breach3 s
-  unfolding breach3
+  unfolding breachBy
   cut-short h = ap At e ∙ sym (no _ _ (ne-eqb (reach s 0) (length s) (λ q. h (e ∙ q))))
 
 ruleset laws = (whole, cut-short, needs)

@@ -7,7 +7,7 @@ use native.Mathlib.Omega.{arith}
 use native.Mathlib.Nat.{add-zero}
 use lib.ListN.{length}
 use Rattle.ground.specs.Lists.{total, part, part-length}
-use Rattle.scan.specs.Cutting.{endAt, rest, reach}
+use Rattle.scan.specs.Cutting.{endAt, rest, reach, reachBy}
 use Rattle.scan.specs.CuttingLaws.{end-off, rest-none, rest-more}
 use Rattle.scan.proofs.reach_of.Statement.{statement}
 use Rattle.scan.proofs.reach_of.Tie as tie
@@ -19,11 +19,11 @@ start : (s : List ℕ) (from : ℕ) → Passed s from from
 start s from = record { same = refl }
 
 stop : (s : List ℕ) (from at e : ℕ) → Passed s from at → e ≡ endAt s at → e ≡ at → at ≡ reach s from
-unfolding reach total
+unfolding reachBy total
 stop s from at e g f h = sym (g .same ∙ ap (λ (l : List (List ℕ)). at + total l) (rest-none s at (sym f ∙ h)) ∙ add-zero at)
 
 on : (s : List ℕ) (from at e : ℕ) → Passed s from at → e ≡ endAt s at → (e ≡ at → ⊥) → Passed s from e
-unfolding reach total
+unfolding reachBy total
 on s from at e g f h =
     let o = end-off s at (λ q. h (f ∙ q)) in
     let l : length (part s at (endAt s at)) ≡ endAt s at - at = part-length s at (endAt s at) (o .1) in

@@ -1,0 +1,3 @@
+pub mod Clusters
+pub mod Reading
+pub mod BufferLaws

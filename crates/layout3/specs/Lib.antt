@@ -1,0 +1,4 @@
+pub mod Layouts
+pub mod Layout
+pub mod Facts
+pub mod LayoutLaws

@@ -1,0 +1,134 @@
+// The judge of the 3.0 edition (document 02, No. 12), whatever the protocol byte says. What it promises to the layer above: for every configuration and
+// every cluster buffer the refusal with number and place, the first that applies of 1 to 6, 8, 51, 9, 10, 11, 12, 52, 13; or the run, and by
+// entity ID the ID of the cluster that it gives out.
+ghost use mathlib.Core.Path.{_≡_};
+ghost use Rattle.third.specs.Judgement.{refusedFinding, runRefused, clusteredIn, linkedIn, framedIn, findingOf};
+ghost use Rattle.ranks.specs.Order.{ordered};
+use entities::Run;
+use ground::Place;
+use ground::Refusal;
+use groups::Frame;
+
+// What stands in a configuration that these rules do not refuse; where they do, the refusal and nothing else.
+pub struct Finding {
+    pub refusal: Refusal,
+    pub header: usize,
+    pub run: Run,
+    pub given: [u16; 256],
+}
+
+// A refusal: no run, and nothing given out.
+fn refused(number: u8, place: usize) -> Finding
+    ensures { λ r. ⌜ r ≡ refusedFinding (record { number = number; place = place }) ⌝ }
+{
+    let spare = entities::blank();
+    Finding {
+        refusal: Refusal { number, place },
+        header: 0,
+        run: Run {
+            count: 0,
+            nodes: [spare; 32],
+        },
+        given: [0u16; 256],
+    }
+}
+
+// Rules 8, 51 and 9 of a run from a place on, count descriptors long, behind the header.
+fn judge_run(s: &[u8], clusters: &[u8], from: usize, count: usize, header: usize) -> Refusal
+    ensures { λ r. ⌜ r ≡ runRefused (now (s .entry)) (now (clusters .entry)) from count header ⌝ }
+{
+    if count < 1 {
+        return Refusal {
+            number: 8,
+            place: header,
+        };
+    }
+    if entities::MOST_ENTITIES < count {
+        return Refusal {
+            number: 8,
+            place: header,
+        };
+    }
+    if let Place::At(place) = buffer::check_buffer(clusters) {
+        return Refusal { number: 51, place };
+    }
+    if let Place::At(place) = run3::wrong_layout(s, from) {
+        return Refusal { number: 9, place };
+    }
+    Refusal {
+        number: 0,
+        place: 0,
+    }
+}
+
+// Rules 52 and 13 of a run, which is also lent in its order.
+fn judge_clusters(config: &[u8], clusters: &[u8], header: usize, run: Run, order: Run) -> Finding
+    requires { ⌜ order ≡ ordered (now config) run ⌝ }
+    ensures { λ r. ⌜ r ≡ clusteredIn (now (config .entry)) (now (clusters .entry)) header run ⌝ }
+{
+    let unknown = links3::check_names(config, clusters, run);
+    if let Place::At(place) = unknown {
+        return refused(52, place);
+    }
+    let given = sweep3::sweep(config, order);
+    let broken = keeping3::check_clusters(config, clusters, run, given);
+    if let Place::At(place) = broken {
+        return refused(13, place);
+    }
+    Finding {
+        refusal: Refusal {
+            number: 0,
+            place: 0,
+        },
+        header,
+        run,
+        given,
+    }
+}
+
+// Rules 10, 11, 12, 52 and 13 of a run.
+fn judge_links(config: &[u8], clusters: &[u8], header: usize, run: Run) -> Finding
+    ensures { λ r. ⌜ r ≡ linkedIn (now (config .entry)) (now (clusters .entry)) header run ⌝ }
+{
+    let ids = ids::check_ids(run);
+    if let Place::At(place) = ids {
+        return refused(10, place);
+    }
+    let wrong = links3::check_sources(config, run);
+    if let Place::At(place) = wrong {
+        return refused(11, place);
+    }
+    let order = ranks::order_of(config, run);
+    let endless = ranks::check_ranks(run, order);
+    if let Place::At(place) = endless {
+        return refused(12, place);
+    }
+    judge_clusters(config, clusters, header, run, order)
+}
+
+// What is found of a configuration that keeps the rules 1 to 6.
+fn judge_frame(config: &[u8], clusters: &[u8], f: Frame) -> Finding
+    ensures { λ r. ⌜ r ≡ framedIn (now (config .entry)) (now (clusters .entry)) f ⌝ }
+{
+    let header = f.header;
+    let from = f.run;
+    let s = scan::stretch(config, 0, f.end);
+    let run = run3::read_run(s, from);
+    let verdict = judge_run(s, clusters, from, run.count, header);
+    if verdict.number != 0 {
+        return refused(verdict.number, verdict.place);
+    }
+    judge_links(config, clusters, header, run)
+}
+
+// What is found of a configuration by the rules of the 3.0 edition but 16.
+pub fn judge(config: &[u8], clusters: &[u8]) -> Finding
+    ensures { λ r. ⌜ r ≡ findingOf (now (config .entry)) (now (clusters .entry)) ⌝ }
+{
+    let framing = groups::framed_third(config);
+    let verdict = framing.refusal;
+    if verdict.number != 0 {
+        return refused(verdict.number, verdict.place);
+    }
+    judge_frame(config, clusters, framing.frame)
+}
