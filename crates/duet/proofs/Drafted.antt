@@ -21,8 +21,9 @@ use Rattle.layout.specs.declared.Cluster.{Cluster}
 use Rattle.entities.specs.Run.{held}
 use Rattle.cutting.specs.Survey.{surveyOf}
 use Rattle.records.specs.Records.{recordSize, recordIn, roomFor}
-use Rattle.records.specs.Sheet.{recordsOf, record-long}
+use Rattle.records.specs.Sheet.{recordsFor, recordsOf, record-long}
 use Rattle.edition.specs.Edition.{ownId}
+use Rattle.edition.specs.Audio.{audio}
 use Rattle.topology.specs.declared.Reading.{Reading}
 use Rattle.topology.specs.Reading.{judgedThen, roomJudged, verdictOf, refusedReading, takenReading, readingOf, sheetOf}
 use Rattle.reader.specs.Refusals.{Shown}
@@ -55,10 +56,10 @@ module _ (s : List ℕ) where
   shown room e = accepted-exactly s room .0 (sym (number-told s room) ∙ e)
 
   records-long : (ds : List (List ℕ)) (c : ℕ → Cluster) → length (recordsOf ds c) ≡ length ds * recordSize
-  unfolding recordsOf
+  unfolding recordsFor
   records-long [] c = omega arith
   records-long (d ∷ ds) c =
-      let a = record-long d (c (ownId d)) in
+      let a = record-long audio d (c (ownId d)) in
       let b = records-long ds c in
       let e = length-append (recordIn d (c (ownId d))) (recordsOf ds c) in
       omega arith
