@@ -1,7 +1,6 @@
 // The duet box (document 02, No. 11): two microphones behind one laptop. It stands on the request layer's promises: a plug-in, a load and a request
 // are handed down to one side's state; of a table only its count is read, and 30's test asked. What it promises: for every box whatever, every side, configuration, sheet,
-// load, setup, data and reply, exactly what specs/Plugging.antt and specs/Asking.antt say, and for every two configurations the stretch of
-// specs/Stretch.antt; a refusal leaves box, sheet and reply as they stood.
+// load, setup, data and reply, exactly what specs/Plugging.antt and specs/Asking.antt say; a refusal leaves box, sheet and reply as they stood.
 ghost use mathlib.Core.Path.{_≡_};
 ghost use mathlib.Core.List.{_++_};
 ghost use Prim.Native.Nat.{_*_, _≤_, min};
@@ -12,15 +11,11 @@ ghost use Rattle.duet.specs.Drafts.{wholeSheet, Drafted};
 ghost use Rattle.duet.specs.Box.{otherSide, socketOf, withSocket, emptySocket, emptyDuet, controlsOn, soundSocket, soundBeside, soundDuet};
 ghost use Rattle.duet.specs.Plugging.{admissionBy, admittedBy, welcomed, Settled, turnedAway, AdmittedIn, PlugsIn, refusal, unplugAnswer};
 ghost use Rattle.duet.specs.Asking.{addresseeBy, addresseeOf, ownSetup, loadIn, answerIn, answeredBy, HandedDown, AnsweredIn};
-ghost use Rattle.duet.specs.Stretch.{lentOn, entityPlace, locatedBy, locatedIn, refusalOf, bytesAt};
-use entities::Run;
-use ground::Place;
 use ground::Refusal;
 use request::Plugged;
 use request::State;
 use scan::byte_at;
 use setup::Asked;
-use topology::Finding;
 
 // The most controls that both sides have together.
 const TOGETHER: usize = 192;
@@ -67,12 +62,6 @@ pub struct Answer {
 pub enum Addressee {
     Nobody(u8),
     At(Side),
-}
-
-// Where an entity's descriptor stands in a configuration, or the refusal.
-pub enum Located {
-    Refused(u8, usize),
-    From(usize),
 }
 
 fn empty_socket() -> Socket
@@ -473,85 +462,4 @@ pub fn plug_in(duet: Duet, side: Side, config: &[u8], sheet: &mut [u8]) -> Admit
     let met = controls_on(socket_of(duet, other(side)));
     let mut draft = [0u8; SHEET];
     admit(duet, side, met, config, &mut draft, sheet)
-}
-
-// Where the entity of an ID stands.
-fn entity_place(run: Run, id: u8) -> Place
-    ensures { λ r. ⌜ r ≡ entityPlace run id ⌝ }
-{
-    let n = entities::count(run);
-    let mut i: usize = 0;
-    while i < n {
-        let node = run.nodes[i];
-        if node.id == id {
-            return Place::At(node.place);
-        }
-        i += 1;
-    }
-    Place::Nowhere
-}
-
-// By what is found in a configuration: its refusal, 64, or where the entity of an ID stands.
-fn locate_by(found: Finding, id: u8) -> Located
-    ensures { λ r. ⌜ r ≡ locatedBy found id ⌝ }
-{
-    let refusal = found.refusal;
-    if refusal.number != 0 {
-        return Located::Refused(refusal.number, refusal.place);
-    }
-    let run = found.run;
-    match entity_place(run, id) {
-        Place::Nowhere => Located::Refused(64, 0),
-        Place::At(place) => Located::From(place),
-    }
-}
-
-// The same of a configuration.
-fn locate(config: &[u8], id: u8) -> Located
-    ensures { λ r. ⌜ r ≡ locatedIn (now (config .entry)) id ⌝ }
-{
-    locate_by(topology::judge(config), id)
-}
-
-fn refusal_of(found: Located) -> Refusal
-    ensures { λ r. ⌜ r ≡ refusalOf found ⌝ }
-{
-    match found {
-        Located::Refused(number, at) => Refusal { number, place: at },
-        Located::From(_) => Refusal {
-            number: 0,
-            place: 0,
-        },
-    }
-}
-
-// The refusal of a stretch: 0 and 0, the reader's number and place, or 64.
-pub fn stretch_refusal(side: Side, id: u8, left: &[u8], right: &[u8]) -> Refusal
-    ensures { λ r. ⌜ r ≡ refusalOf (locatedIn (lentOn side (now (left .entry)) (now (right .entry))) id) ⌝ }
-{
-    match side {
-        Side::Left => refusal_of(locate(left, id)),
-        Side::Right => refusal_of(locate(right, id)),
-    }
-}
-
-// The descriptor of the entity of an ID; empty where it is refused.
-fn descriptor_of(config: &[u8], id: u8) -> &[u8]
-    ensures { λ r. ⌜ now r ≡ bytesAt (now (config .entry)) (locatedIn (now (config .entry)) id) ⌝ }
-{
-    match locate(config, id) {
-        Located::Refused(_, _) => &config[..0],
-        Located::From(place) => scan::descriptor_at(config, place),
-    }
-}
-
-// An entity's own descriptor bytes: a part of the left or the right lent configuration, chosen by side; empty where it is refused. Here alone what is
-// handed back is a part of the bytes that the caller lends (demand 1's one exception).
-pub fn stretch<'a>(side: Side, id: u8, left: &'a [u8], right: &'a [u8]) -> &'a [u8]
-    ensures { λ r. ⌜ now r ≡ bytesAt (lentOn side (now (left .entry)) (now (right .entry))) (locatedIn (lentOn side (now (left .entry)) (now (right .entry))) id) ⌝ }
-{
-    match side {
-        Side::Left => descriptor_of(left, id),
-        Side::Right => descriptor_of(right, id),
-    }
 }

@@ -11,8 +11,8 @@ use Rattle.graph.specs.Members.{_∈_}
 use Rattle.edition.specs.Edition.{ownId}
 use Rattle.topology.specs.Reading.{readingOf}
 use Rattle.reader.specs.Configuration.{runOf, Configuration}
-use Rattle.duet.specs.declared.Located.the-variants.{Refused}
-use Rattle.duet.specs.Stretch.{locatedIn, refusalOf, bytesAt}
+use Rattle.extent.specs.declared.Located.the-variants.{Refused}
+use Rattle.extent.specs.Stretch.{locatedIn, refusalOf, bytesAt}
 use Rattle.duet.specs.Drafts.{wholeSheet}
 
 pub record StretchShown (s : List ℕ) : Type 0 where

@@ -5,10 +5,10 @@ use mathlib.Core.Path.{_≡_, ap, _∙_}
 use mathlib.Core.List.{List}
 use Rattle.topology.specs.declared.Finding.{Finding}
 use Rattle.topology.specs.Reading.{findingOf}
-use Rattle.duet.specs.declared.Located.{Located}
-use Rattle.duet.specs.Stretch.{locatedBy, locatedIn}
-use Rattle.duet.proofs.locate.Statement.{statement}
-use Rattle.duet.proofs.locate.Tie as tie
+use Rattle.extent.specs.declared.Located.{Located}
+use Rattle.extent.specs.Stretch.{locatedBy, locatedIn}
+use Rattle.extent.proofs.locate.Statement.{statement}
+use Rattle.extent.proofs.locate.Tie as tie
 
 by-finding : (s : List ℕ) (x : ℕ) (f : Finding) → f ≡ findingOf s → (r : Located) → r ≡ locatedBy f x → r ≡ locatedIn s x
 by-finding s x f e r h = h ∙ ap (λ (g : Finding). locatedBy g x) e

@@ -7,10 +7,10 @@ use Rattle.ground.specs.declared.Place.{Place}
 use Rattle.ground.specs.declared.Place.the-variants as place
 use Rattle.ground.specs.Pick.{yes, no}
 use Rattle.topology.specs.declared.Finding.{Finding}
-use Rattle.duet.specs.declared.Located.the-variants.{Refused, From}
-use Rattle.duet.specs.Stretch.{entityPlace, known, locatedBy}
-use Rattle.duet.proofs.locate_by.Statement.{statement}
-use Rattle.duet.proofs.locate_by.Tie as tie
+use Rattle.extent.specs.declared.Located.the-variants.{Refused, From}
+use Rattle.extent.specs.Stretch.{entityPlace, known, locatedBy}
+use Rattle.extent.proofs.locate_by.Statement.{statement}
+use Rattle.extent.proofs.locate_by.Tie as tie
 
 module _ (f : Finding) (x : ℕ) where
   refuses : (f .refusal .number ≡ 0 → ⊥) → Refused (f .refusal .number) (f .refusal .place) ≡ locatedBy f x

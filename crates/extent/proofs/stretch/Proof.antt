@@ -3,11 +3,11 @@ use borrow.Author.Needs.{needs}
 use Prim.Native.Nat.{ℕ}
 use mathlib.Core.Path.{_≡_, sym, ap, _∙_}
 use mathlib.Core.List.{List}
 use Rattle.duet.specs.declared.Side.{Side}
 use Rattle.duet.specs.declared.Side.the-variants.{Left, Right}
-use Rattle.duet.specs.Stretch.{lentOn, locatedIn, bytesAt}
-use Rattle.duet.proofs.stretch.Statement.{statement}
-use Rattle.duet.proofs.stretch.Tie as tie
+use Rattle.extent.specs.Stretch.{lentOn, locatedIn, bytesAt}
+use Rattle.extent.proofs.stretch.Statement.{statement}
+use Rattle.extent.proofs.stretch.Tie as tie
 
 module _ (k : Side) (x : ℕ) (l r y : List ℕ) where
   lefts : k ≡ Left → y ≡ bytesAt l (locatedIn l x) → y ≡ bytesAt (lentOn k l r) (locatedIn (lentOn k l r) x)

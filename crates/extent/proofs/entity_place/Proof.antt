@@ -10,9 +10,9 @@ use Rattle.ground.specs.Places.{Come, come-none, come-here, come-more, come-ove
 use Rattle.entities.specs.declared.Run.{Run}
 use Rattle.entities.specs.Run.{blankNode, held, idAt, placeAt}
 use Rattle.ids.specs.Breach.{bears}
-use Rattle.duet.specs.Stretch.{entityPlace}
-use Rattle.duet.proofs.entity_place.Statement.{statement}
-use Rattle.duet.proofs.entity_place.Tie as tie
+use Rattle.extent.specs.Stretch.{entityPlace}
+use Rattle.extent.proofs.entity_place.Statement.{statement}
+use Rattle.extent.proofs.entity_place.Tie as tie
 
 module _ (run : Run) (x : ℕ) where
   abbrev Here : ℕ → Type 0

@@ -4,12 +4,12 @@ use Prim.Native.Nat.{ℕ}
 use mathlib.Core.Path.{_≡_, sym, ap, _∙_}
 use mathlib.Core.List.{List}
 use Rattle.ground.specs.declared.Refusal.{Refusal}
 use Rattle.duet.specs.declared.Side.{Side}
 use Rattle.duet.specs.declared.Side.the-variants.{Left, Right}
-use Rattle.duet.specs.declared.Located.{Located}
-use Rattle.duet.specs.Stretch.{lentOn, locatedIn, refusalOf}
-use Rattle.duet.proofs.stretch_refusal.Statement.{statement}
-use Rattle.duet.proofs.stretch_refusal.Tie as tie
+use Rattle.extent.specs.declared.Located.{Located}
+use Rattle.extent.specs.Stretch.{lentOn, locatedIn, refusalOf}
+use Rattle.extent.proofs.stretch_refusal.Statement.{statement}
+use Rattle.extent.proofs.stretch_refusal.Tie as tie
 
 module _ (k : Side) (x : ℕ) (l r : List ℕ) (q : Located) (y : Refusal) (f : y ≡ refusalOf q) where
   lefts : k ≡ Left → q ≡ locatedIn l x → y ≡ refusalOf (locatedIn (lentOn k l r) x)

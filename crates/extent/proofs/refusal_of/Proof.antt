@@ -2,12 +2,12 @@
 use borrow.Author.Needs.{needs}
 use Prim.Native.Nat.{ℕ}
 use mathlib.Core.Path.{_≡_, sym, ap}
-use Rattle.duet.specs.declared.Located.{Located}
-use Rattle.duet.specs.declared.Located.the-variants.{Refused, From}
+use Rattle.extent.specs.declared.Located.{Located}
+use Rattle.extent.specs.declared.Located.the-variants.{Refused, From}
 use Rattle.ground.specs.Refuse.{none}
-use Rattle.duet.specs.Stretch.{refusalOf}
-use Rattle.duet.proofs.refusal_of.Statement.{statement}
-use Rattle.duet.proofs.refusal_of.Tie as tie
+use Rattle.extent.specs.Stretch.{refusalOf}
+use Rattle.extent.proofs.refusal_of.Statement.{statement}
+use Rattle.extent.proofs.refusal_of.Tie as tie
 
 module _ (y : Located) where
   refuses : (n p : ℕ) → y ≡ Refused n p → record { number = n; place = p } ≡ refusalOf y

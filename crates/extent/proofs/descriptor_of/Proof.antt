@@ -5,11 +5,11 @@ use mathlib.Core.Path.{_≡_, sym, ap, _∙_}
 use mathlib.Core.List.{List, []}
 use Rattle.ground.specs.Lists.{part}
 use Rattle.scan.specs.Cutting.{endAt}
-use Rattle.duet.specs.declared.Located.{Located}
-use Rattle.duet.specs.declared.Located.the-variants.{Refused, From}
-use Rattle.duet.specs.Stretch.{locatedIn, bytesAt}
-use Rattle.duet.proofs.descriptor_of.Statement.{statement}
-use Rattle.duet.proofs.descriptor_of.Tie as tie
+use Rattle.extent.specs.declared.Located.{Located}
+use Rattle.extent.specs.declared.Located.the-variants.{Refused, From}
+use Rattle.extent.specs.Stretch.{locatedIn, bytesAt}
+use Rattle.extent.proofs.descriptor_of.Statement.{statement}
+use Rattle.extent.proofs.descriptor_of.Tie as tie
 
 module _ (s : List ℕ) (x : ℕ) (y : Located) (e : y ≡ locatedIn s x) where
   none-there : (n p : ℕ) → y ≡ Refused n p → [] ≡ bytesAt s (locatedIn s x)
