@@ -2,7 +2,6 @@
 -- request down."
 --   addresseeBy n     ==  whom the presented number n names: the left side, the right, or nobody: "a presented number other than 0 and 1 is 32"
 --   addresseeOf k     ==  whom a request that asks k is for: nobody where 31 is given
---   addresseeNumber a ==  the paper's number for each case: 31 or 32 where it is nobody's, 0 else
 --   ownSetup m s      ==  the setup s, of eight bytes, with the microphone's own number m for the presented one
 --   requestOn b k s d room  ==  30, then the request at the socket of the side k
 --   handedTo x s d room  ==  the request at the socket x: 63 where it is empty, else what the request layer answers
@@ -50,10 +49,6 @@ abbrev pub addresseeOf : Asked → Addressee
 addresseeOf asks.Unknown = Nobody 31
 addresseeOf (asks.Set g) = addresseeBy (g .interface)
 addresseeOf (asks.Get part g) = addresseeBy (g .interface)
-
-abbrev pub addresseeNumber : Addressee → ℕ
-addresseeNumber (Nobody n) = n
-addresseeNumber (At k) = 0
 
 abbrev pub ownSetup : ℕ → List ℕ → List ℕ
 ownSetup m s = byte s 0 ∷ byte s 1 ∷ byte s 2 ∷ byte s 3 ∷ m ∷ byte s 5 ∷ byte s 6 ∷ byte s 7 ∷ []

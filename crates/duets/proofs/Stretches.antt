@@ -39,7 +39,7 @@ use Rattle.reader.proofs.Shows.{number-told}
 use Rattle.extent.specs.declared.Located.{Located}
 use Rattle.extent.specs.declared.Located.the-variants.{Refused, From}
 use Rattle.extent.specs.Stretch.{entityPlace, known, locatedBy, locatedIn, refusalOf, bytesAt}
-use Rattle.duet.specs.Drafts.{wholeSheet}
+use Rattle.demands.specs.Demand3.{wholeSheet}
 use Rattle.duets.specs.Stretches.{StretchShown}
 
 module _ (s : List ℕ) where
