@@ -20,11 +20,12 @@ use Rattle.topology.specs.Reading.{readingOf, sheetOf}
 use Rattle.request.specs.declared.State.{State}
 use Rattle.request.specs.declared.Plugged.{Plugged}
 use Rattle.request.specs.Plugged.{stateOf}
-use Rattle.duet.specs.declared.Side.{Side}
+use Rattle.sides.specs.declared.Side.{Side}
+use Rattle.sides.specs.Sides.{mostTogether, admissionBy}
 use Rattle.duet.specs.declared.Duet.{Duet}
 use Rattle.duet.specs.declared.Admitted.{Admitted}
-use Rattle.duet.specs.Box.{mostTogether, withSocket}
-use Rattle.duet.specs.Plugging.{Plugging, admissionBy, admittedBy, turnedAway, welcomed, Settled, plugAnswer, sheetAfter, AdmittedIn}
+use Rattle.duet.specs.Box.{withSocket}
+use Rattle.duet.specs.Plugging.{Plugging, admittedBy, turnedAway, welcomed, Settled, plugAnswer, sheetAfter, AdmittedIn}
 use Rattle.duet.specs.Plugging.Plugging.{refused, taken}
 use Rattle.duet.specs.PluggingLaws.{turned}
 use Rattle.duet.specs.Drafts.{draftSize, Drafted}

@@ -9,24 +9,15 @@ ghost use Rattle.records.specs.Records.{recordSize};
 ghost use Rattle.topology.specs.Reading.{readingOf};
 ghost use Rattle.duet.specs.Drafts.{draftSize, Drafted};
 ghost use Rattle.duet.specs.Box.{otherSide, socketOf, withSocket, emptySocket, emptyDuet, controlsOn, soundSocket, soundBeside, soundDuet};
-ghost use Rattle.duet.specs.Plugging.{admissionBy, admittedBy, welcomed, Settled, turnedAway, AdmittedIn, PlugsIn, refusal, unplugAnswer};
-ghost use Rattle.duet.specs.Asking.{addresseeBy, addresseeOf, ownSetup, loadIn, answerIn, answeredBy, HandedDown, AnsweredIn};
-use ground::Refusal;
+ghost use Rattle.duet.specs.Plugging.{admittedBy, welcomed, Settled, turnedAway, AdmittedIn, PlugsIn, refusal, unplugAnswer};
+ghost use Rattle.duet.specs.Asking.{loadIn, answerIn, answeredBy, HandedDown, AnsweredIn};
 use request::Plugged;
 use request::State;
-use scan::byte_at;
-use setup::Asked;
-
-// The most controls that both sides have together.
-const TOGETHER: usize = 192;
+use sides::Addressee;
+use sides::Side;
 
 // The bytes of a sheet that holds the records of every configuration.
 const SHEET: usize = entities::MOST_ENTITIES * records::RECORD;
-
-pub enum Side {
-    Left,
-    Right,
-}
 
 // One side: whether a microphone is plugged in, and the request layer's state of it.
 pub struct Socket {
@@ -56,12 +47,6 @@ pub struct Answer {
     pub number: u8,
     pub written: usize,
     pub duet: Duet,
-}
-
-// Whom a request is for: nobody, with the number that refuses it, or a side.
-pub enum Addressee {
-    Nobody(u8),
-    At(Side),
 }
 
 fn empty_socket() -> Socket
@@ -153,11 +138,11 @@ fn sound_beside(duet: Duet, side: Side) -> bool
     ensures { λ r. ⌜ r ≡ soundBeside duet side ⌝ }
 {
     let own = controls_on(socket_of(duet, side));
-    if TOGETHER < own {
+    if sides::TOGETHER < own {
         return false;
     }
     let beside = socket_of(duet, other(side));
-    if TOGETHER - own < controls_on(beside) {
+    if sides::TOGETHER - own < controls_on(beside) {
         return false;
     }
     sound_socket(beside)
@@ -247,46 +232,6 @@ pub fn load(
     )
 }
 
-// Whom a presented number names.
-fn addressee_by(number: u8) -> Addressee
-    ensures { λ r. ⌜ r ≡ addresseeBy number ⌝ }
-{
-    if number == 0 {
-        return Addressee::At(Side::Left);
-    }
-    if number == 1 {
-        return Addressee::At(Side::Right);
-    }
-    Addressee::Nobody(32)
-}
-
-// Whom a request is for.
-fn whose(asked: Asked) -> Addressee
-    ensures { λ r. ⌜ r ≡ addresseeOf asked ⌝ }
-{
-    match asked {
-        Asked::Unknown => Addressee::Nobody(31),
-        Asked::Set(target) => addressee_by(target.interface),
-        Asked::Get(_, target) => addressee_by(target.interface),
-    }
-}
-
-// The setup with the microphone's own number for the presented one.
-fn own_setup(setup: &[u8], number: u8) -> [u8; 8]
-    ensures { λ r. ⌜ r ≡ ownSetup number (now (setup .entry)) ⌝ }
-{
-    [
-        byte_at(setup, 0),
-        byte_at(setup, 1),
-        byte_at(setup, 2),
-        byte_at(setup, 3),
-        number,
-        byte_at(setup, 5),
-        byte_at(setup, 6),
-        byte_at(setup, 7),
-    ]
-}
-
 // A request for a side: the microphone's own number is put in, and it is handed down.
 fn hand_down(duet: Duet, side: Side, setup: &[u8], data: &[u8], reply: &mut [u8]) -> Answer
     ensures { λ r. ⌜ HandedDown duet side (now (setup .entry)) (now («data» .entry)) (now (reply .entry)) r (now (reply .exit)) ⌝ }
@@ -299,7 +244,7 @@ fn hand_down(duet: Duet, side: Side, setup: &[u8], data: &[u8], reply: &mut [u8]
         return refused(duet, 63);
     }
     let state = socket.state;
-    let own = own_setup(setup, state.control);
+    let own = sides::own_setup(setup, state.control);
     answered(duet, side, request::request(state, &own, data, reply))
 }
 
@@ -307,7 +252,7 @@ fn hand_down(duet: Duet, side: Side, setup: &[u8], data: &[u8], reply: &mut [u8]
 pub fn request(duet: Duet, setup: &[u8], data: &[u8], reply: &mut [u8]) -> Answer
     ensures { λ r. ⌜ AnsweredIn duet (now (setup .entry)) (now («data» .entry)) (now (reply .entry)) r (now (reply .exit)) ⌝ }
 {
-    match whose(setup::read(setup)) {
+    match sides::whose(setup::read(setup)) {
         Addressee::Nobody(number) => {
             if !sound_duet(duet) {
                 return refused(duet, 30);
@@ -370,31 +315,6 @@ fn read_draft(config: &[u8], bytes: usize, draft: &mut [u8]) -> Plugged
     request::plug_in(config, &mut draft[..room])
 }
 
-// The refusal of a reading with so many controls where the other side has so many: the reader's, then 62; 0 and 0 for none.
-fn judge_reading(number: u8, place: usize, controls: usize, met: usize) -> Refusal
-    ensures { λ r. ⌜ r ≡ admissionBy number place controls met ⌝ }
-{
-    if number != 0 {
-        return Refusal { number, place };
-    }
-    if TOGETHER < controls {
-        return Refusal {
-            number: 62,
-            place: 0,
-        };
-    }
-    if TOGETHER - controls < met {
-        return Refusal {
-            number: 62,
-            place: 0,
-        };
-    }
-    Refusal {
-        number: 0,
-        place: 0,
-    }
-}
-
 // The answer where a microphone is let in.
 fn welcome(duet: Duet, side: Side, plugged: Plugged) -> Admitted
     ensures { λ r. ⌜ r ≡ welcomed duet side plugged ⌝ }
@@ -441,7 +361,7 @@ fn admit(
 {
     let plugged = read_draft(config, sheet.len(), draft);
     let reading = plugged.reading;
-    let refusal = judge_reading(reading.number, reading.place, reading.controls, met);
+    let refusal = sides::judge_reading(reading.number, reading.place, reading.controls, met);
     if refusal.number != 0 {
         return turned_away(duet, refusal.number, refusal.place);
     }

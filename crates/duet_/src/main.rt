@@ -4,11 +4,11 @@ ghost use Prim.Native.Nat.{_≤_};
 ghost use mathlib.Core.Path.{_≡_};
 ghost use lib.ListN.{length};
 use duet::Duet;
-use duet::Side;
 use duet::Socket;
 use libc::STDIN_FILENO;
 use libc::STDOUT_FILENO;
 use request::State;
+use sides::Side;
 use table::Control;
 use table::Table;
 

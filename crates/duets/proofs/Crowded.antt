@@ -60,9 +60,10 @@ use Rattle.ground.specs.Pick.{yes, no}
 use Rattle.topology.specs.declared.Reading.{Reading}
 use Rattle.reader.proofs.Shows.{controls-counted}
 use Rattle.request.specs.Plugged.{stateOf}
-use Rattle.duet.specs.declared.Side.the-variants.{Left, Right}
+use Rattle.sides.specs.declared.Side.the-variants.{Left, Right}
+use Rattle.sides.specs.Sides.{mostTogether}
 use Rattle.duet.specs.declared.Duet.{Duet}
-use Rattle.duet.specs.Box.{mostTogether, emptySocket, emptyDuet, controlsOn, soundDuet}
+use Rattle.duet.specs.Box.{emptySocket, emptyDuet, controlsOn, soundDuet}
 use Rattle.duet.specs.Plugging.{Plugging, admittedBy, plugOf, duetAfter}
 use Rattle.duet.specs.Plugging.Plugging.{refused, taken}
 use Rattle.duets.specs.Steps.{Step, Seen, seenPlug, boxNext, seenBy, stepsOf, sentBy}

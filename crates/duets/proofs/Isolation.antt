@@ -17,9 +17,10 @@ use Rattle.setup.specs.Setup.{askedOf}
 use Rattle.topology.specs.Reading.{readingOf}
 use Rattle.request.specs.Outcome.{Outcome}
 use Rattle.request.specs.Plugged.{stateOf}
-use Rattle.duet.specs.declared.Side.{Side}
-use Rattle.duet.specs.declared.Addressee.{Addressee}
-use Rattle.duet.specs.declared.Addressee.the-variants.{Nobody, At}
+use Rattle.sides.specs.declared.Side.{Side}
+use Rattle.sides.specs.declared.Addressee.{Addressee}
+use Rattle.sides.specs.declared.Addressee.the-variants.{Nobody, At}
+use Rattle.sides.specs.Sides.{addresseeOf}
 use Rattle.duet.specs.declared.Socket.{Socket}
 use Rattle.duet.specs.declared.Duet.{Duet}
 use Rattle.duet.specs.declared.Answer.{Answer}
@@ -27,7 +28,7 @@ use Rattle.duet.specs.Box.{otherSide, socketOf, withSocket, emptySocket, emptyD
 use Rattle.duet.specs.BoxLaws.{own-socket}
 use Rattle.duet.specs.Plugging.{Plugging, admittedBy, plugOf, duetAfter, refusal, unplugAnswer}
 use Rattle.duet.specs.Plugging.Plugging.{refused, taken}
-use Rattle.duet.specs.Asking.{handedTo, askedOn, requestIn, loadedOn, loadIn, socketAfter, boxAfter, answerIn, addresseeOf, answerFor}
+use Rattle.duet.specs.Asking.{handedTo, askedOn, requestIn, loadedOn, loadIn, socketAfter, boxAfter, answerIn, answerFor}
 use Rattle.duets.specs.Steps.{Step, sameSide, isFor, isOf, Seen, seenPlug, seenNumber, seenOutcome, seenIn, boxNext, seenBy, stepsOf, metAt, metBy, Carried}
 use Rattle.duets.specs.Steps.Step.{plug, unplug, load, request}
 use Rattle.duets.specs.Isolation.{AgreeAt, Isolated}

@@ -7,8 +7,8 @@
 --   CountTold      ==  without the count it is not so: two runs that agree on the left side's steps, and give it other answers
 use mathlib.Core.Path.{_≡_}
 use mathlib.Core.List.{List}
-use Rattle.duet.specs.declared.Side.{Side}
-use Rattle.duet.specs.declared.Side.the-variants.{Left}
+use Rattle.sides.specs.declared.Side.{Side}
+use Rattle.sides.specs.declared.Side.the-variants.{Left}
 use Rattle.duet.specs.Box.{emptyDuet}
 use Rattle.duets.specs.Steps.{Step, seenBy, stepsOf, metBy, Carried}
 

@@ -25,15 +25,16 @@ use Rattle.deed.specs.Reply.{laid}
 use Rattle.setup.specs.Setup.{askedOf}
 use Rattle.topology.specs.Reading.{sheetOf}
 use Rattle.request.specs.Outcome.{Outcome, numberOf, bytesOf}
-use Rattle.duet.specs.declared.Side.{Side}
-use Rattle.duet.specs.declared.Side.the-variants.{Left, Right}
-use Rattle.duet.specs.declared.Addressee.{Addressee}
-use Rattle.duet.specs.declared.Addressee.the-variants.{Nobody, At}
+use Rattle.sides.specs.declared.Side.{Side}
+use Rattle.sides.specs.declared.Side.the-variants.{Left, Right}
+use Rattle.sides.specs.declared.Addressee.{Addressee}
+use Rattle.sides.specs.declared.Addressee.the-variants.{Nobody, At}
+use Rattle.sides.specs.Sides.{addresseeOf}
 use Rattle.duet.specs.declared.Duet.{Duet}
 use Rattle.duet.specs.Box.{otherSide, socketOf, controlsOn}
 use Rattle.duet.specs.Plugging.{Plugging, plugOf, duetAfter, unplugAnswer}
 use Rattle.duet.specs.Plugging.Plugging.{refused, taken}
-use Rattle.duet.specs.Asking.{addresseeOf, loadIn, requestIn, boxAfter, answerFor}
+use Rattle.duet.specs.Asking.{loadIn, requestIn, boxAfter, answerFor}
 
 pub data Step : Type 0 where
   plug : Side → List ℕ → List ℕ → Step

@@ -24,8 +24,8 @@ use Rattle.entities.specs.Run.{held, placeAt}
 use Rattle.ids.specs.Breach.{bears}
 use Rattle.topology.specs.declared.Finding.{Finding}
 use Rattle.topology.specs.Reading.{findingOf}
-use Rattle.duet.specs.declared.Side.{Side}
-use Rattle.duet.specs.declared.Side.the-variants.{Left, Right}
+use Rattle.sides.specs.declared.Side.{Side}
+use Rattle.sides.specs.declared.Side.the-variants.{Left, Right}
 use Rattle.extent.specs.declared.Located.{Located}
 use Rattle.extent.specs.declared.Located.the-variants.{Refused, From}
 

@@ -3,10 +3,10 @@
 // specs/Stretch.antt says. It takes no state, and reads the configuration of the side alone.
 ghost use mathlib.Core.Path.{_≡_};
 ghost use Rattle.extent.specs.Stretch.{lentOn, entityPlace, locatedBy, locatedIn, refusalOf, bytesAt};
-use duet::Side;
 use entities::Run;
 use ground::Place;
 use ground::Refusal;
+use sides::Side;
 use topology::Finding;
 
 // Where an entity's descriptor stands in a configuration, or the refusal.

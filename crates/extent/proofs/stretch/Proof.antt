@@ -3,8 +3,8 @@ use borrow.Author.Needs.{needs}
 use Prim.Native.Nat.{ℕ}
 use mathlib.Core.Path.{_≡_, sym, ap, _∙_}
 use mathlib.Core.List.{List}
-use Rattle.duet.specs.declared.Side.{Side}
-use Rattle.duet.specs.declared.Side.the-variants.{Left, Right}
+use Rattle.sides.specs.declared.Side.{Side}
+use Rattle.sides.specs.declared.Side.the-variants.{Left, Right}
 use Rattle.extent.specs.Stretch.{lentOn, locatedIn, bytesAt}
 use Rattle.extent.proofs.stretch.Statement.{statement}
 use Rattle.extent.proofs.stretch.Tie as tie

@@ -4,8 +4,8 @@ use Prim.Native.Nat.{ℕ}
 use mathlib.Core.Path.{_≡_, sym, ap, _∙_}
 use mathlib.Core.List.{List}
 use Rattle.ground.specs.declared.Refusal.{Refusal}
-use Rattle.duet.specs.declared.Side.{Side}
-use Rattle.duet.specs.declared.Side.the-variants.{Left, Right}
+use Rattle.sides.specs.declared.Side.{Side}
+use Rattle.sides.specs.declared.Side.the-variants.{Left, Right}
 use Rattle.extent.specs.declared.Located.{Located}
 use Rattle.extent.specs.Stretch.{lentOn, locatedIn, refusalOf}
 use Rattle.extent.proofs.stretch_refusal.Statement.{statement}

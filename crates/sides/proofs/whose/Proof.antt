@@ -6,10 +6,10 @@ use Rattle.setup.specs.declared.Target.{Target}
 use Rattle.setup.specs.declared.Part.{Part}
 use Rattle.setup.specs.declared.Asked.{Asked}
 use Rattle.setup.specs.declared.Asked.the-variants as asks
-use Rattle.duet.specs.declared.Addressee.{Addressee}
-use Rattle.duet.specs.Asking.{addresseeBy, addresseeOf}
-use Rattle.duet.proofs.whose.Statement.{statement}
-use Rattle.duet.proofs.whose.Tie as tie
+use Rattle.sides.specs.declared.Addressee.{Addressee}
+use Rattle.sides.specs.Sides.{addresseeBy, addresseeOf}
+use Rattle.sides.proofs.whose.Statement.{statement}
+use Rattle.sides.proofs.whose.Tie as tie
 
 module _ (k : Asked) (g : Target) (r : Addressee) (e : r ≡ addresseeBy (g .interface)) where
   sets : k ≡ asks.Set g → r ≡ addresseeOf k

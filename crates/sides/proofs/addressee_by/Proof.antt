@@ -4,11 +4,11 @@ use Prim.Native.Nat.{ℕ}
 use mathlib.Core.Path.{_≡_, sym, _∙_}
 use borrow.Author.Tests.{eq-eqb, ne-eqb}
 use Rattle.ground.specs.Pick.{yes, no}
-use Rattle.duet.specs.declared.Side.the-variants.{Left, Right}
-use Rattle.duet.specs.declared.Addressee.the-variants.{Nobody, At}
-use Rattle.duet.specs.Asking.{addresseeBy}
-use Rattle.duet.proofs.addressee_by.Statement.{statement}
-use Rattle.duet.proofs.addressee_by.Tie as tie
+use Rattle.sides.specs.declared.Side.the-variants.{Left, Right}
+use Rattle.sides.specs.declared.Addressee.the-variants.{Nobody, At}
+use Rattle.sides.specs.Sides.{addresseeBy}
+use Rattle.sides.proofs.addressee_by.Statement.{statement}
+use Rattle.sides.proofs.addressee_by.Tie as tie
 
 module _ (n : ℕ) where
   lefts : n ≡ 0 → At Left ≡ addresseeBy n

@@ -6,10 +6,9 @@ use native.Mathlib.Omega.{arith}
 use borrow.Author.Tests.{eq-eqb, ne-eqb, le-leb, lt-leb}
 use Rattle.ground.specs.Pick.{yes, no}
 use Rattle.ground.specs.Refuse.{none}
-use Rattle.duet.specs.Box.{mostTogether}
-use Rattle.duet.specs.Plugging.{admissionBy}
-use Rattle.duet.proofs.judge_reading.Statement.{statement}
-use Rattle.duet.proofs.judge_reading.Tie as tie
+use Rattle.sides.specs.Sides.{mostTogether, admissionBy}
+use Rattle.sides.proofs.judge_reading.Statement.{statement}
+use Rattle.sides.proofs.judge_reading.Tie as tie
 
 module _ (x p c n : ℕ) where
   by-the-reader : (x ≡ 0 → ⊥) → record { number = x; place = p } ≡ admissionBy x p c n
