@@ -30,6 +30,7 @@ use Rattle.layout.specs.declared.Entity.{Entity}
 use Rattle.layout.specs.declared.Entity.the-variants.{Unknown, Input, Output, Mixer, Selector, Feature}
 use Rattle.layout.specs.Layout.{LaidOut, entityOf, noCluster}
 use Rattle.layout.specs.Withdrawn.{Printed}
+use Rattle.kinds.specs.Shown.{kindOf}
 use Rattle.kinds.specs.Sources.{sourcesFrom, pinsOf, feedsOf}
 use Rattle.kinds.specs.SourcesLaws.{sources-within}
 use Rattle.pins.specs.Same.{AllSame, allSame, reads-all-same}
@@ -132,6 +133,7 @@ abbrev pub audio : Edition
 audio = record {
   LaidOut = LaidOut;
   Withdrawn = Printed;
+  kind = λ d. kindOf (entityOf d);
   feeds = λ d. feedsOf (entityOf d);
   first = λ d. sourcesFrom (entityOf d);
   pins = λ d. pinsOf (entityOf d);

@@ -1,8 +1,8 @@
 -- An edition is a value: what differs between editions of the class definition below demand 3. It speaks of a descriptor of the run, a
 -- list of bytes: which layouts there are, whether the entity may be a source, where its source IDs stand, which cluster it gives out where
 -- some enter it, and which test it must pass. What is said of any edition does not know which one it is.
---   Edition         ==  LaidOut d: d has one of the layouts (rule 9); Withdrawn d: it has one that was taken once, and is refused by 17; feeds d: it has an output, so that it may be a source; first d, pins d:
---                       the offset of its first source ID, and how many there are, one behind another (inside: within d); Cluster: what
+--   Edition         ==  LaidOut d: d has one of the layouts (rule 9); Withdrawn d: it has one that was taken once, and is refused by 17; kind d: the number
+--                       of its kind on the sheet; feeds d: it has an output, so that it may be a source; first d, pins d: the offset of its first source ID, and how many there are, one behind another (inside: within d); Cluster: what
 --                       a cluster is; givesOut d cs: what d gives out where the clusters cs enter, pin by pin; Keeps d cs: the rule
 --                       that d must keep then (rule 13), and keeps d cs, the test that decides it (reads)
 --   ownId d         ==  byte 3, the ID that the entity bears
@@ -19,6 +19,7 @@ use Rattle.ground.specs.Pick.{Reads}
 pub record Edition : Type 1 where
   pub LaidOut : List ℕ → Type 0
   pub Withdrawn : List ℕ → Type 0
+  pub kind : List ℕ → ℕ
   pub feeds : List ℕ → Bool
   pub first : List ℕ → ℕ
   pub pins : List ℕ → ℕ

@@ -100,6 +100,7 @@ module _ (ks : List (List ℕ)) where
   third = record {
     LaidOut = LaidOut;
     Withdrawn = λ d. ⊥;
+    kind = λ d. saidBy d .kind;
     feeds = λ d. saidBy d .feeds;
     first = λ d. saidBy d .first;
     pins = λ d. saidBy d .pins;

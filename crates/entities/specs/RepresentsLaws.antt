@@ -113,6 +113,7 @@ run-represents ed s p ds tail e cut laid few = record {
   counted = omega arith;
   place = λ i h. ap (λ (n : Node). n .place) (node i h);
   id = λ i h. ap (λ (n : Node). n .id) (node i h);
+  kind = λ i h. ap (λ (n : Node). n .kind) (node i h);
   feeds = λ i h. ap (λ (n : Node). n .feeds) (node i h);
   sources = λ i h. ap (sourcesOf s) (node i h) ∙ sources-at ed s (p + total (take i ds)) (getD ds i []) (behind i) (at i h) (laid (getD ds i []) (member-at [] ds i h));
   bytes = λ i h. ap (λ (n : Node). part s (n .place) (endAt s (n .place))) (node i h) ∙ own i h;

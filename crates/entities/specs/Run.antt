@@ -1,6 +1,6 @@
 -- The run's descriptors as the reader hands them on, and what is looked at of a run, index by index.
 --   mostEntities     ==  the most entities that a run may have: 32
---   nodeOf ed p d    ==  the descriptor d at place p, by the edition ed: its place, where its source IDs stand, its ID, whether it may be a source
+--   nodeOf ed p d    ==  the descriptor d at place p, by the edition ed: its place, where its source IDs stand, its ID, its kind, whether it may be a source
 --   nodesFrom ed p ds ==  one descriptor after another from place p on
 --   blankNode        ==  a spare place: all zeros
 --   runIn ed p ds    ==  how many there are, and the first 32 of them, spare places blank
@@ -10,7 +10,7 @@
 --   earlier a b      ==  the place that a names; where it names none, what b says: a search, then another that goes on behind it
 --   held r           ==  how many entities of the run r are looked at: as many as it counts, at most 32
 --   nodeAt r i       ==  the i-th entity of the run, counted from 0
---   idAt, placeAt, feedsAt  ==  its ID; its place, an offset from the first byte; whether it may be a source
+--   idAt, kindAt, placeAt, feedsAt  ==  its ID; the number of its kind; its place, an offset from the first byte; whether it may be a source
 --   sourcesOf s n, sourcesAt s r i  ==  the source IDs of the entity n, of the i-th entity, as they stand in the configuration s
 --   descriptorOf s n, descriptorAt s r i  ==  the descriptor that stands at the place of the entity n, of the i-th entity
 use Prim.Native.Nat.{ℕ, _+_, min}
@@ -35,14 +35,14 @@ abbrev pub mostEntities : ℕ
 mostEntities = 32
 
 unfoldable pub nodeOf : Edition → ℕ → List ℕ → Node
-nodeOf ed p d = record { place = p; first = p + ed .first d; pins = ed .pins d; id = ownId d; feeds = ed .feeds d }
+nodeOf ed p d = record { place = p; first = p + ed .first d; pins = ed .pins d; id = ownId d; kind = ed .kind d; feeds = ed .feeds d }
 
 unfoldable pub nodesFrom : Edition → ℕ → List (List ℕ) → List Node
 nodesFrom ed p [] = []
 nodesFrom ed p (d ∷ ds) = nodeOf ed p d ∷ nodesFrom ed (p + length d) ds
 
 unfoldable pub blankNode : Node
-blankNode = record { place = 0; first = 0; pins = 0; id = 0; feeds = false }
+blankNode = record { place = 0; first = 0; pins = 0; id = 0; kind = 0; feeds = false }
 
 unfoldable pub runIn : Edition → ℕ → List (List ℕ) → Run
 runIn ed p ds = record { count = length ds; nodes = pad blankNode mostEntities (nodesFrom ed p ds) }
@@ -65,6 +65,9 @@ nodeAt r i = getD (r .nodes) i blankNode
 
 abbrev pub idAt : Run → ℕ → ℕ
 idAt r i = nodeAt r i .id
+
+abbrev pub kindAt : Run → ℕ → ℕ
+kindAt r i = nodeAt r i .kind
 
 abbrev pub placeAt : Run → ℕ → ℕ
 placeAt r i = nodeAt r i .place

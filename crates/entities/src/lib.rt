@@ -1,5 +1,5 @@
 // The run of entities by value. What it promises to the layer above: how many descriptors stand one after another, and of the first 32
-// of them where each stands, the ID that it bears, whether it may be a source, and where its own source IDs stand in the
+// of them where each stands, the ID that it bears, its kind, whether it may be a source, and where its own source IDs stand in the
 // configuration. A node knows no edition; the kind's own numbers are read from its descriptor where they are needed.
 ghost use Prim.Native.Nat.{_+_, _<_, _^_};
 ghost use mathlib.Core.Path.{_≡_};
@@ -14,13 +14,14 @@ use scan::byte_at;
 // The most entities that a run may have.
 pub const MOST_ENTITIES: usize = 32;
 
-// An entity: its place, the place of its first source ID and how many there are, one behind another; its own ID; whether it
-// has an output, so that it may be a source.
+// An entity: its place, the place of its first source ID and how many there are, one behind another; its own ID; the number of
+// its kind on the sheet; whether it has an output, so that it may be a source.
 pub struct Node {
     pub place: usize,
     pub first: usize,
     pub pins: u8,
     pub id: u8,
+    pub kind: u8,
     pub feeds: bool,
 }
 
@@ -45,6 +46,7 @@ pub fn blank() -> Node
         first: 0,
         pins: 0,
         id: 0,
+        kind: 0,
         feeds: false,
     }
 }
@@ -86,6 +88,7 @@ fn node_of(d: &[u8], entity: Entity, place: usize) -> Node
         first: place + kinds::sources_from(entity),
         pins: kinds::pins(entity),
         id: byte_at(d, 3),
+        kind: kinds::kind(entity),
         feeds: kinds::feeds(entity),
     }
 }

@@ -8,12 +8,10 @@ use lib.ListN.{length, getD, replicate, length-map, length-take}
 use Rattle.ground.specs.Lists.{pad, pad-length, pad-more}
 use Rattle.graph.specs.Members.{_∈_}
 use Rattle.layout.specs.declared.Cluster.{Cluster}
-use Rattle.layout.specs.Layout.{entityOf}
-use Rattle.kinds.specs.Shown.{kindOf}
 use Rattle.edition.specs.Edition.{ownId, sources}
 use Rattle.edition.specs.Audio.{audio}
-use Rattle.records.specs.Records.{frontOf, recordIn}
-use Rattle.records.specs.Sheet.{recordsOf}
+use Rattle.records.specs.Records.{frontOf, recordFor, recordIn}
+use Rattle.records.specs.Sheet.{recordsFor, recordsOf}
 use Rattle.legal.specs.declared.Form.the-variants.{New}
 use Rattle.legal.specs.Forms.{oldSize, sizeOf}
 use Rattle.legal.specs.Sheet.{countBy, idOf, idBy, SheetBy}
@@ -27,11 +25,11 @@ use Rattle.mover.specs.MovedBack.{Lent, AsNow}
 use Rattle.mover.proofs.Trips.{given-moved}
 
 record-now : (d : List ℕ) (c : Cluster) → audio .pins d ≤ oldPins → asNew (oldRecordIn d c) ≡ recordIn d c
-unfolding recordIn
+unfolding recordFor
 record-now d c h =
     let l : length (sources audio d) ≤ oldPins = simp length-take (omega arith) in
-    append-assoc (frontOf (ownId d) (kindOf (entityOf d)) (audio .pins d) c) (pad 0 oldPins (sources audio d)) (replicate moreBytes 0)
-    ∙ ap (λ (x : List ℕ). frontOf (ownId d) (kindOf (entityOf d)) (audio .pins d) c ++ x) (pad-more 0 oldPins (sources audio d) moreBytes l)
+    append-assoc (frontOf (ownId d) (audio .kind d) (length (sources audio d)) c) (pad 0 oldPins (sources audio d)) (replicate moreBytes 0)
+    ∙ ap (λ (x : List ℕ). frontOf (ownId d) (audio .kind d) (length (sources audio d)) c ++ x) (pad-more 0 oldPins (sources audio d) moreBytes l)
 
 module _ (cluster : ℕ → Cluster) where
   abbrev before : List ℕ → List ℕ
@@ -44,7 +42,7 @@ module _ (cluster : ℕ → Cluster) where
       sym (ap length (b .2)) ∙ omega arith
 
   records-now : (ds : List (List ℕ)) → ((d : List ℕ) → d ∈ ds → audio .pins d ≤ oldPins) → flatten (map asNew (map before ds)) ≡ recordsOf ds cluster
-  unfolding flatten recordsOf
+  unfolding flatten recordsFor
   records-now [] h = refl
   records-now (d ∷ ds) h =
       ap (λ (x : List ℕ). x ++ flatten (map asNew (map before ds))) (record-now d (cluster (ownId d)) (h d (List·Memᴰ·head refl)))

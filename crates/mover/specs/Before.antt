@@ -12,8 +12,6 @@ use Rattle.ground.specs.Lists.{pad}
 use Rattle.graph.specs.Members.{_∈_}
 use Rattle.graph.specs.Borne.{Own}
 use Rattle.layout.specs.declared.Cluster.{Cluster}
-use Rattle.layout.specs.Layout.{entityOf}
-use Rattle.kinds.specs.Shown.{kindOf}
 use Rattle.edition.specs.Edition.{ownId, sources}
 use Rattle.edition.specs.Audio.{audio}
 use Rattle.entities.specs.Run.{mostEntities}
@@ -23,7 +21,7 @@ abbrev pub oldPins : ℕ
 oldPins = 8
 
 abbrev pub oldRecordIn : List ℕ → Cluster → List ℕ
-oldRecordIn d c = frontOf (ownId d) (kindOf (entityOf d)) (audio .pins d) c ++ pad 0 oldPins (sources audio d)
+oldRecordIn d c = frontOf (ownId d) (audio .kind d) (length (sources audio d)) c ++ pad 0 oldPins (sources audio d)
 
 abbrev pub oldRecordsOf : List (List ℕ) → (ℕ → Cluster) → List ℕ
 oldRecordsOf ds cluster = flatten (map (λ d. oldRecordIn d (cluster (ownId d))) ds)

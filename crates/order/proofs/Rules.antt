@@ -33,7 +33,7 @@ use Rattle.controls.specs.Controls.{controlsOf}
 use Rattle.controls.specs.Standing.{Carries, Stands, stands-of, control-stands}
 use Rattle.controls.specs.Rule15.{Rule15, pairs-fit, controls-apart}
 use Rattle.records.specs.Records.{recordSize, recordIn}
-use Rattle.records.specs.Sheet.{recordsOf, record-long}
+use Rattle.records.specs.Sheet.{recordsFor, recordsOf, record-long}
 use Rattle.order.specs.Permuted.{Permuted, AgreeOn}
 use Rattle.order.specs.Blind.{Blind, BlindTo, recordsEach, BlindRules}
 use Rattle.order.proofs.Permutations.{permuted-back, permuted-in, permuted-length, permuted-members, permuted-pairs, pairs-of, pairs-each}
@@ -119,14 +119,14 @@ records-moved c (List·Permᴰ·swap q r) = List·Permᴰ·swap (ap (λ (d : Lis
 records-moved c (List·Permᴰ·trans p q) = List·Permᴰ·trans (records-moved c p) (records-moved c q)
 
 pub records-flat : (ds : List (List ℕ)) (cluster : ℕ → Cluster) → recordsOf ds cluster ≡ flatten (recordsEach ds cluster)
-unfolding recordsOf recordsEach flatten
+unfolding recordsFor recordsEach flatten
 records-flat [] cluster = refl
 records-flat (d ∷ ds) cluster = ap (λ (l : List ℕ). recordIn d (cluster (ownId d)) ++ l) (records-flat ds cluster)
 
 pub records-long : (ds : List (List ℕ)) (cluster : ℕ → Cluster) (r : List ℕ) → r ∈ recordsEach ds cluster → length r ≡ recordSize
 unfolding recordsEach
 records-long [] cluster r m = absurd (List·Memᴰ·not-nil m)
-records-long (d ∷ ds) cluster r (List·Memᴰ·head e) = ap length e ∙ record-long d (cluster (ownId d))
+records-long (d ∷ ds) cluster r (List·Memᴰ·head e) = ap length e ∙ record-long audio d (cluster (ownId d))
 records-long (d ∷ ds) cluster r (List·Memᴰ·tail m) = records-long ds cluster r m
 
 pub records-counted : (ds : List (List ℕ)) (cluster : ℕ → Cluster) → length (recordsEach ds cluster) ≡ length ds

@@ -10,7 +10,7 @@ use Rattle.entities.specs.declared.Run.{Run}
 use Rattle.entities.specs.Run.{blankNode, nodeAt}
 
 abbrev pub zeros : Node
-zeros = record { place = 0; first = 0; pins = 0; id = 0; feeds = false }
+zeros = record { place = 0; first = 0; pins = 0; id = 0; kind = 0; feeds = false }
 
 pub node-read : (run : Run) (i : ℕ) → getD (run .nodes) i zeros ≡ nodeAt run i
 unfolding blankNode

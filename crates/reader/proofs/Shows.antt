@@ -125,7 +125,7 @@ module _ (s : List ℕ) (t : Configuration s) where
 
   pub record-shows : (d : List ℕ) → Rule16 run (length d) → (i : ℕ) → i < length run
       → take recordSize (drop (i * recordSize) (sheetOf s d)) ≡ recordIn (getD run i []) (cluster (ownId (getD run i [])))
-  record-shows d h i l = ap (λ (x : List ℕ). take recordSize (drop (i * recordSize) x)) (sheet-shows d h) ∙ record-at run cluster i l (drop (length run * recordSize) d)
+  record-shows d h i l = ap (λ (x : List ℕ). take recordSize (drop (i * recordSize) x)) (sheet-shows d h) ∙ record-at audio run cluster i l (drop (length run * recordSize) d)
 
   pub record-bytes : (d : List ℕ) → Rule16 run (length d) → (i : ℕ) → i < length run
       → RecordBytes (getD run i []) (cluster (ownId (getD run i []))) (take recordSize (drop (i * recordSize) (sheetOf s d)))

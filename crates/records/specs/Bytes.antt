@@ -15,12 +15,11 @@ use Rattle.layout.specs.declared.Cluster.{Cluster}
 use Rattle.layout.specs.Layouts.{mostPins}
 use Rattle.layout.specs.Fields.{LaidOut, fedBy}
 use Rattle.layout.specs.FieldsLaws.{laid-only}
-use Rattle.layout.specs.Layout.{entityOf}
-use Rattle.kinds.specs.Shown.{kindOf, kind-told, kind-range}
+use Rattle.kinds.specs.Shown.{kind-told, kind-range}
 use Rattle.kinds.specs.SourcesLaws.{pins-fields, sources-fields, pins-few}
 use Rattle.edition.specs.Edition.{ownId, sources}
 use Rattle.edition.specs.Audio.{audio}
-use Rattle.records.specs.Records.{headSize, recordSize, frontOf, recordIn}
+use Rattle.records.specs.Records.{headSize, recordSize, frontOf, recordFor, recordIn}
 
 pub record RecordBytes (d : List ℕ) (c : Cluster) (b : List ℕ) : Type 0 where
   pub laid : LaidOut d
@@ -38,19 +37,22 @@ pub record RecordBytes (d : List ℕ) (c : Cluster) (b : List ℕ) : Type 0 wher
   pub unused : (j : ℕ) → length (fedBy (laid .fields)) ≤ j → j < mostPins → byte b (headSize + j) ≡ 0
 
 module _ (d : List ℕ) (c : Cluster) (laid : LaidOut d) where
-  counted : audio .pins d ≡ length (fedBy (laid .fields))
-  counted = pins-fields d (laid .fields) (laid-only d laid)
+  fed : sources audio d ≡ fedBy (laid .fields)
+  fed = sources-fields d (laid .fields) (laid-only d laid)
+
+  few : length (fedBy (laid .fields)) ≤ mostPins
+  few = let m = pins-few d in let n = pins-fields d (laid .fields) (laid-only d laid) in omega arith
 
   source-byte : (j : ℕ) → j < mostPins → byte (recordIn d c) (headSize + j) ≡ byte (fedBy (laid .fields)) j
-  unfolding recordIn
+  unfolding recordFor
   source-byte j h =
-      getD-append-add (frontOf (ownId d) (kindOf (entityOf d)) (audio .pins d) c) (pad 0 mostPins (sources audio d)) j 0
+      getD-append-add (frontOf (ownId d) (audio .kind d) (length (sources audio d)) c) (pad 0 mostPins (sources audio d)) j 0
       ∙ pad-at 0 mostPins (sources audio d) j h
-      ∙ ap (λ (l : List ℕ). byte l j) (sources-fields d (laid .fields) (laid-only d laid))
+      ∙ ap (λ (l : List ℕ). byte l j) fed
 
   -- THE LAW, where d has its layout (rule 9)
   pub bytes-told : RecordBytes d c (recordIn d c)
-  unfolding recordIn
+  unfolding recordFor
   bytes-told = record {
     laid = laid;
     long = let e = pad-length 0 mostPins (sources audio d) in omega arith;
@@ -61,8 +63,8 @@ module _ (d : List ℕ) (c : Cluster) (laid : LaidOut d) where
     low = refl;
     high = refl;
     names = refl;
-    pins = counted;
+    pins = ap length fed;
     spare = refl;
-    source = λ j h. source-byte j (let m = pins-few d in let n = counted in omega arith);
+    source = λ j h. source-byte j (let m = few in omega arith);
     unused = λ j h l. source-byte j l ∙ List·getD-eq-default (fedBy (laid .fields)) 0 h;
   }

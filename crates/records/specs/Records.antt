@@ -10,7 +10,7 @@
 --   recordsTo k s r cs  ==  the records of the first k entities of the run r with the clusters cs, one after another
 --   roomFor r room      ==  the test that a sheet of that many bytes holds the records of the run r
 --   shownIn s r cs d    ==  the lent bytes d with the records of the run r in front, where they have room; else d
---   recordIn d c        ==  the record, said of the entity's descriptor d alone
+--   recordFor ed d c     ==  the record, said of the entity's descriptor d alone, by the edition ed; recordIn d c: by the Audio 1.0 edition
 --   record-of           ==  what is shown of the i-th entity of a run is the record of the i-th descriptor that the run stands for
 --   record-length, records-length  ==  how long a record is, and so many of them
 use Prim.Native.Nat.{ℕ, zero, suc, _+_, _*_, _/_, _%_, _<_}
@@ -18,19 +18,17 @@ use mathlib.Core.Path.{_≡_, refl}
 use mathlib.Core.Bool.{Bool}
 use mathlib.Core.List.{List, [], _∷_, _++_}
 use native.Mathlib.Omega.{arith}
-use lib.ListN.{length, getD, drop, length-append, length-take, length-drop}
+use lib.ListN.{length, getD, drop, length-append}
 use lib.Dec.{leb}
 use Rattle.ground.specs.Pick.{pick}
 use Rattle.ground.specs.Lists.{pad, pad-length}
 use Rattle.layout.specs.declared.Cluster.{Cluster}
-use Rattle.layout.specs.Layout.{mostPins, noCluster, entityOf}
-use Rattle.kinds.specs.Shown.{kindOf}
-use Rattle.kinds.specs.SourcesLaws.{sources-within}
-use Rattle.edition.specs.Edition.{ownId, sources}
+use Rattle.layout.specs.Layout.{mostPins, noCluster}
+use Rattle.edition.specs.Edition.{Edition, ownId, sources}
 use Rattle.edition.specs.Audio.{audio}
 use Rattle.entities.specs.declared.Node.{Node}
 use Rattle.entities.specs.declared.Run.{Run}
-use Rattle.entities.specs.Run.{held, nodeAt, sourcesOf, descriptorOf}
+use Rattle.entities.specs.Run.{held, nodeAt, sourcesOf}
 use Rattle.entities.specs.Represents.{Represents}
 
 abbrev pub headSize : ℕ
@@ -46,7 +44,7 @@ abbrev pub idsShown : List ℕ → List ℕ
 idsShown l = pad 0 mostPins l
 
 unfoldable pub headOf : List ℕ → Node → Cluster → List ℕ
-headOf s n c = frontOf (n .id) (kindOf (entityOf (descriptorOf s n))) (length (sourcesOf s n)) c
+headOf s n c = frontOf (n .id) (n .kind) (length (sourcesOf s n)) c
 
 unfoldable pub recordOf : List ℕ → Node → Cluster → List ℕ
 recordOf s n c = headOf s n c ++ idsShown (sourcesOf s n)
@@ -61,17 +59,16 @@ roomFor r room = leb (held r * recordSize) room
 unfoldable pub shownIn : List ℕ → Run → List Cluster → List ℕ → List ℕ
 shownIn s r cs d = pick (roomFor r (length d)) (recordsTo (held r) s r cs ++ drop (held r * recordSize) d) d
 
-unfoldable pub recordIn : List ℕ → Cluster → List ℕ
-recordIn d c = frontOf (ownId d) (kindOf (entityOf d)) (audio .pins d) c ++ idsShown (sources audio d)
+unfoldable pub recordFor : Edition → List ℕ → Cluster → List ℕ
+recordFor ed d c = frontOf (ownId d) (ed .kind d) (length (sources ed d)) c ++ idsShown (sources ed d)
 
--- as many source IDs stand in a descriptor as it has pins
-sources-long : (d : List ℕ) → length (sources audio d) ≡ audio .pins d
-sources-long d = let h = sources-within d in simp (length-take, length-drop) (omega arith)
+abbrev pub recordIn : List ℕ → Cluster → List ℕ
+recordIn d c = recordFor audio d c
 
-pub record-of : {s : List ℕ} {p : ℕ} {ds : List (List ℕ)} {r : Run} → Represents audio s p ds r
-    → (i : ℕ) → i < length ds → (c : Cluster) → recordOf s (nodeAt r i) c ≡ recordIn (getD ds i []) c
-unfolding recordOf headOf recordIn
-record-of {ds = ds} h i l c = rw (h .id i l, h .bytes i l, h .sources i l, sources-long (getD ds i [])) refl
+pub record-of : {ed : Edition} {s : List ℕ} {p : ℕ} {ds : List (List ℕ)} {r : Run} → Represents ed s p ds r
+    → (i : ℕ) → i < length ds → (c : Cluster) → recordOf s (nodeAt r i) c ≡ recordFor ed (getD ds i []) c
+unfolding recordOf headOf recordFor
+record-of h i l c = rw (h .id i l, h .kind i l, h .sources i l) refl
 
 pub record-length : (s : List ℕ) (n : Node) (c : Cluster) → length (recordOf s n c) ≡ recordSize
 unfolding recordOf headOf

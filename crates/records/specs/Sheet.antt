@@ -1,5 +1,6 @@
 -- The sheet's records said of the run's descriptors and of the clusters on their IDs, one behind another in entity order.
---   recordsOf ds cluster  ==  the records of the descriptors ds, each with the cluster on its ID
+--   recordsFor ed ds cluster  ==  the records of the descriptors ds by the edition ed, each with the cluster on its ID; recordsOf ds cluster: by the
+--                            Audio 1.0 edition
 --   record-long           ==  a record is recordSize bytes long
 --   records-same          ==  what the reader shows of a run that stands for ds
 --   record-at             ==  the record of the i-th descriptor stands at i times recordSize
@@ -13,55 +14,58 @@ use lib.Seq.{take-suc, take-length, take-at, drop-at, drop-drop}
 use Rattle.ground.specs.Lists.{pad-length}
 use Rattle.layout.specs.declared.Cluster.{Cluster}
 use Rattle.layout.specs.Layout.{mostPins, noCluster}
-use Rattle.edition.specs.Edition.{ownId, sources}
+use Rattle.edition.specs.Edition.{Edition, ownId, sources}
 use Rattle.edition.specs.Audio.{audio}
 use Rattle.entities.specs.declared.Run.{Run}
 use Rattle.entities.specs.Run.{held, nodeAt}
 use Rattle.entities.specs.Represents.{Represents}
-use Rattle.records.specs.Records.{recordSize, recordIn, recordOf, recordsTo, record-of}
+use Rattle.records.specs.Records.{recordSize, recordFor, recordOf, recordsTo, record-of}
 
-unfoldable pub recordsOf : List (List ℕ) → (ℕ → Cluster) → List ℕ
-recordsOf [] cluster = []
-recordsOf (d ∷ ds) cluster = recordIn d (cluster (ownId d)) ++ recordsOf ds cluster
+unfoldable pub recordsFor : Edition → List (List ℕ) → (ℕ → Cluster) → List ℕ
+recordsFor ed [] cluster = []
+recordsFor ed (d ∷ ds) cluster = recordFor ed d (cluster (ownId d)) ++ recordsFor ed ds cluster
 
-pub record-long : (d : List ℕ) (c : Cluster) → length (recordIn d c) ≡ recordSize
-unfolding recordIn
-record-long d c = let e = pad-length 0 mostPins (sources audio d) in omega arith
+abbrev pub recordsOf : List (List ℕ) → (ℕ → Cluster) → List ℕ
+recordsOf ds cluster = recordsFor audio ds cluster
 
-records-more : (x : List (List ℕ)) (d : List ℕ) (cluster : ℕ → Cluster)
-    → recordsOf (x ++ d ∷ []) cluster ≡ recordsOf x cluster ++ recordIn d (cluster (ownId d))
-unfolding recordsOf
-records-more [] d cluster = append-nil (recordIn d (cluster (ownId d)))
-records-more (e ∷ x) d cluster = ap (λ (l : List ℕ). recordIn e (cluster (ownId e)) ++ l) (records-more x d cluster) ∙ sym (append-assoc (recordIn e (cluster (ownId e))) (recordsOf x cluster) (recordIn d (cluster (ownId d))))
+pub record-long : (ed : Edition) (d : List ℕ) (c : Cluster) → length (recordFor ed d c) ≡ recordSize
+unfolding recordFor
+record-long ed d c = let e = pad-length 0 mostPins (sources ed d) in omega arith
 
-module _ {s : List ℕ} {p : ℕ} {ds : List (List ℕ)} {r : Run} (h : Represents audio s p ds r) (cs : List Cluster) (cluster : ℕ → Cluster)
+records-more : (ed : Edition) (x : List (List ℕ)) (d : List ℕ) (cluster : ℕ → Cluster)
+    → recordsFor ed (x ++ d ∷ []) cluster ≡ recordsFor ed x cluster ++ recordFor ed d (cluster (ownId d))
+unfolding recordsFor
+records-more ed [] d cluster = append-nil (recordFor ed d (cluster (ownId d)))
+records-more ed (e ∷ x) d cluster = ap (λ (l : List ℕ). recordFor ed e (cluster (ownId e)) ++ l) (records-more ed x d cluster) ∙ sym (append-assoc (recordFor ed e (cluster (ownId e))) (recordsFor ed x cluster) (recordFor ed d (cluster (ownId d))))
+
+module _ {ed : Edition} {s : List ℕ} {p : ℕ} {ds : List (List ℕ)} {r : Run} (h : Represents ed s p ds r) (cs : List Cluster) (cluster : ℕ → Cluster)
     (agree : (i : ℕ) → i < length ds → getD cs i noCluster ≡ cluster (ownId (getD ds i []))) where
-  records-front : (m : ℕ) → m ≤ length ds → recordsTo m s r cs ≡ recordsOf (take m ds) cluster
-  unfolding recordsTo recordsOf
+  records-front : (m : ℕ) → m ≤ length ds → recordsTo m s r cs ≡ recordsFor ed (take m ds) cluster
+  unfolding recordsTo recordsFor
   records-front zero l = refl
   records-front (suc m) l =
       let d = getD ds m [] in
       ap (λ (x : List ℕ). x ++ recordOf s (nodeAt r m) (getD cs m noCluster)) (records-front m (omega arith))
-      ∙ ap (λ (x : List ℕ). recordsOf (take m ds) cluster ++ x) (record-of h m l (getD cs m noCluster) ∙ ap (recordIn d) (agree m l))
-      ∙ sym (records-more (take m ds) d cluster)
-      ∙ ap (λ (x : List (List ℕ)). recordsOf x cluster) (sym (take-suc ds m [] l))
+      ∙ ap (λ (x : List ℕ). recordsFor ed (take m ds) cluster ++ x) (record-of h m l (getD cs m noCluster) ∙ ap (recordFor ed d) (agree m l))
+      ∙ sym (records-more ed (take m ds) d cluster)
+      ∙ ap (λ (x : List (List ℕ)). recordsFor ed x cluster) (sym (take-suc ds m [] l))
 
-  pub records-same : recordsTo (held r) s r cs ≡ recordsOf ds cluster
+  pub records-same : recordsTo (held r) s r cs ≡ recordsFor ed ds cluster
   records-same =
-      ap (λ (m : ℕ). recordsTo m s r cs) (h .counted) ∙ records-front (length ds) (omega arith) ∙ ap (λ (x : List (List ℕ)). recordsOf x cluster) (take-length ds)
+      ap (λ (m : ℕ). recordsTo m s r cs) (h .counted) ∙ records-front (length ds) (omega arith) ∙ ap (λ (x : List (List ℕ)). recordsFor ed x cluster) (take-length ds)
 
-pub record-at : (ds : List (List ℕ)) (cluster : ℕ → Cluster) (i : ℕ) → i < length ds → (y : List ℕ)
-    → take recordSize (drop (i * recordSize) (recordsOf ds cluster ++ y)) ≡ recordIn (getD ds i []) (cluster (ownId (getD ds i [])))
-unfolding recordsOf
-record-at [] cluster i l y = absurd (omega arith)
-record-at (d ∷ ds) cluster zero l y =
-    let r = recordIn d (cluster (ownId d)) in
-    ap (take recordSize) (append-assoc r (recordsOf ds cluster) y) ∙ take-at r (recordsOf ds cluster ++ y) recordSize (record-long d (cluster (ownId d)))
-record-at (d ∷ ds) cluster (suc i) l y =
-    let r = recordIn d (cluster (ownId d)) in
+pub record-at : (ed : Edition) (ds : List (List ℕ)) (cluster : ℕ → Cluster) (i : ℕ) → i < length ds → (y : List ℕ)
+    → take recordSize (drop (i * recordSize) (recordsFor ed ds cluster ++ y)) ≡ recordFor ed (getD ds i []) (cluster (ownId (getD ds i [])))
+unfolding recordsFor
+record-at ed [] cluster i l y = absurd (omega arith)
+record-at ed (d ∷ ds) cluster zero l y =
+    let r = recordFor ed d (cluster (ownId d)) in
+    ap (take recordSize) (append-assoc r (recordsFor ed ds cluster) y) ∙ take-at r (recordsFor ed ds cluster ++ y) recordSize (record-long ed d (cluster (ownId d)))
+record-at ed (d ∷ ds) cluster (suc i) l y =
+    let r = recordFor ed d (cluster (ownId d)) in
     let n : suc i * recordSize ≡ recordSize + i * recordSize = omega arith in
-    ap (λ (k : ℕ). take recordSize (drop k ((r ++ recordsOf ds cluster) ++ y))) n
-    ∙ ap (take recordSize) (sym (drop-drop (i * recordSize) recordSize ((r ++ recordsOf ds cluster) ++ y)))
-    ∙ ap (λ (x : List ℕ). take recordSize (drop (i * recordSize) (drop recordSize x))) (append-assoc r (recordsOf ds cluster) y)
-    ∙ ap (λ (x : List ℕ). take recordSize (drop (i * recordSize) x)) (drop-at r (recordsOf ds cluster ++ y) recordSize (record-long d (cluster (ownId d))))
-    ∙ record-at ds cluster i (le-of-suc-le-suc l) y
+    ap (λ (k : ℕ). take recordSize (drop k ((r ++ recordsFor ed ds cluster) ++ y))) n
+    ∙ ap (take recordSize) (sym (drop-drop (i * recordSize) recordSize ((r ++ recordsFor ed ds cluster) ++ y)))
+    ∙ ap (λ (x : List ℕ). take recordSize (drop (i * recordSize) (drop recordSize x))) (append-assoc r (recordsFor ed ds cluster) y)
+    ∙ ap (λ (x : List ℕ). take recordSize (drop (i * recordSize) x)) (drop-at r (recordsFor ed ds cluster ++ y) recordSize (record-long ed d (cluster (ownId d))))
+    ∙ record-at ed ds cluster i (le-of-suc-le-suc l) y

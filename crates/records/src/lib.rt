@@ -5,10 +5,7 @@ ghost use mathlib.Core.Path.{_≡_};
 ghost use Prim.Native.Nat.{_+_, _≤_};
 ghost use lib.ListN.{length};
 ghost use lib.Seq.{paste};
-ghost use Rattle.ground.specs.Lists.{part, pad};
-ghost use Rattle.scan.specs.Cutting.{endAt};
-ghost use Rattle.layout.specs.Layout.{entityOf};
-ghost use Rattle.kinds.specs.Shown.{kindOf};
+ghost use Rattle.ground.specs.Lists.{pad};
 ghost use Rattle.records.specs.Records.{headSize, recordSize, frontOf, recordOf, roomFor, shownIn};
 use entities::Node;
 use entities::Run;
@@ -60,21 +57,13 @@ fn put_head(sheet: &mut [u8], at: usize, id: u8, kind: u8, pins: u8, cluster: Cl
     put_bytes(sheet, at, &head, HEAD);
 }
 
-// The kind of the entity at a place, as the sheet shows it.
-fn kind_at(config: &[u8], at: usize) -> u8
-    ensures { λ r. ⌜ r ≡ kindOf (entityOf (part (now (config .entry)) at (endAt (now (config .entry)) at))) ⌝ }
-{
-    kinds::kind(layout::read(scan::descriptor_at(config, at)))
-}
-
 // An entity's record put into the sheet at a place.
 fn put_record(config: &[u8], node: Node, cluster: Cluster, sheet: &mut [u8], at: usize)
     requires { ⌜ at + recordSize ≤ length (now sheet) ⌝ }
     ensures { λ _. ⌜ now (sheet .exit) ≡ paste (now (sheet .entry)) at (recordOf (now (config .entry)) node cluster) recordSize ⌝ }
 {
-    let kind = kind_at(config, node.place);
     let sources = entities::sources(config, node);
-    put_head(sheet, at, node.id, kind, sources.len() as u8, cluster);
+    put_head(sheet, at, node.id, node.kind, sources.len() as u8, cluster);
     put_bytes(sheet, at + HEAD, sources, MOST_PINS as usize);
 }
 

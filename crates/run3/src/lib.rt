@@ -37,6 +37,7 @@ fn node_of(d: &[u8], place: usize) -> Node
         first: place + said.first as usize,
         pins: said.pins,
         id: byte_at(d, 3),
+        kind: said.kind,
         feeds: said.feeds,
     }
 }

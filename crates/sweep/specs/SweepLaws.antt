@@ -82,7 +82,7 @@ abbrev givenBy : List ℕ → List ℕ → List ℕ → Given
 givenBy channels locations names = record { channels = channels; locations = locations; names = names }
 
 abbrev blank : Node
-blank = record { place = 0; first = 0; pins = 0; id = 0; feeds = false }
+blank = record { place = 0; first = 0; pins = 0; id = 0; kind = 0; feeds = false }
 
 module _ (s : List ℕ) (run : Run) where
   abbrev pub givenAfter : ℕ → ℕ → Cluster

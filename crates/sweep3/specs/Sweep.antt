@@ -48,7 +48,7 @@ pub record Sweeps (s : List ℕ) (run : Run) (ids : List ℕ) : Type 0 where
   pub holds : (x : ℕ) → idOn ids x ≡ givenIds s run x
 
 abbrev blank : Node
-blank = record { place = 0; first = 0; pins = 0; id = 0; feeds = false }
+blank = record { place = 0; first = 0; pins = 0; id = 0; kind = 0; feeds = false }
 
 module _ (s : List ℕ) (run : Run) where
   abbrev pub givenAfter : ℕ → ℕ → ℕ

@@ -49,6 +49,7 @@ fn sources_of<'a>(config: &'a [u8], firsts: &[usize; 256], counts: &[u8; 256], i
             first: firsts[at],
             pins: counts[at],
             id,
+            kind: 0,
             feeds: true,
         },
     )

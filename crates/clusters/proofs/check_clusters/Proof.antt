@@ -20,7 +20,7 @@ use Rattle.clusters.proofs.check_clusters.Statement.{statement}
 use Rattle.clusters.proofs.check_clusters.Tie as tie
 
 abbrev zeros : Node
-zeros = record { place = 0; first = 0; pins = 0; id = 0; feeds = false }
+zeros = record { place = 0; first = 0; pins = 0; id = 0; kind = 0; feeds = false }
 
 module _ (s : List ℕ) (run : Run) where
   abbrev wrong : List ℕ → List ℕ → ℕ → Bool

@@ -24,7 +24,7 @@ use Rattle.controls.proofs.read_controls.Tie as tie
 
 -- what is read past the array's end
 abbrev zeros : Node
-zeros = record { place = 0; first = 0; pins = 0; id = 0; feeds = false }
+zeros = record { place = 0; first = 0; pins = 0; id = 0; kind = 0; feeds = false }
 
 module _ (s : List ℕ) (run : Run) (cs : List Cluster) where
   record Listed (t : Table) (n i : ℕ) : Type 0 where

@@ -1,4 +1,4 @@
--- The node is its five fields, each as its reader answers; the first source stands inside the descriptor, so its place fits.
+-- The node is its six fields, each as its reader answers; the first source stands inside the descriptor, so its place fits.
 use borrow.Author.Needs.{needs}
 use Prim.Native.Nat.{ℕ, _+_, _<_, _^_}
 use mathlib.Core.Path.{_≡_, refl, ap, _∙_}
@@ -11,6 +11,7 @@ use mir.Syntax.{w64}
 use Rattle.ground.specs.Numbers.{byte}
 use Rattle.layout.specs.declared.Entity.{Entity}
 use Rattle.layout.specs.Layout.{entityOf}
+use Rattle.kinds.specs.Shown.{kindOf}
 use Rattle.kinds.specs.Sources.{sourcesFrom, pinsOf, feedsOf}
 use Rattle.kinds.specs.SourcesLaws.{sources-within}
 use Rattle.edition.specs.Audio.{audio}
@@ -25,10 +26,10 @@ module _ (d : List ℕ) (e : Entity) (h : e ≡ entityOf d) (p : ℕ) where
       let k : f ≡ sourcesFrom (entityOf d) = q ∙ ap sourcesFrom h in
       record { fits = omega arith }
 
-  made : (f : ℕ) → f ≡ sourcesFrom e → (n : ℕ) → n ≡ pinsOf e → (b : ℕ) → b ≡ byte d 3 → (t : Bool) → t ≡ feedsOf e
-      → record { place = p; first = p + f; pins = n; id = b; feeds = t } ≡ nodeOf audio p d
+  made : (f : ℕ) → f ≡ sourcesFrom e → (n : ℕ) → n ≡ pinsOf e → (b : ℕ) → b ≡ byte d 3 → (k : ℕ) → k ≡ kindOf e → (t : Bool) → t ≡ feedsOf e
+      → record { place = p; first = p + f; pins = n; id = b; kind = k; feeds = t } ≡ nodeOf audio p d
   unfolding nodeOf
-  made f q n m b o t v = rw (q, m, o, v, h) refl
+  made f q n m b o k u t v = rw (q, m, o, u, v, h) refl
 
 ruleset laws = (first-fits, made, needs)
 
@@ -44,6 +45,9 @@ pins-requires c κs = search laws
 byte-at-requires : tie.Need-byte-at-requires
 byte-at-requires c κs = search laws
 
+kind-requires : tie.Need-kind-requires
+kind-requires c κs = search laws
+
 feeds-requires : tie.Need-feeds-requires
 feeds-requires c κs = search laws
 
@@ -53,4 +57,4 @@ returns c = search laws
 pub node-of-spec : {M : Type 1} → statement M
 node-of-spec =
     tie.close
-    (tie.spec sources-from-requires add-t5 pins-requires byte-at-requires feeds-requires returns)
+    (tie.spec sources-from-requires add-t5 pins-requires byte-at-requires kind-requires feeds-requires returns)

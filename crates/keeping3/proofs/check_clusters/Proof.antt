@@ -16,7 +16,7 @@ use Rattle.keeping3.proofs.check_clusters.Statement.{statement}
 use Rattle.keeping3.proofs.check_clusters.Tie as tie
 
 abbrev zeros : Node
-zeros = record { place = 0; first = 0; pins = 0; id = 0; feeds = false }
+zeros = record { place = 0; first = 0; pins = 0; id = 0; kind = 0; feeds = false }
 
 module _ (s b : List ℕ) (run : Run) (given : List ℕ) where
   abbrev wrong : ℕ → Bool

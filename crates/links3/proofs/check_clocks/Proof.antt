@@ -17,7 +17,7 @@ use Rattle.links3.proofs.check_clocks.Statement.{statement}
 use Rattle.links3.proofs.check_clocks.Tie as tie
 
 abbrev zeros : Node
-zeros = record { place = 0; first = 0; pins = 0; id = 0; feeds = false }
+zeros = record { place = 0; first = 0; pins = 0; id = 0; kind = 0; feeds = false }
 
 module _ (s : List ℕ) (run : Run) where
   abbrev wrong : ℕ → Bool

@@ -40,7 +40,7 @@ one-more t n = first-more t (λ j. true) false n ∙ go (t n)
     go false = refl
 
 abbrev zeros : Node
-zeros = record { place = 0; first = 0; pins = 0; id = 0; feeds = false }
+zeros = record { place = 0; first = 0; pins = 0; id = 0; kind = 0; feeds = false }
 
 module _ (s : List ℕ) (run : Run) where
   record Marked (marks : List Bool) (i : ℕ) : Type 0 where

@@ -8,11 +8,9 @@ use lib.ListN.{length, take, drop, length-append, length-take}
 use lib.Seq.{take-paste, drop-paste, paste, take-all, drop-drop}
 use mir.Val.{Fits}
 use mir.Syntax.{w8}
-use Rattle.ground.specs.Lists.{part, pad, pad-length}
-use Rattle.scan.specs.Cutting.{endAt}
+use Rattle.ground.specs.Lists.{pad, pad-length}
 use Rattle.layout.specs.declared.Cluster.{Cluster}
-use Rattle.layout.specs.Layout.{mostPins, entityOf}
-use Rattle.kinds.specs.Shown.{kindOf}
+use Rattle.layout.specs.Layout.{mostPins}
 use Rattle.entities.specs.declared.Node.{Node}
 use Rattle.entities.specs.Run.{sourcesOf}
 use Rattle.records.specs.Records.{headSize, recordSize, frontOf, headOf, recordOf}
@@ -31,19 +29,16 @@ module _ (s : List ℕ) (n : Node) (l : List ℕ) (e : l ≡ sourcesOf s n) wher
   pins-fit : n .pins < 256 → Fits w8 (length l)
   pins-fit h = let a : length l ≡ length (sourcesOf s n) = ap length e in let b = length-take (n .pins) (drop (n .first) s) in record { fits = omega arith }
 
-  record-told : (d x y : List ℕ) (at k : ℕ) (c : Cluster) → at + recordSize ≤ length d → k ≡ kindOf (entityOf (part s (n .place) (endAt s (n .place))))
-      → x ≡ paste d at (frontOf (n .id) k (length l) c) headSize → y ≡ paste x (at + headSize) (pad 0 mostPins l) mostPins → y ≡ paste d at (recordOf s n c) recordSize
+  record-told : (d x y : List ℕ) (at : ℕ) (c : Cluster) → at + recordSize ≤ length d
+      → x ≡ paste d at (frontOf (n .id) (n .kind) (length l) c) headSize → y ≡ paste x (at + headSize) (pad 0 mostPins l) mostPins → y ≡ paste d at (recordOf s n c) recordSize
   unfolding recordOf headOf
-  record-told d x y at k c room f g h =
+  record-told d x y at c room g h =
       h
       ∙ ap (λ (z : List ℕ). paste z (at + headSize) (pad 0 mostPins l) mostPins) g
-      ∙ both d (frontOf (n .id) k (length l) c) (pad 0 mostPins l) at headSize mostPins room refl (pad-length 0 mostPins l)
-      ∙ rw (e, f) refl
+      ∙ both d (frontOf (n .id) (n .kind) (length l) c) (pad 0 mostPins l) at headSize mostPins room refl (pad-length 0 mostPins l)
+      ∙ rw e refl
 
 ruleset laws = (pins-fit, record-told, needs)
-
-kind-at-requires : tie.Need-kind-at-requires
-kind-at-requires c κs = search laws
 
 sources-requires : tie.Need-sources-requires
 sources-requires c κs = search laws
@@ -73,7 +68,6 @@ pub put-record-spec : {M : Type 1} → statement M
 put-record-spec =
     tie.close
     (tie.spec
-    kind-at-requires
     sources-requires
     cast-put-head
     put-head-requires

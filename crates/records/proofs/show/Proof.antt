@@ -66,7 +66,7 @@ module _ (s : List ℕ) (run : Run) (cs : List Cluster) (d : List ℕ) where
 
     -- past the array's end the model reads zeros, as a spare place is
     on : (u : List ℕ) → i < n
-        → u ≡ paste t (i * recordSize) (recordOf s (getD (run .nodes) i (record { place = 0; first = 0; pins = 0; id = 0; feeds = false })) (getD cs i noCluster)) recordSize
+        → u ≡ paste t (i * recordSize) (recordOf s (getD (run .nodes) i (record { place = 0; first = 0; pins = 0; id = 0; kind = 0; feeds = false })) (getD cs i noCluster)) recordSize
         → Shown u n (i + 1)
     unfolding recordsTo blankNode
     on u h f =

@@ -28,7 +28,7 @@ module _ (d : List ℕ) (e : Entity) (h : e ≡ entityOf d) (f : Facts) (q : f �
       let k : f .first ≡ factsOf (entityOf d) .first = ap (λ (x : Facts). x .first) said in
       record { fits = omega arith }
 
-  made : (b : ℕ) → b ≡ byte d 3 → record { place = p; first = p + f .first; pins = f .pins; id = b; feeds = f .feeds } ≡ nodeOf (third []) p d
+  made : (b : ℕ) → b ≡ byte d 3 → record { place = p; first = p + f .first; pins = f .pins; id = b; kind = f .kind; feeds = f .feeds } ≡ nodeOf (third []) p d
   unfolding nodeOf
   made b o = rw (said, o) refl
 

@@ -16,7 +16,7 @@ use Rattle.sweep.proofs.by_index.Statement.{statement}
 use Rattle.sweep.proofs.by_index.Tie as tie
 
 abbrev zeros : Node
-zeros = record { place = 0; first = 0; pins = 0; id = 0; feeds = false }
+zeros = record { place = 0; first = 0; pins = 0; id = 0; kind = 0; feeds = false }
 
 module _ (run : Run) (g : Given) where
   record Gone (clusters : List Cluster) (i : ℕ) : Type 0 where
