@@ -3,7 +3,7 @@
 --   sweptBy s rule run c  ==  what is given out on IDs along the run, from c on
 --   given-ordered         ==  the sweep along the run in order is the sweep along the order
 --   swept-made            ==  .. so what each entity of the order gives out is what the rule makes of what enters it
-use Prim.Native.Nat.{ℕ, _<_}
+use Prim.Native.Nat.{ℕ}
 use mathlib.Core.Path.{_≡_, refl, ap, _∙_}
 use mathlib.Core.List.{List, [], _∷_, map, List·Memᴰ·head, List·Memᴰ·tail}
 use lib.ListN.{length, getD}
