@@ -14,10 +14,12 @@ fn shown_on(clusters: &[u8], given: &[u16; 256], id: u8) -> Cluster
     ensures { λ r. ⌜ r ≡ shownCluster (clusterOn (now (clusters .entry)) (now (given .entry)) id) ⌝ }
 {
     let k = buffer::cluster_with(clusters, given[index_of(id)]);
+    let bitmap = 0;
+    let name = 0;
     Cluster {
         channels: byte_at(k, 6),
-        locations: 0,
-        names: 0,
+        locations: bitmap,
+        names: name,
     }
 }
 
