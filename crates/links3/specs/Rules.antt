@@ -1,8 +1,8 @@
 -- Rules 11 and 52 of the 3.0 edition (document 02, No. 12), said of the run's descriptors ds. "A Terminal's clock ID names a Clock Source, which is no
 -- source for a pin; rule 11 covers both"; refusal "52 at the first entity whose cluster ID is unknown". ks are the cluster descriptors of the buffer.
---   WrongLinks ks ds d  ==  a source ID of d is wrong, as in every edition, or d is a Terminal whose clock ID is no Clock Source's
+--   WrongLinks ks ds d ==  a source ID of d is wrong, as in every edition, or d is a Terminal whose clock ID is no Clock Source's
 --   Rule11Third ks ds  ==  of no descriptor of the run is it so
---   ClocksNamed ds     ==  each Terminal's clock ID names a Clock Source
+--   ClocksNamed ds     ==  no descriptor of the run is a Terminal whose clock ID is no Clock Source's
 --   rule11-third-parts ==  rule 11 is every edition's rule 11, and that the clocks are named
 --   Rule52 ks ds       ==  no descriptor of the run names a cluster by an ID that none of ks bears
 use Prim.Native.Nat.{ℕ}

@@ -2,7 +2,6 @@
 -- descriptors by that edition.
 --   lesser-nowhere   ==  the lesser of two places is nowhere exactly where both are
 --   lesser-first     ==  where places rise, the lesser of two first places is the first place of either
---   reads-clock-of   ==  the test of an ID decides that no Clock Source of the run bears it
 --   reads-wrong-clock  ==  the test at an index decides that a Terminal's clock ID is no Clock Source's
 --   clocks-nowhere   ==  breachClock is nowhere exactly where the clocks are named
 --   rule11-third-nowhere, rule11-third-at  ==  breach11Third is nowhere exactly where rule 11 is kept, and at q exactly where q is the place of the
@@ -37,7 +36,6 @@ use Rattle.entities.specs.Represents.{Represents}
 use Rattle.entities.specs.RepresentsLaws.{sound-each-of, breaks-each-of, places-rise}
 use Rattle.ids.specs.Rule10.{Rule10}
 use Rattle.ids.specs.Rule10Laws.{inside}
-use Rattle.sources.specs.Rule11.{WrongSources}
 use Rattle.sources.specs.Breach.{wrongSource, breach11}
 use Rattle.sources.specs.Rule11Laws.{reads-sources, rule11-nowhere}
 use Rattle.links3.specs.Links.{saidAt, isClockAt, clockBelow, wrongClockBy, breachClock, lesser, breach11Third, isNowhere, unknownBy, breach52}
@@ -99,7 +97,11 @@ module _ (n : ℕ) (place : ℕ → ℕ) (rise : (i j : ℕ) → i < j → j < n
               ∙ here i (record { inside = f .inside; passes = left i (f .passes); none-before = λ m h. neither m (f .none-before m h) (g .none-before m (omega arith)) })
             where
               low : place i ≤ place j
-              low = ⊎-elim (λ (m : i < j). let r = rise i j m (g .inside) in omega arith) (λ (m : i < j → ⊥). let e : i ≡ j = omega arith in rw e (omega arith)) (decided (ltb i j) (reads-lt i j))
+              low =
+                  ⊎-elim
+                  (λ (m : i < j). let r = rise i j m (g .inside) in omega arith)
+                  (λ (m : i < j → ⊥). let e : i ≡ j = omega arith in rw e (omega arith))
+                  (decided (ltb i j) (reads-lt i j))
 
 reads-nowhere : (r : Place) → Reads (isNowhere r) (r ≡ Nowhere)
 unfolding isNowhere
@@ -124,20 +126,26 @@ module _ (s : List ℕ) (run : Run) where
   abbrev unknownAt : List ℕ → ℕ → Bool
   unknownAt b i = unknownBy b (saidAt s run i)
 
--- the rule's words of an ID
+-- what rule 11 says of a clock ID that is wrong
 abbrev NoClock : List (List ℕ) → ℕ → Type 0
 NoClock ds x = (e : List ℕ) → e ∈ ds → ownId e ≡ x → saidBy e .kind ≡ 0x0B → ⊥
 
 module _ (ks : List (List ℕ)) {s : List ℕ} {p : ℕ} {ds : List (List ℕ)} {run : Run} (k : Represents (third ks) s p ds run) where
-  pub reads-clock-of : (x : ℕ) → Reads (not (clockBelow run (held run) x)) (NoClock ds x)
-  reads-clock-of x = reads-same (reads-not _ (reads-somewhere (isClockAt run x) (λ i. (idAt run i ≡ x) × (kindAt run i ≡ 0x0B)) (held run) (λ i l. reads-and _ _ (reads-eq (idAt run i) x) (reads-eq (kindAt run i) 0x0B)))) to of
+  reads-clock-of : (x : ℕ) → Reads (not (clockBelow run (held run) x)) (NoClock ds x)
+  reads-clock-of x = reads-same (reads-not _ (reads-somewhere (isClockAt run x) ClockAt (held run) at)) to of
     where
-      to : ((i : ℕ) × (i < held run) × ((idAt run i ≡ x) × (kindAt run i ≡ 0x0B)) → ⊥) → NoClock ds x
+      ClockAt : ℕ → Type 0
+      ClockAt i = (idAt run i ≡ x) × (kindAt run i ≡ 0x0B)
+
+      at : (i : ℕ) → i < held run → Reads (isClockAt run x i) (ClockAt i)
+      at i l = reads-and _ _ (reads-eq (idAt run i) x) (reads-eq (kindAt run i) 0x0B)
+
+      to : ((i : ℕ) × (i < held run) × ClockAt i → ⊥) → NoClock ds x
       to f e m q z =
           let j = member-index [] m in
           f (j .0, rw (k .counted) (j .1), (k .id (j .0) (j .1) ∙ ap ownId (j .2) ∙ q, k .kind (j .0) (j .1) ∙ ap (λ (d : List ℕ). saidBy d .kind) (j .2) ∙ z))
 
-      of : NoClock ds x → (i : ℕ) × (i < held run) × ((idAt run i ≡ x) × (kindAt run i ≡ 0x0B)) → ⊥
+      of : NoClock ds x → (i : ℕ) × (i < held run) × ClockAt i → ⊥
       of f (i, l, q) =
           let n = inside k l in
           f (getD ds i []) (member-at [] ds i n) (sym (k .id i n) ∙ q .0) (sym (k .kind i n) ∙ q .1)

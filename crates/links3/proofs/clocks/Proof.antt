@@ -2,19 +2,19 @@
 use borrow.Author.Needs.{needs}
 use Prim.Native.Nat.{ℕ, _+_, _-_, _≤_, _<_}
 use mathlib.Core.Path.{_≡_, sym, ap, _∙_}
-use mathlib.Core.Bool.{Bool, true, false, _&&_}
+use mathlib.Core.Bool.{Bool, true, false}
 use mathlib.Core.Logic.{⊎-elim}
 use mathlib.Core.List.{List}
 use native.Mathlib.Omega.{arith}
 use lib.Dec.{eqb}
 use lib.ListN.{length, getD, set, replicate, length-set, length-replicate}
 use lib.Seq.{getD-set-same, getD-set-other}
-use Rattle.ground.specs.Pick.{no, Reads, reads-eq, reads-and, reads-true, shows, refutes, decided}
+use Rattle.ground.specs.Pick.{no, Reads, reads-eq, reads-and, shows, refutes, decided}
 use Rattle.ground.specs.Lists.{replicate-at}
 use Rattle.ground.specs.Places.{firstIn, first-more, somewhere, reads-somewhere}
 use Rattle.entities.specs.declared.Node.{Node}
 use Rattle.entities.specs.declared.Run.{Run}
-use Rattle.entities.specs.Run.{blankNode, held, nodeAt, idAt, kindAt}
+use Rattle.entities.specs.Run.{blankNode, held, idAt, kindAt}
 use Rattle.links3.specs.Links.{isClockAt, clockBelow, ClockMarks}
 use Rattle.links3.proofs.clocks.Statement.{statement}
 use Rattle.links3.proofs.clocks.Tie as tie
