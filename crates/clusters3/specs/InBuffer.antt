@@ -1,6 +1,5 @@
 -- Where the rules 9 to 12 and 52 are kept in the 3.0 edition, the cluster on each entity's output is a descriptor of the buffer: one that an Input Terminal or a
 -- Mixer names. A Clock Source gives out none. ks are the cluster descriptors of the buffer.
---   AllKnown ks ds     ==  rule 52: no descriptor of ds names a cluster by an ID that none of ks bears
 --   cluster-named      ==  the cluster on the output of an entity that names one bears the ID that it names, and is one of ks
 --   cluster-in-buffer  ==  THE LAW: so is the cluster on the output of each entity that is no Clock Source
 use Prim.Native.Nat.{ℕ, zero, suc, _≤_, _<_}
@@ -19,14 +18,11 @@ use Rattle.layout3.specs.Facts.{factsOf}
 use Rattle.layout3.specs.LayoutLaws.{Told, unknown, input, output, mixer, selector, feature, clock, told, sources-within}
 use Rattle.buffer.specs.Clusters.{clusterId}
 use Rattle.edition.specs.Edition.{ownId, sources}
-use Rattle.edition3.specs.Third.{saidBy, firstOf, givesOut, third, UnknownCluster}
+use Rattle.edition3.specs.Third.{saidBy, firstOf, givesOut, third, Rule52}
 use Rattle.sources.specs.Rule11.{no-output}
 use Rattle.clusters.specs.Rule13.{Connected}
 use Rattle.clusters.specs.Topology.{source-of}
 use Rattle.clusters3.specs.Rule13Laws.{Named, borne, unborne, named-finds}
-
-abbrev pub AllKnown : List (List ℕ) → List (List ℕ) → Type 0
-AllKnown ks ds = (d : List ℕ) → d ∈ ds → UnknownCluster ks d → ⊥
 
 -- an entity that is no Clock Source names a cluster or has a pin
 draws : (d : List ℕ) → LaidOut d → (saidBy d .kind ≡ 0x0B → ⊥) → (saidBy d .declares ≡ true) ⊎ (1 ≤ saidBy d .pins)
@@ -56,7 +52,7 @@ feeding d = of (told d)
     of (feature o k i) f = (o, λ m. omega arith)
     of (clock o k i) f = absurd (true≠false (sym f))
 
-module _ (ks ds : List (List ℕ)) (c : Connected (third ks) ds) (known : AllKnown ks ds) where
+module _ (ks ds : List (List ℕ)) (c : Connected (third ks) ds) (known : Rule52 ks ds) where
   pub cluster-named : (d : List ℕ) → d ∈ ds → saidBy d .declares ≡ true → (c .cluster (ownId d) ∈ ks) × (clusterId (c .cluster (ownId d)) ≡ saidBy d .cluster)
   unfolding givesOut
   cluster-named d m e = subst (λ (k : List ℕ). (k ∈ ks) × (clusterId k ≡ saidBy d .cluster)) (sym (c .given-out d m ∙ yes _ _ e)) (go (named-finds ks (saidBy d .cluster)))

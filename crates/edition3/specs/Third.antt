@@ -13,6 +13,7 @@
 --   givesOut ks d cs   ==  what d gives out where cs enter
 --   third ks           ==  the edition
 --   UnknownCluster ks d  ==  refusal 52: d names a cluster by an ID that none of ks bears
+--   Rule52 ks ds       ==  no descriptor of the run ds is so
 --   WrongClock ds d    ==  refusal 11, for a clock: d is a Terminal whose clock ID is no Clock Source's of ds
 use Prim.Native.Nat.{ℕ, _+_, _*_, _≤_}
 use mathlib.Core.Path.{_≡_}
@@ -114,6 +115,9 @@ module _ (ks : List (List ℕ)) where
 
   abbrev pub UnknownCluster : List ℕ → Type 0
   UnknownCluster d = (saidBy d .declares ≡ true) × ((k : List ℕ) → k ∈ ks → clusterId k ≡ saidBy d .cluster → ⊥)
+
+  abbrev pub Rule52 : List (List ℕ) → Type 0
+  Rule52 ds = (d : List ℕ) → d ∈ ds → UnknownCluster d → ⊥
 
 -- a Clock Source is shown as 0B
 abbrev pub WrongClock : List (List ℕ) → List ℕ → Type 0

@@ -5,12 +5,14 @@
 --   input-right, input-wrong, output-right, output-wrong, mixer-right, mixer-wrong, selector-right, selector-wrong, feature-right, feature-wrong,
 --   clock-right, clock-wrong  ==  what a kind's own reader makes of its layout, and of any other
 --   kind-input, kind-output, kind-mixer, kind-selector, kind-feature, kind-clock, kind-other  ==  byte 2 says which kind's reader it is
+--   laid-decided  ==  a descriptor has one of the layouts, or none
 --   pins-few      ==  at most 24 pins
 --   sources-within  ==  the sources of what a descriptor is stand inside it
 use Prim.Native.Nat.{ℕ, _+_, _≤_}
 use mathlib.Core.Path.{_≡_, refl, sym, ap, _∙_}
 use mathlib.Core.Bool.{Bool, true, false}
 use mathlib.Core.Option.{Option, none, some}
+use mathlib.Core.Logic.{_⊎_, inl, inr}
 use mathlib.Core.List.{List, _∷_}
 use native.Mathlib.Omega.{arith}
 use lib.ListN.{length, take, drop}
@@ -249,6 +251,18 @@ reads-unknown d = of (told d)
     of (selector o k q l) = known o
     of (feature o k l) = known o
     of (clock o k l) = known o
+
+pub laid-decided : (d : List ℕ) → LaidOut d ⊎ (LaidOut d → ⊥)
+laid-decided d = of (told d)
+  where
+    of : {e : Entity} → Told d e → LaidOut d ⊎ (LaidOut d → ⊥)
+    of (unknown n) = inr n
+    of (input o k l) = inl o
+    of (output o k l) = inl o
+    of (mixer o k q l) = inl o
+    of (selector o k q l) = inl o
+    of (feature o k l) = inl o
+    of (clock o k l) = inl o
 
 pub pins-few : (d : List ℕ) → factsOf (entityOf d) .pins ≤ mostPins
 unfolding factsOf

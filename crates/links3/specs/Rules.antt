@@ -1,15 +1,14 @@
--- Rules 11 and 52 of the 3.0 edition (document 02, No. 12), said of the run's descriptors ds. "A Terminal's clock ID names a Clock Source, which is no
--- source for a pin; rule 11 covers both"; refusal "52 at the first entity whose cluster ID is unknown". ks are the cluster descriptors of the buffer.
+-- Rule 11 of the 3.0 edition (document 02, No. 12), said of the run's descriptors ds: "A Terminal's clock ID names a Clock Source, which is no source for a
+-- pin; rule 11 covers both". ks are the cluster descriptors of the buffer.
 --   WrongLinks ks ds d ==  a source ID of d is wrong, as in every edition, or d is a Terminal whose clock ID is no Clock Source's
 --   Rule11Third ks ds  ==  of no descriptor of the run is it so
 --   ClocksNamed ds     ==  no descriptor of the run is a Terminal whose clock ID is no Clock Source's
 --   rule11-third-parts ==  rule 11 is every edition's rule 11, and that the clocks are named
---   Rule52 ks ds       ==  no descriptor of the run names a cluster by an ID that none of ks bears
 use Prim.Native.Nat.{ℕ}
 use mathlib.Core.Logic.{_⊎_, inl, inr, ⊎-elim, _↔_}
 use mathlib.Core.List.{List}
 use Rattle.graph.specs.Members.{_∈_}
-use Rattle.edition3.specs.Third.{third, UnknownCluster, WrongClock}
+use Rattle.edition3.specs.Third.{third, WrongClock}
 use Rattle.sources.specs.Rule11.{WrongSources, Rule11}
 
 abbrev pub ClocksNamed : List (List ℕ) → Type 0
@@ -24,6 +23,3 @@ module _ (ks ds : List (List ℕ)) where
 
   pub rule11-third-parts : Rule11Third ↔ (Rule11 (third ks) ds × ClocksNamed ds)
   rule11-third-parts = (λ h. (λ d m w. h d m (inl w), λ d m w. h d m (inr w)), λ h d m. ⊎-elim (h .0 d m) (h .1 d m))
-
-  abbrev pub Rule52 : Type 0
-  Rule52 = (d : List ℕ) → d ∈ ds → UnknownCluster ks d → ⊥

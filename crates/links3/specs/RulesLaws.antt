@@ -29,7 +29,7 @@ use Rattle.graph.specs.Members.{_∈_}
 use Rattle.edition.specs.Edition.{ownId}
 use Rattle.buffer.specs.Clusters.{clusterId}
 use Rattle.buffer.specs.Reading.{pieces, bearing, foundCluster}
-use Rattle.edition3.specs.Third.{saidBy, third, UnknownCluster, WrongClock}
+use Rattle.edition3.specs.Third.{saidBy, third, UnknownCluster, Rule52, WrongClock}
 use Rattle.entities.specs.declared.Run.{Run}
 use Rattle.entities.specs.Run.{held, idAt, kindAt, placeAt, sourcesAt}
 use Rattle.entities.specs.Represents.{Represents}
@@ -39,7 +39,7 @@ use Rattle.ids.specs.Rule10Laws.{inside}
 use Rattle.sources.specs.Breach.{wrongSource, breach11}
 use Rattle.sources.specs.Rule11Laws.{reads-sources, rule11-nowhere}
 use Rattle.links3.specs.Links.{saidAt, isClockAt, clockBelow, wrongClockBy, breachClock, lesser, breach11Third, isNowhere, unknownBy, breach52}
-use Rattle.links3.specs.Rules.{ClocksNamed, WrongLinks, Rule11Third, rule11-third-parts, Rule52}
+use Rattle.links3.specs.Rules.{ClocksNamed, WrongLinks, Rule11Third, rule11-third-parts}
 
 pub lesser-nowhere : (a b : Place) → (lesser a b ≡ Nowhere) ↔ ((a ≡ Nowhere) × (b ≡ Nowhere))
 unfolding lesser

@@ -11,7 +11,8 @@ use Rattle.layout.specs.declared.Cluster.{Cluster}
 use Rattle.cutting.specs.Rules1to9.{headerPlace, Kept, BrokenAt, cuttingRows}
 use Rattle.connections.specs.JudgementLaws.{connectedRows}
 use Rattle.streaming.specs.Rule14.{Breaks14}
-use Rattle.reader.specs.Configuration.{runOf, placeOfRun, Streams, FewControls, Configuration, Rule16}
+use Rattle.records.specs.Sheet.{Rule16}
+use Rattle.reader.specs.Configuration.{runOf, placeOfRun, Streams, FewControls, Configuration}
 
 module _ {s : List ℕ} (k : Kept s) where
   abbrev pub runRows : (ℕ → Cluster) → ℕ → Rows

@@ -1,0 +1,2 @@
+pub mod ThirdConfiguration
+pub mod ThirdRefusals
