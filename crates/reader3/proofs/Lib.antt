@@ -1,2 +1,4 @@
 pub mod KeptRun
 pub mod ThirdExactly
+pub mod ThirdShows
+pub mod Choosing

@@ -114,7 +114,7 @@ module _ {s : List ℕ} {p : ℕ} {ds ks : List (List ℕ)} {run : Run} (k : Rep
 module _ (s b : List ℕ) (o : Opened s) where
   decides-5 : Decides (thirdBreach5 s (frameOf s)) (Rule5By thirdForm (o .tail)) (BrokenAt (headerPlace o) (Rule5By thirdForm (o .tail)))
   unfolding thirdBreach5
-  decides-5 = rw (header-place s o) (kept-decides (headerPlace o) (reads-rule5 s (o .tail) (frame-told s o .behind) thirdForm _ (reads-third (headerOf s (frameOf s)))))
+  decides-5 = subst (λ (i : ℕ). Decides (thirdBreach5 s (frameOf s)) (Rule5By thirdForm (o .tail)) (BrokenAt i (Rule5By thirdForm (o .tail)))) (header-place s o) (kept-decides (frameOf s .header) (reads-rule5 s (o .tail) (frame-told s o .behind) thirdForm _ (reads-third (headerOf s (frameOf s)))))
 
   module _ (h : Rule5By thirdForm (o .tail)) where
     decides-6 : Decides (thirdBreach6 s (frameOf s)) (Rule6By thirdForm (h .header) (h .others)) (BrokenAt (headerPlace o) (Rule6By thirdForm (h .header) (h .others)))

@@ -1,2 +1,4 @@
 pub mod ThirdConfiguration
 pub mod ThirdRefusals
+pub mod ThirdRecord
+pub mod BothEditions

@@ -1,0 +1,242 @@
+-- What the answer and the sheet of the 3.0 edition show of a configuration, and that what keeps the rules is one.
+--   answer-number      ==  number and place in the answer are those of the refusal
+--   third-demand       ==  THE THEOREM, field by field of ThirdDemand
+use Prim.Native.Nat.{ℕ, _+_, _*_, _≤_, _<_}
+use mathlib.Core.Path.{_≡_, refl, sym, ap, _∙_, subst}
+use mathlib.Core.Bool.{Bool, true, false}
+use mathlib.Core.List.{List, [], _++_, map}
+use mathlib.Core.Logic.{_↔_}
+use lib.ListN.{length, getD, take, drop, length-take, length-drop, List·getD-eq-default}
+use lib.Seq.{getD-append-add}
+use lib.Dec.{eqb}
+use native.Mathlib.Omega.{arith}
+use borrow.Author.Tests.{eq-eqb, ne-eqb, eqb-true, eqb-false}
+use Rattle.ground.specs.declared.Refusal.{Refusal}
+use Rattle.ground.specs.Pick.{pick, yes, no}
+use Rattle.ground.specs.Numbers.{byte}
+use Rattle.ground.specs.Lists.{member-at, pad, pad-length, pad-at}
+use Rattle.graph.specs.Members.{_∈_}
+use Rattle.layout.specs.declared.Cluster.{Cluster}
+use Rattle.layout.specs.Layouts.{mostPins}
+use Rattle.layout.specs.Layout.{noCluster}
+use Rattle.layout3.specs.declared.Entity.{Entity}
+use Rattle.layout3.specs.declared.Entity.the-variants.{Unknown, Input, Output, Mixer, Selector, Feature, Clock}
+use Rattle.layout3.specs.Layouts.{LaidOut}
+use Rattle.layout3.specs.Layout.{entityOf}
+use Rattle.layout3.specs.Facts.{factsOf}
+use Rattle.layout3.specs.LayoutLaws.{Told, told, unknown, input, output, mixer, selector, feature, clock, pins-few, sources-within}
+use Rattle.buffer.specs.Clusters.{channelsOf}
+use Rattle.buffer.specs.Reading.{pieces}
+use Rattle.buffer.specs.BufferLaws.{buffer-pieces}
+use Rattle.edition.specs.Edition.{ownId, sources}
+use Rattle.edition3.specs.Third.{saidBy, firstOf, givesOut, third}
+use Rattle.entities.specs.declared.Run.{Run}
+use Rattle.entities.specs.Run.{runIn}
+use Rattle.entities.specs.Represents.{Represents}
+use Rattle.groups.specs.Reading.{frameOf}
+use Rattle.cutting.specs.Context.{cut-told, run-is}
+use Rattle.ranks.specs.Order.{ordered}
+use Rattle.sweep3.specs.Sweep.{givenIds}
+use Rattle.clusters.specs.Rule13.{Connected}
+use Rattle.clusters.specs.Topology.{clusters-one}
+use Rattle.clusters3.specs.Shown.{shownCluster, clustersBy}
+use Rattle.clusters3.specs.Rule13Laws.{third-shown}
+use Rattle.clusters3.specs.InBuffer.{cluster-named, cluster-in-buffer}
+use Rattle.records.specs.Records.{headSize, recordSize, frontOf, recordFor, shownIn}
+use Rattle.records.specs.Sheet.{recordsFor, Rule16, shown-same, record-long, record-at}
+use Rattle.third.specs.declared.SheetAnswer.{SheetAnswer}
+use Rattle.third.specs.Judgement.{runFor, clustersShown, thirdVerdict, sheetRefused, sheetTaken, thirdAnswer, thirdSheet}
+use Rattle.reader3.specs.ThirdConfiguration.{placeIn3, ThirdConfiguration}
+use Rattle.reader3.specs.ThirdRefusals.{RefusedThird}
+use Rattle.reader3.specs.ThirdRecord.{ShownKind, ThirdRecord}
+use Rattle.reader3.specs.ThirdRecord as shown
+use Rattle.reader3.specs.BothEditions.{run3, cluster3, buffer3, RefusedSheet, ThirdDemand}
+use Rattle.reader3.proofs.KeptRun.{entitiesThird, run-kept, represented}
+use Rattle.reader3.proofs.ThirdExactly.{third-accepted, third-refused}
+
+-- the answer's number and place are the verdict's
+module _ (s b : List ℕ) (room : ℕ) where
+  answer-refused : (thirdVerdict s b room .number ≡ 0 → ⊥) → thirdAnswer s b room ≡ sheetRefused (thirdVerdict s b room)
+  unfolding thirdAnswer
+  answer-refused n = no _ _ (ne-eqb _ _ n)
+
+  answer-taken : thirdVerdict s b room .number ≡ 0 → thirdAnswer s b room ≡ sheetTaken s
+  unfolding thirdAnswer
+  answer-taken e = yes _ _ (eq-eqb _ _ e)
+
+  pub answer-number : thirdAnswer s b room .number ≡ thirdVerdict s b room .number
+  unfolding sheetRefused
+  answer-number = go (eqb (thirdVerdict s b room .number) 0) refl
+    where
+      go : (c : Bool) → eqb (thirdVerdict s b room .number) 0 ≡ c → thirdAnswer s b room .number ≡ thirdVerdict s b room .number
+      go true q = let e = eqb-true _ _ q in ap (λ (x : SheetAnswer). x .number) (answer-taken e) ∙ sym e
+      go false q = ap (λ (x : SheetAnswer). x .number) (answer-refused (eqb-false _ _ q))
+
+  verdict-nonzero : (thirdAnswer s b room .number ≡ 0 → ⊥) → thirdVerdict s b room .number ≡ 0 → ⊥
+  verdict-nonzero n e = n (answer-number ∙ e)
+
+  answer-place : (thirdAnswer s b room .number ≡ 0 → ⊥) → thirdAnswer s b room .place ≡ thirdVerdict s b room .place
+  unfolding sheetRefused
+  answer-place n = ap (λ (x : SheetAnswer). x .place) (answer-refused (verdict-nonzero n))
+
+  both : (thirdAnswer s b room .number ≡ 0 → ⊥) → thirdVerdict s b room ≡ record { number = thirdAnswer s b room .number; place = thirdAnswer s b room .place }
+  both n = rw (answer-number, answer-place n) refl
+
+  refused-both : (n p : ℕ) → (n ≡ 0 → ⊥) → ((thirdAnswer s b room .number ≡ n) × (thirdAnswer s b room .place ≡ p)) ↔ RefusedThird s b room n p
+  refused-both n p z = (to, of)
+    where
+      to : (thirdAnswer s b room .number ≡ n) × (thirdAnswer s b room .place ≡ p) → RefusedThird s b room n p
+      to (e, f) = third-refused s b room n p z .0 (both (λ q. z (sym e ∙ q)) ∙ ap (λ (i : ℕ). record { number = i; place = thirdAnswer s b room .place }) e ∙ ap (λ (i : ℕ). record { number = n; place = i }) f)
+
+      of : RefusedThird s b room n p → (thirdAnswer s b room .number ≡ n) × (thirdAnswer s b room .place ≡ p)
+      of r =
+          let v = third-refused s b room n p z .1 r in
+          let m : thirdAnswer s b room .number ≡ n = answer-number ∙ ap (λ (x : Refusal). x .number) v in
+          (m, answer-place (λ q. z (sym m ∙ q)) ∙ ap (λ (x : Refusal). x .place) v)
+
+module _ (s b d : List ℕ) (n : thirdAnswer s b (length d) .number ≡ 0 → ⊥) where
+  refuses : RefusedSheet s b d
+  unfolding thirdSheet sheetRefused
+  refuses = record {
+    row = refused-both s b (length d) (thirdAnswer s b (length d) .number) (thirdAnswer s b (length d) .place) n .0 (refl, refl);
+    no-entities = ap (λ (x : SheetAnswer). x .entities) (answer-refused s b (length d) (verdict-nonzero s b (length d) n));
+    sheet = no _ _ (ne-eqb _ _ (verdict-nonzero s b (length d) n));
+  }
+
+-- what keeps the rules is one
+module _ (s b : List ℕ) (t u : ThirdConfiguration s b) where
+  one-cutting : t .kept .opened .descriptors ≡ u .kept .opened .descriptors
+  one-cutting = sym (cut-told s (t .kept .opened)) ∙ cut-told s (u .kept .opened)
+
+  one-buffer : buffer3 t ≡ buffer3 u
+  one-buffer = sym (buffer-pieces b (t .kept .rule51)) ∙ buffer-pieces b (u .kept .rule51)
+
+  one-descriptors : run3 t ≡ run3 u
+  one-descriptors = sym (run-is s (t .kept .opened) (t .kept .rule5) (t .kept .rule6)) ∙ run-is s (u .kept .opened) (u .kept .rule5) (u .kept .rule6)
+
+  one-clusters : (d : List ℕ) → d ∈ run3 t → cluster3 t (ownId d) ≡ cluster3 u (ownId d)
+  one-clusters =
+      same (buffer3 u) one-buffer (run3 u) one-descriptors (u .connected)
+    where
+      same : (ks : List (List ℕ)) → buffer3 t ≡ ks → (ds : List (List ℕ)) → run3 t ≡ ds → (c : Connected (third ks) ds)
+          → (d : List ℕ) → d ∈ run3 t → cluster3 t (ownId d) ≡ c .cluster (ownId d)
+      same ks e ds f =
+          subst (λ (l : List (List ℕ)). (c : Connected (third l) ds) (d : List ℕ) → d ∈ run3 t → cluster3 t (ownId d) ≡ c .cluster (ownId d)) e
+          (subst (λ (x : List (List ℕ)). (c : Connected (third (buffer3 t)) x) (d : List ℕ) → d ∈ run3 t → cluster3 t (ownId d) ≡ c .cluster (ownId d)) f
+          (clusters-one (t .connected)))
+
+-- the record, byte by byte, of a descriptor that has its layout
+kind-shown : (d : List ℕ) → LaidOut d → ShownKind (byte d 2) (saidBy d .kind)
+unfolding factsOf
+kind-shown d o = of (told d)
+  where
+    at : {n k : ℕ} → byte d 2 ≡ n → ShownKind n k → ShownKind (byte d 2) k
+    at {k = k} e x = subst (λ (n : ℕ). ShownKind n k) (sym e) x
+
+    of : {e : Entity} → Told d e → ShownKind (byte d 2) (factsOf e .kind)
+    of (unknown n) = absurd (n o)
+    of (input l k i) = at k shown.input
+    of (output l k i) = at k shown.output
+    of (mixer l k q i) = at k shown.mixer
+    of (selector l k q i) = at k shown.selector
+    of (feature l k i) = at k shown.feature
+    of (clock l k i) = at k shown.clock
+
+module _ (ks : List (List ℕ)) (d c : List ℕ) (o : LaidOut d) where
+  source-byte : (j : ℕ) → j < mostPins → byte (recordFor (third ks) d (shownCluster c)) (headSize + j) ≡ byte (sources (third ks) d) j
+  unfolding recordFor
+  source-byte j h =
+      getD-append-add (frontOf (ownId d) (saidBy d .kind) (length (sources (third ks) d)) (shownCluster c)) (pad 0 mostPins (sources (third ks) d)) j 0
+      ∙ pad-at 0 mostPins (sources (third ks) d) j h
+
+  few : length (sources (third ks) d) ≤ mostPins
+  few = let m = pins-few d in let i = sources-within d in simp (length-take, length-drop) (omega arith)
+
+  bytes-told : ThirdRecord ks d c (recordFor (third ks) d (shownCluster c))
+  unfolding recordFor
+  bytes-told = record {
+    long = record-long (third ks) d (shownCluster c);
+    id = refl;
+    kind = kind-shown d o;
+    channels = refl;
+    no-bitmap = (refl, refl);
+    no-name = refl;
+    pins = refl;
+    spare = refl;
+    source = λ j h. source-byte j (let m = few in omega arith);
+    unused = λ j h l. source-byte j l ∙ List·getD-eq-default (sources (third ks) d) 0 h;
+  }
+
+-- nothing leaves a Clock Source
+clock-out : (ks : List (List ℕ)) (d : List ℕ) (cl : ℕ → List ℕ) → saidBy d .kind ≡ 0x0B → givesOut ks d (map cl (sources (third ks) d)) ≡ []
+unfolding factsOf givesOut firstOf
+clock-out ks d cl e = of (entityOf d) refl e
+  where
+    of : (x : Entity) → entityOf d ≡ x → factsOf x .kind ≡ 0x0B → givesOut ks d (map cl (sources (third ks) d)) ≡ []
+    of Unknown q k = absurd (let z : _≡_ {A = ℕ} 0 0x0B = k in omega arith)
+    of (Input i j) q k = absurd (omega arith)
+    of (Output i j) q k = absurd (omega arith)
+    of (Mixer i j) q k = absurd (omega arith)
+    of (Selector i) q k = absurd (omega arith)
+    of (Feature i) q k = absurd (omega arith)
+    of Clock q k = rw q refl
+
+module _ (s b : List ℕ) (t : ThirdConfiguration s b) where
+  laid : (i : ℕ) → i < length (run3 t) → LaidOut (getD (run3 t) i [])
+  laid i l = t .kept .rule9 (getD (run3 t) i []) (member-at [] (run3 t) i l)
+
+  accepted-for : (room : ℕ) → Rule16 (run3 t) room → thirdVerdict s b room .number ≡ 0
+  accepted-for room h = third-accepted s b room .1 (t, h)
+
+  answer-shows : (room : ℕ) → Rule16 (run3 t) room → thirdAnswer s b room ≡ record { number = 0; place = 0; entities = length (run3 t) }
+  unfolding runIn
+  answer-shows room h = answer-taken s b room (accepted-for room h) ∙ ap (λ (r : Run). record { number = 0; place = 0; entities = r .count }) (run-kept s b (t .kept))
+
+  clusters-on : (i : ℕ) → i < length (run3 t)
+      → getD (clustersShown s b (entitiesThird (t .kept))) i noCluster ≡ shownCluster (cluster3 t (ownId (getD (run3 t) i [])))
+  clusters-on =
+      subst (λ (ks : List (List ℕ)). Represents (third ks) s (placeIn3 (t .kept)) (run3 t) (entitiesThird (t .kept)) → (c : Connected (third ks) (run3 t)) (i : ℕ) → i < length (run3 t)
+      → getD (clustersShown s b (entitiesThird (t .kept))) i noCluster ≡ shownCluster (c .cluster (ownId (getD (run3 t) i []))))
+      (buffer-pieces b (t .kept .rule51))
+      (λ r. third-shown r (t .kept .rule51))
+      (represented s b (t .kept)) (t .connected)
+
+  sheet-shows : (d : List ℕ) → Rule16 (run3 t) (length d)
+      → thirdSheet s b d ≡ recordsFor (third (buffer3 t)) (run3 t) (λ x. shownCluster (cluster3 t x)) ++ drop (length (run3 t) * recordSize) d
+  unfolding thirdSheet
+  sheet-shows d h =
+      yes _ _ (eq-eqb _ _ (accepted-for (length d) h))
+      ∙ ap (λ (r : Run). shownIn s r (clustersShown s b r) d) (run-kept s b (t .kept))
+      ∙ shown-same (represented s b (t .kept)) (clustersShown s b (entitiesThird (t .kept))) (λ x. shownCluster (cluster3 t x)) clusters-on d h
+
+  record-shows : (d : List ℕ) → Rule16 (run3 t) (length d) → (i : ℕ) → i < length (run3 t)
+      → take recordSize (drop (i * recordSize) (thirdSheet s b d))
+      ≡ recordFor (third (buffer3 t)) (getD (run3 t) i []) (shownCluster (cluster3 t (ownId (getD (run3 t) i []))))
+  record-shows d h i l =
+      ap (λ (x : List ℕ). take recordSize (drop (i * recordSize) x)) (sheet-shows d h)
+      ∙ record-at (third (buffer3 t)) (run3 t) (λ x. shownCluster (cluster3 t x)) i l (drop (length (run3 t) * recordSize) d)
+
+  record-bytes : (d : List ℕ) → Rule16 (run3 t) (length d) → (i : ℕ) → i < length (run3 t)
+      → ThirdRecord (buffer3 t) (getD (run3 t) i []) (cluster3 t (ownId (getD (run3 t) i []))) (take recordSize (drop (i * recordSize) (thirdSheet s b d)))
+  record-bytes d h i l = rw (record-shows d h i l) (bytes-told (buffer3 t) (getD (run3 t) i []) (cluster3 t (ownId (getD (run3 t) i []))) (laid i l))
+
+  room-enough : (room : ℕ) → 1024 ≤ room → Rule16 (run3 t) room
+  room-enough room h = let m = t .kept .rule8 .1 in omega arith
+
+pub third-demand : (s b : List ℕ) → ThirdDemand s b
+third-demand s b = record {
+  accepted = λ d h. (λ e. third-accepted s b (length d) .0 (sym (answer-number s b (length d)) ∙ e) .0, λ t. answer-number s b (length d) ∙ accepted-for s b t (length d) (room-enough s b t (length d) h));
+  refused = refused-both s b;
+  refuses = refuses s b;
+  one-cutting = one-cutting s b;
+  one-buffer = one-buffer s b;
+  one-descriptors = one-descriptors s b;
+  one-clusters = one-clusters s b;
+  from-buffer = λ t d m n. cluster-in-buffer (buffer3 t) (run3 t) (t .connected) (t .rule52) d m (t .kept .rule9 d m) n;
+  clock-without = λ t d m e. t .connected .given-out d m ∙ clock-out (buffer3 t) d (cluster3 t) e;
+  named = λ t d m e. cluster-named (buffer3 t) (run3 t) (t .connected) (t .rule52) d m e .1;
+  answer-shows = answer-shows s b;
+  sheet-shows = sheet-shows s b;
+  record-shows = record-shows s b;
+  record-bytes = record-bytes s b;
+}
