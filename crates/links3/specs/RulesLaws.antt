@@ -5,7 +5,8 @@
 --   reads-wrong-clock  ==  the test at an index decides that a Terminal's clock ID is no Clock Source's
 --   clocks-nowhere   ==  breachClock is nowhere exactly where the clocks are named
 --   rule11-third-nowhere, rule11-third-at  ==  breach11Third is nowhere exactly where rule 11 is kept, and at q exactly where q is the place of the
---                        first descriptor that has a wrong source ID or a wrong clock ID; both where rule 10 is kept
+--                        first descriptor that has a wrong source ID or a wrong clock ID; both where rule 10 is kept, the second where no
+--                        descriptor is empty, so that places rise
 --   reads-cluster-of ==  the search of a buffer for an ID decides that none of its cluster descriptors bears it
 --   reads-unknown-cluster  ==  the test at an index decides that the entity names a cluster by an unknown ID
 --   rule52-nowhere, rule52-at  ==  breach52 is nowhere exactly where rule 52 is kept, and at q exactly where q is the place of the first
