@@ -223,9 +223,22 @@ module _ (s b : List ℕ) (room : ℕ) where
       from (t, z) =
           let k = t .kept in
           let c = t .connected in
-          all-four s (λ o. thirdRows o b (λ x. keptThirdRows x room)) (k .opened)
-          (k .rule5, (k .rule6, (k .rule8, (k .rule51, (k .rule9,
-          (c .rule10, (rule11-third-parts (clustersIn k) (runIn3 k) .1 (c .rule11, t .clocks), (ranks-by (represented s b k) b (k .rule51) (buffer-pieces b (k .rule51)) (some s b k room) c, (t .rule52, ((c .cluster, c .given-out, c .fits), (z, tt)))))))))))
+          all-four s (λ o. thirdRows o b (λ x. keptThirdRows x room)) (k .opened) (
+            k .rule5,
+            (
+              k .rule6,
+              (
+                k .rule8,
+                (
+                  k .rule51,
+                  (
+                    k .rule9,
+                    (c .rule10, (rule11-third-parts (clustersIn k) (runIn3 k) .1 (c .rule11, t .clocks), (ranks-by (represented s b k) b (k .rule51) (buffer-pieces b (k .rule51)) (some s b k room) c, (t .rule52, ((c .cluster, c .given-out, c .fits), (z, tt)))))),
+                  ),
+                ),
+              ),
+            ),
+          )
 
   -- THE THEOREMS
   pub third-accepted : (thirdVerdict s b room .number ≡ 0) ↔ ShownThird s b room

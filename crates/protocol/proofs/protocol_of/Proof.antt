@@ -25,7 +25,6 @@ module _ (s : List ℕ) (r : Place) (f : r ≡ foundFrom s 0 (want.Audio 1)) whe
 
 ruleset laws = (told, no-control, needs)
 
-
 find-requires : tie.Need-find-requires
 find-requires c κs = search laws
 

@@ -33,7 +33,6 @@ module _ (s b d : List ℕ) (p : ℕ) (e : p ≡ protocolOf s) where
 
 ruleset laws = (by-third, by-first, needs)
 
-
 protocol-of-requires : tie.Need-protocol-of-requires
 protocol-of-requires c κs = search laws
 

@@ -14,7 +14,6 @@ made a t e = rw e refl
 
 ruleset laws = (made, needs)
 
-
 empty-requires : tie.Need-empty-requires
 empty-requires c κs = search laws
 
