@@ -576,6 +576,8 @@ fn spoil(rng: &mut Rng, list: &mut List) {
         }
         _ => {}
     }
+    // a step has no longer one, and damage comes on damage
+    list.entities.iter_mut().for_each(|entity| entity.truncate(FIELDS));
 }
 
 #[cfg(test)]
