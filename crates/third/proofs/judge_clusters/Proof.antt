@@ -93,6 +93,9 @@ returns-2 c = search laws
 enum-told-2 : tie.Need-enum-told-2
 enum-told-2 c = search laws
 
+by-index-requires : tie.Need-by-index-requires
+by-index-requires c κs = search laws
+
 returns-3 : tie.Need-returns-3
 returns-3 c = search laws
 
@@ -111,4 +114,5 @@ judge-clusters-spec =
     nothing-found-requires-2
     returns-2
     enum-told-2
+    by-index-requires
     returns-3)
