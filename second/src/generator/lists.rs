@@ -583,14 +583,11 @@ fn spoil(rng: &mut Rng, list: &mut List) {
 #[cfg(test)]
 mod tests {
     use super::*;
+    use crate::generator::rng::steps;
 
     #[test]
     fn steps_at_random_are_steps() {
-        let mut rng = Rng::new(14);
-        let mut lists = Lists::default();
-        for _ in 0..1500 {
-            random(&mut rng, &mut lists);
-        }
+        let lists: Lists = steps(14, 1500, random);
         assert_eq!(writer::program(&lists.tape.bytes), lists.tape.printed);
         for way in OWN {
             assert!(lists.reach.ways.contains_key(&way), "{}", way.words());
