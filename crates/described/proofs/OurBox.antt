@@ -11,13 +11,13 @@ use Rattle.ground.specs.Rows.{answers-kept, answers-broken}
 use Rattle.fields.specs.Listed.{Listed}
 use Rattle.laying.specs.LayingLaws.{long-printed}
 use Rattle.writing.specs.declared.Wrote.{Wrote}
-use Rattle.writing.specs.Writing.{writtenOf, verdictOf, writerRows, Writes}
+use Rattle.writing.specs.Writing.{writtenOf, writerVerdict, writerRows, Writes}
 use Rattle.described.specs.OurBox.{OurBox}
 use Rattle.described.proofs.Refused.{verdict-answers, numbered}
 use Rattle.described.proofs.Trips.{read-back-same, written-same}
 
 module _ (ls : List Listed) (cs before after : List ℕ) (r : Wrote) (w : Writes ls cs before after r) where
-  number : r .number ≡ verdictOf ls cs (length before) .number
+  number : r .number ≡ writerVerdict ls cs (length before) .number
   number = ap (λ (x : Refusal). x .number) (w .refused)
 
   untouched : (r .number ≡ 0 → ⊥) → (after ≡ before) × (r .written ≡ 0)
@@ -35,8 +35,8 @@ module _ (ls : List Listed) (cs before after : List ℕ) (r : Wrote) (w : Writes
 
 pub our-box : OurBox
 our-box = record {
-  refused = λ ls cs m n p z. answers-broken (writerRows ls cs m) (verdictOf ls cs m) (numbered ls cs m) (verdict-answers ls cs m) n p z;
-  accepted = λ ls cs m. answers-kept (writerRows ls cs m) (verdictOf ls cs m) (numbered ls cs m) (verdict-answers ls cs m);
+  refused = λ ls cs m n p z. answers-broken (writerRows ls cs m) (writerVerdict ls cs m) (numbered ls cs m) (verdict-answers ls cs m) n p z;
+  accepted = λ ls cs m. answers-kept (writerRows ls cs m) (writerVerdict ls cs m) (numbered ls cs m) (verdict-answers ls cs m);
   withdrawn = λ i n s h. record { kind = refl; pins = h; long = long-printed i n s; pad = refl };
   untouched = untouched;
   stays = stays;

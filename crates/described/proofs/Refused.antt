@@ -20,11 +20,11 @@ use Rattle.layout.specs.Withdrawn.{Printed}
 use Rattle.edition.specs.Audio.{audio}
 use Rattle.entities.specs.Run.{mostEntities}
 use Rattle.cutting.specs.Rules1to9.{Rule8}
-use Rattle.fields.specs.Listed.{Listed, wrong, laid, printed, descriptorOf}
+use Rattle.fields.specs.Listed.{Listed, wrong, laid, printed, writtenAs}
 use Rattle.laying.specs.LayingLaws.{long-printed}
-use Rattle.indices.specs.Indices.{judgedThen}
+use Rattle.indices.specs.Indices.{indexedThen}
 use Rattle.indices.specs.IndexLaws.{FirstIndex, judged-rows}
-use Rattle.writing.specs.Writing.{mostNumbers, descriptorsOf, wholeOf, WrongIn, wrongIn, breach8, breach9, entitiesThen, breach47, breach48, roomThen, verdictOf, entityRows, roomRows, writerRows}
+use Rattle.writing.specs.Writing.{mostNumbers, descriptorsOf, wholeOf, WrongIn, wrongIn, breach8, breach9, entitiesThen, breach47, breach48, roomThen, writerVerdict, entityRows, roomRows, writerRows}
 use Rattle.writing.specs.LaidLaws.{reads-wrong-in}
 
 -- no bytes are no layout
@@ -35,7 +35,7 @@ pub empty-unprinted : Printed [] → ⊥
 empty-unprinted p = let k = p .kind in omega arith
 
 -- what is laid, and not wrong, tells its own length first
-listed-descriptor : (l : Listed) → (WrongIn (descriptorOf l) → ⊥) → Descriptor (descriptorOf l)
+listed-descriptor : (l : Listed) → (WrongIn (writtenAs l) → ⊥) → Descriptor (writtenAs l)
 listed-descriptor wrong n = absurd (n (inl (empty-unlaid, empty-unprinted)))
 listed-descriptor (laid f) n = record { long = omega arith; own = refl }
 listed-descriptor (printed i s k) n = let e = long-printed i k s in record { long = omega arith; own = sym e }
@@ -43,7 +43,7 @@ listed-descriptor (printed i s k) n = let e = long-printed i k s in record { lon
 pub all-descriptors : (ls : List Listed) → ((d : List ℕ) → d ∈ descriptorsOf ls → WrongIn d → ⊥) → (d : List ℕ) → d ∈ descriptorsOf ls → Descriptor d
 all-descriptors [] h d m = absurd (List·Memᴰ·not-nil m)
 all-descriptors (l ∷ ls) h d m =
-    ⊎-elim (λ e. rw e (listed-descriptor l (h (descriptorOf l) (List·Memᴰ·head refl)))) (λ k. all-descriptors ls (λ x j. h x (List·Memᴰ·tail j)) d k) (List·Memᴰ·cases-cons m)
+    ⊎-elim (λ e. rw e (listed-descriptor l (h (writtenAs l) (List·Memᴰ·head refl)))) (λ k. all-descriptors ls (λ x j. h x (List·Memᴰ·tail j)) d k) (List·Memᴰ·cases-cons m)
 
 module _ (ds : List (List ℕ)) where
   decides-8 : Decides (breach8 ds) (Rule8 ds) (λ q. (q ≡ 0) × (Rule8 ds → ⊥))
@@ -77,20 +77,20 @@ module _ (ls : List Listed) where
   unfolding entitiesThen
   entity-answers behind r h = (
     breach8 ds,
-    refuse 9 (breach9 ds) (judgedThen (flatten ds) r),
+    refuse 9 (breach9 ds) (indexedThen (flatten ds) r),
     refl,
     decides-8 ds,
     λ m. (
       breach9 ds,
-      judgedThen (flatten ds) r,
+      indexedThen (flatten ds) r,
       refl,
       decides-9 ds,
       λ l. judged-rows ds (all-descriptors ls l) (λ d i w. l d i (inl w)) (m .1) (λ w a b c e. behind) r (λ w a b c e. h),
     ),
   )
 
-  pub verdict-answers : (cs : List ℕ) (m : ℕ) → Answers (writerRows ls cs m) (verdictOf ls cs m)
-  unfolding verdictOf
+  pub verdict-answers : (cs : List ℕ) (m : ℕ) → Answers (writerRows ls cs m) (writerVerdict ls cs m)
+  unfolding writerVerdict
   verdict-answers cs m = entity-answers (roomRows cs (flatten ds) m) (roomThen cs (flatten ds) m) (room-answers cs (flatten ds) m)
 
   pub numbered : (cs : List ℕ) (m : ℕ) → Numbered (writerRows ls cs m)

@@ -35,8 +35,8 @@ use Rattle.entities.specs.RepresentsLaws.{run-represents}
 use Rattle.clusters.specs.Rule13.{Connected}
 use Rattle.connections.specs.JudgementLaws.{connected-with, connected-kept}
 use Rattle.reader.specs.Configuration.{runOf, Configuration}
-use Rattle.fields.specs.Listed.{Listed, wrong, laid, printed, descriptorOf, foundAs, foundIn}
-use Rattle.writing.specs.Writing.{mostNumbers, descriptorsOf, headerOf, wholeOf, writtenOf, WrongIn, entityRows, roomRows, writerRows, verdictOf}
+use Rattle.fields.specs.Listed.{Listed, wrong, laid, printed, writtenAs, foundAs, foundIn}
+use Rattle.writing.specs.Writing.{mostNumbers, descriptorsOf, headerOf, wholeOf, writtenOf, WrongIn, entityRows, roomRows, writerRows, writerVerdict}
 use Rattle.described.specs.OurBox.{EntitiesKeep, Within, listRead, collectionRead, bytesOfBoth, ReadBack, WrittenAgain}
 use Rattle.described.proofs.Refused.{all-descriptors, empty-unlaid, empty-unprinted, verdict-answers}
 
@@ -63,9 +63,9 @@ kept-of (feature i s z k n) o =
     (reads-and _ _ (reads-within 1 z 4) (reads-true _) .says t .0, tt)
 
 -- a printed Selector has no layout: its length is one more than a Selector's
-printed-none : (i : ℕ) (s : List ℕ) (k : ℕ) → LaidOut (descriptorOf (printed i s k)) → ⊥
+printed-none : (i : ℕ) (s : List ℕ) (k : ℕ) → LaidOut (writtenAs (printed i s k)) → ⊥
 printed-none i s k o =
-    let d = descriptorOf (printed i s k) in
+    let d = writtenAs (printed i s k) in
     let t = passed (fits (formatOf kind.selector) d 3) _ _ (laid-only d o) in
     let e : length d ≡ 4 + 1 + length s + 1 = reads-and _ _ (reads-within 1 (length s) mostPins) (reads-eq (length d) (4 + 1 + length s + 1)) .says t .1 in
     let n = length-append s (k ∷ []) in
@@ -73,27 +73,27 @@ printed-none i s k o =
 
 -- ---- a list that keeps the rules is found again in its descriptors
 
-found-one : (l : Listed) → (WrongIn (descriptorOf l) → ⊥) → (audio .Withdrawn (descriptorOf l) → ⊥) → foundIn (descriptorOf l) ≡ l
+found-one : (l : Listed) → (WrongIn (writtenAs l) → ⊥) → (audio .Withdrawn (writtenAs l) → ⊥) → foundIn (writtenAs l) ≡ l
 unfolding foundIn
 found-one wrong n w = absurd (n (inl (empty-unlaid, empty-unprinted)))
 found-one (laid f) n w = ap foundAs (read-back f (kept-of f (⊎-elim (λ x. x) (λ x. absurd (w x)) (layout-or (bytesOf f) (λ x. n (inl x))))))
-found-one (printed i s k) n w = absurd (⊎-elim (printed-none i s k) w (layout-or (descriptorOf (printed i s k)) (λ x. n (inl x))))
+found-one (printed i s k) n w = absurd (⊎-elim (printed-none i s k) w (layout-or (writtenAs (printed i s k)) (λ x. n (inl x))))
 
 found-all : (ls : List Listed) → ((d : List ℕ) → d ∈ descriptorsOf ls → WrongIn d → ⊥) → NoneWithdrawn audio (descriptorsOf ls) → map foundIn (descriptorsOf ls) ≡ ls
 found-all [] n w = refl
 found-all (l ∷ ls) n w =
-    let one = found-one l (n (descriptorOf l) (List·Memᴰ·head refl)) (w (descriptorOf l) (List·Memᴰ·head refl)) in
+    let one = found-one l (n (writtenAs l) (List·Memᴰ·head refl)) (w (writtenAs l) (List·Memᴰ·head refl)) in
     let more = found-all ls (λ d m. n d (List·Memᴰ·tail m)) (λ d m. w d (List·Memᴰ·tail m)) in
     rw (one, more) refl
 
-class-one : (l : Listed) → (WrongIn (descriptorOf l) → ⊥) → Class (descriptorOf l)
+class-one : (l : Listed) → (WrongIn (writtenAs l) → ⊥) → Class (writtenAs l)
 class-one wrong n = absurd (n (inl (empty-unlaid, empty-unprinted)))
 class-one (laid f) n = refl
 class-one (printed i s k) n = refl
 
 class-all : (ls : List Listed) → ((d : List ℕ) → d ∈ descriptorsOf ls → WrongIn d → ⊥) → (d : List ℕ) → d ∈ descriptorsOf ls → Class d
 class-all [] n d m = absurd (List·Memᴰ·not-nil m)
-class-all (l ∷ ls) n d m = ⊎-elim (λ e. rw e (class-one l (n (descriptorOf l) (List·Memᴰ·head refl)))) (λ k. class-all ls (λ x j. n x (List·Memᴰ·tail j)) d k) (List·Memᴰ·cases-cons m)
+class-all (l ∷ ls) n d m = ⊎-elim (λ e. rw e (class-one l (n (writtenAs l) (List·Memᴰ·head refl)))) (λ k. class-all ls (λ x j. n x (List·Memᴰ·tail j)) d k) (List·Memᴰ·cases-cons m)
 
 -- ---- what stands behind the AudioControl interface
 
@@ -258,13 +258,13 @@ module _ (s : List ℕ) (t : Configuration s) (b : Bytes s) where
   short : (d : List ℕ) → d ∈ k .opened .tail → length d ≤ 255
   short d m = let o = tail-each (k .opened) d m .own in let l = tail-small d m 0 in omega arith
 
-  one-again : (d : List ℕ) → d ∈ run → descriptorOf (foundIn d) ≡ d
+  one-again : (d : List ℕ) → d ∈ run → writtenAs (foundIn d) ≡ d
   unfolding foundIn
   one-again d m =
       let l = k .rule9 d m in
-      ap (λ (o : Option Fields). descriptorOf (foundAs o)) (laid-only d l) ∙ sym (laid-whole d l (run-each d m .own) (k .rule6 .class d m))
+      ap (λ (o : Option Fields). writtenAs (foundAs o)) (laid-only d l) ∙ sym (laid-whole d l (run-each d m .own) (k .rule6 .class d m))
 
-  each-again : (ds : List (List ℕ)) → ((d : List ℕ) → d ∈ ds → descriptorOf (foundIn d) ≡ d) → descriptorsOf (map foundIn ds) ≡ ds
+  each-again : (ds : List (List ℕ)) → ((d : List ℕ) → d ∈ ds → writtenAs (foundIn d) ≡ d) → descriptorsOf (map foundIn ds) ≡ ds
   each-again [] f = refl
   each-again (d ∷ ds) f =
       let one = f d (List·Memᴰ·head refl) in
@@ -322,5 +322,5 @@ module _ (s : List ℕ) (t : Configuration s) (b : Bytes s) where
   written-same = record {
     stands = stands;
     same = same;
-    accepted = λ m r. all-none (writerRows (listRead t) (collectionRead t) m) (verdictOf (listRead t) (collectionRead t) m) (verdict-answers (listRead t) (collectionRead t) m) (rw run-again (kept-rows m r));
+    accepted = λ m r. all-none (writerRows (listRead t) (collectionRead t) m) (writerVerdict (listRead t) (collectionRead t) m) (verdict-answers (listRead t) (collectionRead t) m) (rw run-again (kept-rows m r));
   }

@@ -36,9 +36,9 @@ use Rattle.clusters.specs.Rule13.{GivenOut}
 use Rattle.streaming.specs.Rule14.{Rule14}
 use Rattle.controls.specs.Rule15.{Rule15}
 use Rattle.reader.specs.Configuration.{runOf, Configuration}
-use Rattle.fields.specs.Listed.{Listed, printed, descriptorOf, foundIn}
+use Rattle.fields.specs.Listed.{Listed, printed, writtenAs, foundIn}
 use Rattle.writing.specs.declared.Wrote.{Wrote}
-use Rattle.writing.specs.Writing.{mostNumbers, descriptorsOf, writtenOf, entityRows, writerRows, verdictOf, Writes}
+use Rattle.writing.specs.Writing.{mostNumbers, descriptorsOf, writtenOf, entityRows, writerRows, writerVerdict, Writes}
 
 abbrev pub EntitiesKeep : List Listed → Type 0
 EntitiesKeep ls = AllKept (entityRows (descriptorsOf ls) end)
@@ -77,13 +77,13 @@ pub record ReadBack (s : List ℕ) (ls : List Listed) (cs : List ℕ) : Type 0 w
 pub record WrittenAgain (s : List ℕ) (t : Configuration s) : Type 0 where
   pub stands : take (length (bytesOfBoth t)) (drop (headerPlace (t .kept .opened)) s) ≡ bytesOfBoth t
   pub same : writtenOf (listRead t) (collectionRead t) ≡ bytesOfBoth t
-  pub accepted : (m : ℕ) → length (bytesOfBoth t) ≤ m → verdictOf (listRead t) (collectionRead t) m ≡ none
+  pub accepted : (m : ℕ) → length (bytesOfBoth t) ≤ m → writerVerdict (listRead t) (collectionRead t) m ≡ none
 
 pub record OurBox : Type 0 where
   pub refused : (ls : List Listed) (cs : List ℕ) (m n p : ℕ) → (n ≡ 0 → ⊥)
-      → (verdictOf ls cs m ≡ record { number = n; place = p }) ↔ FirstBroken (writerRows ls cs m) n p
-  pub accepted : (ls : List Listed) (cs : List ℕ) (m : ℕ) → (verdictOf ls cs m .number ≡ 0) ↔ AllKept (writerRows ls cs m)
-  pub withdrawn : (i n : ℕ) (s : List ℕ) → Pins (length s) → Printed (descriptorOf (printed i s n))
+      → (writerVerdict ls cs m ≡ record { number = n; place = p }) ↔ FirstBroken (writerRows ls cs m) n p
+  pub accepted : (ls : List Listed) (cs : List ℕ) (m : ℕ) → (writerVerdict ls cs m .number ≡ 0) ↔ AllKept (writerRows ls cs m)
+  pub withdrawn : (i n : ℕ) (s : List ℕ) → Pins (length s) → Printed (writtenAs (printed i s n))
   pub untouched : (ls : List Listed) (cs before after : List ℕ) (r : Wrote) → Writes ls cs before after r → (r .number ≡ 0 → ⊥) → (after ≡ before) × (r .written ≡ 0)
   pub stays : (ls : List Listed) (cs before after : List ℕ) (r : Wrote) → Writes ls cs before after r → r .number ≡ 0
       → (take (r .written) after ≡ writtenOf ls cs) × (drop (r .written) after ≡ drop (r .written) before)

@@ -20,14 +20,15 @@ use Rattle.topology.specs.Reading.{readingOf, sheetOf}
 use Rattle.request.specs.declared.State.{State}
 use Rattle.request.specs.declared.Plugged.{Plugged}
 use Rattle.request.specs.Plugged.{stateOf}
-use Rattle.duet.specs.declared.Side.{Side}
+use Rattle.sides.specs.declared.Side.{Side}
+use Rattle.sides.specs.Sides.{mostTogether, admissionBy}
 use Rattle.duet.specs.declared.Duet.{Duet}
 use Rattle.duet.specs.declared.Admitted.{Admitted}
-use Rattle.duet.specs.Box.{mostTogether, withSocket}
-use Rattle.duet.specs.Plugging.{Plugging, admissionBy, admittedBy, turnedAway, welcomed, Settled, plugAnswer, sheetAfter, AdmittedIn}
+use Rattle.duet.specs.Box.{withSocket}
+use Rattle.duet.specs.Plugging.{Plugging, admittedBy, turnedAway, welcomed, Settled, plugAnswer, sheetAfter, AdmittedIn}
 use Rattle.duet.specs.Plugging.Plugging.{refused, taken}
 use Rattle.duet.specs.PluggingLaws.{turned}
-use Rattle.duet.specs.Drafts.{wholeSheet, Drafted}
+use Rattle.duet.specs.Drafts.{draftSize, Drafted}
 use Rattle.duet.proofs.Drafted.{draft-reading, records-inside, records-held, records-copied}
 
 -- what is judged of the numbers is what the reading comes to
@@ -46,13 +47,13 @@ judged met r = go (eqb (r .number) 0) (reads-eq (r .number) 0) (leb (met + r .co
     go true h false = record { accepts = λ e. absurd (omega arith); refuses = λ n. refl }
     go false h b = record { accepts = λ e. absurd (h .denies refl e); refuses = λ n. refl }
 
-module _ (b : Duet) (k : Side) (met : ℕ) (s z d : List ℕ) (long : length z ≡ wholeSheet) (q : Plugged) (y : List ℕ)
-    (p : Drafted s (min (length d) wholeSheet) z q y) (x : Refusal) (f : x ≡ admissionBy (q .reading .number) (q .reading .place) (q .reading .controls) met) where
+module _ (b : Duet) (k : Side) (met : ℕ) (s z d : List ℕ) (long : length z ≡ draftSize) (q : Plugged) (y : List ℕ)
+    (p : Drafted s (min (length d) draftSize) z q y) (x : Refusal) (f : x ≡ admissionBy (q .reading .number) (q .reading .place) (q .reading .controls) met) where
   abbrev R : Reading
   R = readingOf s (length d)
 
   abbrev m : ℕ
-  m = min (length d) wholeSheet
+  m = min (length d) draftSize
 
   same : readingOf s m ≡ R
   same = draft-reading s (length d)

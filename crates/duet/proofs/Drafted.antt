@@ -29,28 +29,28 @@ use Rattle.topology.specs.Reading.{judgedThen, roomJudged, verdictOf, refusedRe
 use Rattle.reader.specs.Refusals.{Shown}
 use Rattle.reader.proofs.Exactly.{accepted-exactly}
 use Rattle.reader.proofs.Shows.{number-told, answer-shows, sheet-shows, run, cluster}
-use Rattle.duet.specs.Drafts.{wholeSheet}
+use Rattle.duet.specs.Drafts.{draftSize}
 
 module _ (s : List ℕ) where
-  enough : (room : ℕ) → wholeSheet ≤ room → roomFor (surveyOf s .run) room ≡ true
+  enough : (room : ℕ) → draftSize ≤ room → roomFor (surveyOf s .run) room ≡ true
   unfolding roomFor
   enough room h = le-leb (held (surveyOf s .run) * recordSize) room (omega arith)
 
-  verdict-enough : (room : ℕ) → wholeSheet ≤ room → verdictOf s room ≡ verdictOf s wholeSheet
+  verdict-enough : (room : ℕ) → draftSize ≤ room → verdictOf s room ≡ verdictOf s draftSize
   unfolding verdictOf roomJudged
   verdict-enough room h =
-      ap (λ (b : Bool). judgedThen s (refuse 16 (keptAt b (surveyOf s .header)) none)) (enough room h ∙ sym (enough wholeSheet (omega arith)))
+      ap (λ (b : Bool). judgedThen s (refuse 16 (keptAt b (surveyOf s .header)) none)) (enough room h ∙ sym (enough draftSize (omega arith)))
 
-  pub room-enough : (room : ℕ) → wholeSheet ≤ room → readingOf s room ≡ readingOf s wholeSheet
+  pub room-enough : (room : ℕ) → draftSize ≤ room → readingOf s room ≡ readingOf s draftSize
   unfolding readingOf
   room-enough room h = ap (λ (v : Refusal). pick (eqb (v .number) 0) (takenReading s (surveyOf s)) (refusedReading v)) (verdict-enough room h)
 
-  pub draft-reading : (room : ℕ) → readingOf s (min room wholeSheet) ≡ readingOf s room
+  pub draft-reading : (room : ℕ) → readingOf s (min room draftSize) ≡ readingOf s room
   draft-reading room =
       ⊎-elim
-      (λ (h : room < wholeSheet). let e : min room wholeSheet ≡ room = omega arith in ap (readingOf s) e)
-      (λ (n : room < wholeSheet → ⊥). let e : min room wholeSheet ≡ wholeSheet = omega arith in ap (readingOf s) e ∙ sym (room-enough room (omega arith)))
-      (decided (ltb room wholeSheet) (reads-lt room wholeSheet))
+      (λ (h : room < draftSize). let e : min room draftSize ≡ room = omega arith in ap (readingOf s) e)
+      (λ (n : room < draftSize → ⊥). let e : min room draftSize ≡ draftSize = omega arith in ap (readingOf s) e ∙ sym (room-enough room (omega arith)))
+      (decided (ltb room draftSize) (reads-lt room draftSize))
 
   shown : (room : ℕ) → readingOf s room .number ≡ 0 → Shown s room
   shown room e = accepted-exactly s room .0 (sym (number-told s room) ∙ e)

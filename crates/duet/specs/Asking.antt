@@ -1,9 +1,5 @@
 -- Loads and requests: "Presented interface 0 is the left AudioControl, 1 the right; the duet box puts in the microphone's own number and hands the
 -- request down."
---   addresseeBy n     ==  whom the presented number n names: the left side, the right, or nobody: "a presented number other than 0 and 1 is 32"
---   addresseeOf k     ==  whom a request that asks k is for: nobody where 31 is given
---   addresseeNumber a ==  the paper's number for each case: 31 or 32 where it is nobody's, 0 else
---   ownSetup m s      ==  the setup s, of eight bytes, with the microphone's own number m for the presented one
 --   requestOn b k s d room  ==  30, then the request at the socket of the side k
 --   handedTo x s d room  ==  the request at the socket x: 63 where it is empty, else what the request layer answers
 --   askedOn b a s d room ==  .. of the side that it is for
@@ -19,44 +15,25 @@
 use Prim.Native.Nat.{ℕ}
 use mathlib.Core.Path.{_≡_}
 use mathlib.Core.Bool.{true}
-use mathlib.Core.List.{List, [], _∷_}
-use lib.Dec.{eqb}
+use mathlib.Core.List.{List}
 use lib.ListN.{length}
 use Rattle.ground.specs.Pick.{pick}
-use Rattle.ground.specs.Numbers.{byte}
 use Rattle.setting.specs.declared.Range.{Range}
 use Rattle.deed.specs.Reply.{laid}
-use Rattle.setup.specs.declared.Asked.{Asked}
-use Rattle.setup.specs.declared.Asked.the-variants as asks
 use Rattle.setup.specs.Setup.{askedOf}
 use Rattle.request.specs.declared.Answer as request
 use Rattle.request.specs.Outcome.{Outcome, numberOf, bytesOf, stateAfter}
 use Rattle.request.specs.Outcome.Outcome.{refused}
 use Rattle.request.specs.Load.{loadOf}
 use Rattle.request.specs.Request.{requestOf}
-use Rattle.duet.specs.declared.Side.{Side}
-use Rattle.duet.specs.declared.Side.the-variants.{Left, Right}
-use Rattle.duet.specs.declared.Addressee.{Addressee}
-use Rattle.duet.specs.declared.Addressee.the-variants.{Nobody, At}
+use Rattle.sides.specs.declared.Side.{Side}
+use Rattle.sides.specs.declared.Addressee.{Addressee}
+use Rattle.sides.specs.declared.Addressee.the-variants.{Nobody, At}
+use Rattle.sides.specs.Sides.{addresseeOf, ownSetup}
 use Rattle.duet.specs.declared.Socket.{Socket}
 use Rattle.duet.specs.declared.Duet.{Duet}
 use Rattle.duet.specs.declared.Answer.{Answer}
 use Rattle.duet.specs.Box.{socketOf, withSocket, soundDuet}
-
-unfoldable pub addresseeBy : ℕ → Addressee
-addresseeBy n = pick (eqb n 0) (At Left) (pick (eqb n 1) (At Right) (Nobody 32))
-
-abbrev pub addresseeOf : Asked → Addressee
-addresseeOf asks.Unknown = Nobody 31
-addresseeOf (asks.Set g) = addresseeBy (g .interface)
-addresseeOf (asks.Get part g) = addresseeBy (g .interface)
-
-abbrev pub addresseeNumber : Addressee → ℕ
-addresseeNumber (Nobody n) = n
-addresseeNumber (At k) = 0
-
-abbrev pub ownSetup : ℕ → List ℕ → List ℕ
-ownSetup m s = byte s 0 ∷ byte s 1 ∷ byte s 2 ∷ byte s 3 ∷ m ∷ byte s 5 ∷ byte s 6 ∷ byte s 7 ∷ []
 
 unfoldable pub handedTo : Socket → List ℕ → List ℕ → ℕ → Outcome
 handedTo x s d room = pick (x .plugged) (requestOf (x .state) (ownSetup (x .state .control) s) d room) (refused 63)

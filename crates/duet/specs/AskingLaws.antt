@@ -7,9 +7,9 @@
 --   ask-thirty, ask-empty, ask-handed     ==  the ways of a request for a side
 --   nobody-thirty, nobody-refused, side-asked  ==  the ways of a request
 use Prim.Native.Nat.{ℕ}
-use mathlib.Core.Path.{_≡_, refl, sym, ap, _∙_}
+use mathlib.Core.Path.{_≡_, sym, ap, _∙_}
 use mathlib.Core.Bool.{Bool, true, false, not}
-use mathlib.Core.List.{List, []}
+use mathlib.Core.List.{List}
 use lib.ListN.{length}
 use borrow.Author.Tests.{not-true, not-false}
 use Rattle.ground.specs.Pick.{pick, yes, no}
@@ -24,17 +24,17 @@ use Rattle.request.specs.Outcome.{Outcome, bytesOf, answerOf, Answered}
 use Rattle.request.specs.Outcome.Outcome.{refused}
 use Rattle.request.specs.Load.{loadOf}
 use Rattle.request.specs.Request.{requestOf}
-use Rattle.duet.specs.declared.Side.{Side}
-use Rattle.duet.specs.declared.Side.the-variants.{Left, Right}
-use Rattle.duet.specs.declared.Addressee.{Addressee}
-use Rattle.duet.specs.declared.Addressee.the-variants.{Nobody, At}
+use Rattle.sides.specs.declared.Side.{Side}
+use Rattle.sides.specs.declared.Addressee.{Addressee}
+use Rattle.sides.specs.declared.Addressee.the-variants.{Nobody, At}
+use Rattle.sides.specs.Sides.{addresseeOf, ownSetup}
 use Rattle.duet.specs.declared.Socket.{Socket}
 use Rattle.duet.specs.declared.Duet.{Duet}
 use Rattle.duet.specs.declared.Answer.{Answer}
 use Rattle.duet.specs.Box.{socketOf, withSocket, soundBeside, soundDuet}
 use Rattle.duet.specs.BoxLaws.{kept-socket, unsound-beside, sound-empty, own-or-rest}
 use Rattle.duet.specs.Plugging.{refusal}
-use Rattle.duet.specs.Asking.{ownSetup, handedTo, loadedOn, loadIn, addresseeOf, askedOn, requestOn, requestIn, boxAfter, answerIn, answerFor, answeredBy, HandedDown, AnsweredIn}
+use Rattle.duet.specs.Asking.{handedTo, loadedOn, loadIn, askedOn, requestOn, requestIn, answerIn, answerFor, answeredBy, HandedDown, AnsweredIn}
 
 pub refused-answer : (b : Duet) (k : Side) (n : ℕ) (o : Outcome) → o ≡ refused n → refusal b n ≡ answerIn b k o
 unfolding answerIn

@@ -1,6 +1,5 @@
 -- The duet box (document 02, No. 11): "Two narrators, two microphones, one laptop." Two sides, each empty or with a microphone's state, which is the
 -- request layer's.
---   mostTogether     ==  "It holds at most 192 controls for both sides together"
 --   otherSide k      ==  the side that k is not
 --   socketOf b k     ==  the socket of the side k of the box b
 --   withSocket b k x ==  the box b with x for the socket of k, and the other as it was
@@ -17,14 +16,11 @@ use lib.Dec.{leb}
 use Rattle.ground.specs.Pick.{pick}
 use Rattle.table.specs.Controls.{emptyTable}
 use Rattle.sound.specs.Sound.{soundOf}
-use Rattle.request.specs.declared.State.{State}
-use Rattle.duet.specs.declared.Side.{Side}
-use Rattle.duet.specs.declared.Side.the-variants.{Left, Right}
+use Rattle.sides.specs.declared.Side.{Side}
+use Rattle.sides.specs.declared.Side.the-variants.{Left, Right}
+use Rattle.sides.specs.Sides.{mostTogether}
 use Rattle.duet.specs.declared.Socket.{Socket}
 use Rattle.duet.specs.declared.Duet.{Duet}
-
-abbrev pub mostTogether : ℕ
-mostTogether = 192
 
 abbrev pub otherSide : Side → Side
 otherSide Left = Right

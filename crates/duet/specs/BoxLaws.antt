@@ -14,11 +14,12 @@ use Rattle.ground.specs.Pick.{pick, yes, no}
 use Rattle.sound.specs.Sound.{soundOf}
 use Rattle.request.specs.Outcome.{Outcome}
 use Rattle.request.specs.Outcome.Outcome.{refused}
-use Rattle.duet.specs.declared.Side.{Side}
-use Rattle.duet.specs.declared.Side.the-variants.{Left, Right}
+use Rattle.sides.specs.declared.Side.{Side}
+use Rattle.sides.specs.declared.Side.the-variants.{Left, Right}
+use Rattle.sides.specs.Sides.{mostTogether}
 use Rattle.duet.specs.declared.Socket.{Socket}
 use Rattle.duet.specs.declared.Duet.{Duet}
-use Rattle.duet.specs.Box.{mostTogether, otherSide, socketOf, withSocket, controlsOn, soundSocket, soundBeside, soundDuet}
+use Rattle.duet.specs.Box.{otherSide, socketOf, withSocket, controlsOn, soundSocket, soundBeside, soundDuet}
 
 left-last : (x y z : Bool) → (x && (y && z)) ≡ (y && (x && z))
 left-last true true z = refl

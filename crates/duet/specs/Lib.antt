@@ -1,7 +1,6 @@
 pub mod Box
 pub mod Plugging
 pub mod Asking
-pub mod Stretch
 pub mod Drafts
 pub mod BoxLaws
 pub mod AskingLaws

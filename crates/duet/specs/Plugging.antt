@@ -2,8 +2,6 @@
 -- "unplugging .. 63 for an empty side"; "Unplugging a side gives its room back."
 --   Plugging          ==  what a plug-in comes to: refused n p: refusal n, at place p where it is the reader's; taken r: the reading r, whose state
 --                         is the side's from then on
---   admissionBy x p c n  ==  the refusal of a reading with number x, place p and c controls on a side that met n controls on the other: the
---                         reader's, then 62; 0 and 0 for none
 --   admittedBy n r    ==  the reader's refusals, then 62, of the reading r on such a side
 --   plugOf b k s room ==  the plug-in of the configuration s on the side k of the box b, with a sheet of room bytes lent
 --   turnedAway b n p  ==  the answer of a refusal at a plug-in: "interface number 0, zero counts"
@@ -22,26 +20,22 @@ use mathlib.Core.Bool.{true}
 use mathlib.Core.List.{List, _++_}
 use lib.Dec.{eqb, leb}
 use lib.ListN.{length, take, drop}
-use Rattle.ground.specs.declared.Refusal.{Refusal}
 use Rattle.ground.specs.Pick.{pick}
-use Rattle.ground.specs.Refuse.{none}
 use Rattle.records.specs.Records.{recordSize}
 use Rattle.topology.specs.declared.Reading.{Reading}
 use Rattle.topology.specs.Reading.{readingOf, sheetOf}
 use Rattle.request.specs.declared.Plugged.{Plugged}
 use Rattle.request.specs.Plugged.{stateOf}
-use Rattle.duet.specs.declared.Side.{Side}
+use Rattle.sides.specs.declared.Side.{Side}
+use Rattle.sides.specs.Sides.{mostTogether}
 use Rattle.duet.specs.declared.Duet.{Duet}
 use Rattle.duet.specs.declared.Admitted.{Admitted}
 use Rattle.duet.specs.declared.Answer.{Answer}
-use Rattle.duet.specs.Box.{mostTogether, otherSide, socketOf, withSocket, emptySocket, controlsOn, soundDuet}
+use Rattle.duet.specs.Box.{otherSide, socketOf, withSocket, emptySocket, controlsOn, soundDuet}
 
 pub data Plugging : Type 0 where
   refused : ℕ → ℕ → Plugging
   taken : Reading → Plugging
-
-unfoldable pub admissionBy : ℕ → ℕ → ℕ → ℕ → Refusal
-admissionBy x p c n = pick (eqb x 0) (pick (leb (n + c) mostTogether) none (record { number = 62; place = 0 })) (record { number = x; place = p })
 
 unfoldable pub admittedBy : ℕ → Reading → Plugging
 admittedBy n r =

@@ -10,7 +10,7 @@ use lib.ListN.{length}
 use borrow.Author.Tests.{not-true, not-false}
 use Rattle.ground.specs.Pick.{yes, no}
 use Rattle.topology.specs.Reading.{readingOf}
-use Rattle.duet.specs.declared.Side.{Side}
+use Rattle.sides.specs.declared.Side.{Side}
 use Rattle.duet.specs.declared.Socket.{Socket}
 use Rattle.duet.specs.declared.Duet.{Duet}
 use Rattle.duet.specs.declared.Admitted.{Admitted}

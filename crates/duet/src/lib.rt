@@ -1,37 +1,23 @@
 // The duet box (document 02, No. 11): two microphones behind one laptop. It stands on the request layer's promises: a plug-in, a load and a request
 // are handed down to one side's state; of a table only its count is read, and 30's test asked. What it promises: for every box whatever, every side, configuration, sheet,
-// load, setup, data and reply, exactly what specs/Plugging.antt and specs/Asking.antt say, and for every two configurations the stretch of
-// specs/Stretch.antt; a refusal leaves box, sheet and reply as they stood.
+// load, setup, data and reply, exactly what specs/Plugging.antt and specs/Asking.antt say; a refusal leaves box, sheet and reply as they stood.
 ghost use mathlib.Core.Path.{_≡_};
 ghost use mathlib.Core.List.{_++_};
 ghost use Prim.Native.Nat.{_*_, _≤_, min};
 ghost use lib.ListN.{length, take, drop};
 ghost use Rattle.records.specs.Records.{recordSize};
 ghost use Rattle.topology.specs.Reading.{readingOf};
-ghost use Rattle.duet.specs.Drafts.{wholeSheet, Drafted};
+ghost use Rattle.duet.specs.Drafts.{draftSize, Drafted};
 ghost use Rattle.duet.specs.Box.{otherSide, socketOf, withSocket, emptySocket, emptyDuet, controlsOn, soundSocket, soundBeside, soundDuet};
-ghost use Rattle.duet.specs.Plugging.{admissionBy, admittedBy, welcomed, Settled, turnedAway, AdmittedIn, PlugsIn, refusal, unplugAnswer};
-ghost use Rattle.duet.specs.Asking.{addresseeBy, addresseeOf, ownSetup, loadIn, answerIn, answeredBy, HandedDown, AnsweredIn};
-ghost use Rattle.duet.specs.Stretch.{lentOn, entityPlace, locatedBy, locatedIn, refusalOf, bytesAt};
-use entities::Run;
-use ground::Place;
-use ground::Refusal;
+ghost use Rattle.duet.specs.Plugging.{admittedBy, welcomed, Settled, turnedAway, AdmittedIn, PlugsIn, refusal, unplugAnswer};
+ghost use Rattle.duet.specs.Asking.{loadIn, answerIn, answeredBy, HandedDown, AnsweredIn};
 use request::Plugged;
 use request::State;
-use scan::byte_at;
-use setup::Asked;
-use topology::Finding;
-
-// The most controls that both sides have together.
-const TOGETHER: usize = 192;
+use sides::Addressee;
+use sides::Side;
 
 // The bytes of a sheet that holds the records of every configuration.
 const SHEET: usize = entities::MOST_ENTITIES * records::RECORD;
-
-pub enum Side {
-    Left,
-    Right,
-}
 
 // One side: whether a microphone is plugged in, and the request layer's state of it.
 pub struct Socket {
@@ -61,18 +47,6 @@ pub struct Answer {
     pub number: u8,
     pub written: usize,
     pub duet: Duet,
-}
-
-// Whom a request is for: nobody, with the number that refuses it, or a side.
-pub enum Addressee {
-    Nobody(u8),
-    At(Side),
-}
-
-// Where an entity's descriptor stands in a configuration, or the refusal.
-pub enum Located {
-    Refused(u8, usize),
-    From(usize),
 }
 
 fn empty_socket() -> Socket
@@ -164,11 +138,11 @@ fn sound_beside(duet: Duet, side: Side) -> bool
     ensures { λ r. ⌜ r ≡ soundBeside duet side ⌝ }
 {
     let own = controls_on(socket_of(duet, side));
-    if TOGETHER < own {
+    if sides::TOGETHER < own {
         return false;
     }
     let beside = socket_of(duet, other(side));
-    if TOGETHER - own < controls_on(beside) {
+    if sides::TOGETHER - own < controls_on(beside) {
         return false;
     }
     sound_socket(beside)
@@ -258,46 +232,6 @@ pub fn load(
     )
 }
 
-// Whom a presented number names.
-fn addressee_by(number: u8) -> Addressee
-    ensures { λ r. ⌜ r ≡ addresseeBy number ⌝ }
-{
-    if number == 0 {
-        return Addressee::At(Side::Left);
-    }
-    if number == 1 {
-        return Addressee::At(Side::Right);
-    }
-    Addressee::Nobody(32)
-}
-
-// Whom a request is for.
-fn whose(asked: Asked) -> Addressee
-    ensures { λ r. ⌜ r ≡ addresseeOf asked ⌝ }
-{
-    match asked {
-        Asked::Unknown => Addressee::Nobody(31),
-        Asked::Set(target) => addressee_by(target.interface),
-        Asked::Get(_, target) => addressee_by(target.interface),
-    }
-}
-
-// The setup with the microphone's own number for the presented one.
-fn own_setup(setup: &[u8], number: u8) -> [u8; 8]
-    ensures { λ r. ⌜ r ≡ ownSetup number (now (setup .entry)) ⌝ }
-{
-    [
-        byte_at(setup, 0),
-        byte_at(setup, 1),
-        byte_at(setup, 2),
-        byte_at(setup, 3),
-        number,
-        byte_at(setup, 5),
-        byte_at(setup, 6),
-        byte_at(setup, 7),
-    ]
-}
-
 // A request for a side: the microphone's own number is put in, and it is handed down.
 fn hand_down(duet: Duet, side: Side, setup: &[u8], data: &[u8], reply: &mut [u8]) -> Answer
     ensures { λ r. ⌜ HandedDown duet side (now (setup .entry)) (now («data» .entry)) (now (reply .entry)) r (now (reply .exit)) ⌝ }
@@ -310,7 +244,7 @@ fn hand_down(duet: Duet, side: Side, setup: &[u8], data: &[u8], reply: &mut [u8]
         return refused(duet, 63);
     }
     let state = socket.state;
-    let own = own_setup(setup, state.control);
+    let own = sides::own_setup(setup, state.control);
     answered(duet, side, request::request(state, &own, data, reply))
 }
 
@@ -318,7 +252,7 @@ fn hand_down(duet: Duet, side: Side, setup: &[u8], data: &[u8], reply: &mut [u8]
 pub fn request(duet: Duet, setup: &[u8], data: &[u8], reply: &mut [u8]) -> Answer
     ensures { λ r. ⌜ AnsweredIn duet (now (setup .entry)) (now («data» .entry)) (now (reply .entry)) r (now (reply .exit)) ⌝ }
 {
-    match whose(setup::read(setup)) {
+    match sides::whose(setup::read(setup)) {
         Addressee::Nobody(number) => {
             if !sound_duet(duet) {
                 return refused(duet, 30);
@@ -345,7 +279,7 @@ fn turned_away(duet: Duet, number: u8, place: usize) -> Admitted
 
 // How many bytes of a draft a sheet of that many stands for.
 fn draft_room(bytes: usize) -> usize
-    ensures { λ r. ⌜ r ≡ min bytes wholeSheet ⌝ }
+    ensures { λ r. ⌜ r ≡ min bytes draftSize ⌝ }
 {
     if bytes < SHEET { bytes } else { SHEET }
 }
@@ -374,36 +308,11 @@ fn copy_records(draft: &[u8], count: usize, sheet: &mut [u8])
 
 // A microphone read with a draft lent in the place of a sheet of that many bytes.
 fn read_draft(config: &[u8], bytes: usize, draft: &mut [u8]) -> Plugged
-    requires { ⌜ length (now draft) ≡ wholeSheet ⌝ }
-    ensures { λ r. ⌜ Drafted (now (config .entry)) (min bytes wholeSheet) (now (draft .entry)) r (now (draft .exit)) ⌝ }
+    requires { ⌜ length (now draft) ≡ draftSize ⌝ }
+    ensures { λ r. ⌜ Drafted (now (config .entry)) (min bytes draftSize) (now (draft .entry)) r (now (draft .exit)) ⌝ }
 {
     let room = draft_room(bytes);
     request::plug_in(config, &mut draft[..room])
-}
-
-// The refusal of a reading with so many controls where the other side has so many: the reader's, then 62; 0 and 0 for none.
-fn judge_reading(number: u8, place: usize, controls: usize, met: usize) -> Refusal
-    ensures { λ r. ⌜ r ≡ admissionBy number place controls met ⌝ }
-{
-    if number != 0 {
-        return Refusal { number, place };
-    }
-    if TOGETHER < controls {
-        return Refusal {
-            number: 62,
-            place: 0,
-        };
-    }
-    if TOGETHER - controls < met {
-        return Refusal {
-            number: 62,
-            place: 0,
-        };
-    }
-    Refusal {
-        number: 0,
-        place: 0,
-    }
 }
 
 // The answer where a microphone is let in.
@@ -447,12 +356,12 @@ fn admit(
     draft: &mut [u8],
     sheet: &mut [u8],
 ) -> Admitted
-    requires { ⌜ length (now draft) ≡ wholeSheet ⌝ }
+    requires { ⌜ length (now draft) ≡ draftSize ⌝ }
     ensures { λ r. ⌜ AdmittedIn duet side (admittedBy met (readingOf (now (config .entry)) (length (now (sheet .entry))))) (now (config .entry)) (now (sheet .entry)) r (now (sheet .exit)) ⌝ }
 {
     let plugged = read_draft(config, sheet.len(), draft);
     let reading = plugged.reading;
-    let refusal = judge_reading(reading.number, reading.place, reading.controls, met);
+    let refusal = sides::judge_reading(reading.number, reading.place, reading.controls, met);
     if refusal.number != 0 {
         return turned_away(duet, refusal.number, refusal.place);
     }
@@ -473,85 +382,4 @@ pub fn plug_in(duet: Duet, side: Side, config: &[u8], sheet: &mut [u8]) -> Admit
     let met = controls_on(socket_of(duet, other(side)));
     let mut draft = [0u8; SHEET];
     admit(duet, side, met, config, &mut draft, sheet)
-}
-
-// Where the entity of an ID stands.
-fn entity_place(run: Run, id: u8) -> Place
-    ensures { λ r. ⌜ r ≡ entityPlace run id ⌝ }
-{
-    let n = entities::count(run);
-    let mut i: usize = 0;
-    while i < n {
-        let node = run.nodes[i];
-        if node.id == id {
-            return Place::At(node.place);
-        }
-        i += 1;
-    }
-    Place::Nowhere
-}
-
-// By what is found in a configuration: its refusal, 64, or where the entity of an ID stands.
-fn locate_by(found: Finding, id: u8) -> Located
-    ensures { λ r. ⌜ r ≡ locatedBy found id ⌝ }
-{
-    let refusal = found.refusal;
-    if refusal.number != 0 {
-        return Located::Refused(refusal.number, refusal.place);
-    }
-    let run = found.run;
-    match entity_place(run, id) {
-        Place::Nowhere => Located::Refused(64, 0),
-        Place::At(place) => Located::From(place),
-    }
-}
-
-// The same of a configuration.
-fn locate(config: &[u8], id: u8) -> Located
-    ensures { λ r. ⌜ r ≡ locatedIn (now (config .entry)) id ⌝ }
-{
-    locate_by(topology::judge(config), id)
-}
-
-fn refusal_of(found: Located) -> Refusal
-    ensures { λ r. ⌜ r ≡ refusalOf found ⌝ }
-{
-    match found {
-        Located::Refused(number, at) => Refusal { number, place: at },
-        Located::From(_) => Refusal {
-            number: 0,
-            place: 0,
-        },
-    }
-}
-
-// The refusal of a stretch: 0 and 0, the reader's number and place, or 64.
-pub fn stretch_refusal(side: Side, id: u8, left: &[u8], right: &[u8]) -> Refusal
-    ensures { λ r. ⌜ r ≡ refusalOf (locatedIn (lentOn side (now (left .entry)) (now (right .entry))) id) ⌝ }
-{
-    match side {
-        Side::Left => refusal_of(locate(left, id)),
-        Side::Right => refusal_of(locate(right, id)),
-    }
-}
-
-// The descriptor of the entity of an ID; empty where it is refused.
-fn descriptor_of(config: &[u8], id: u8) -> &[u8]
-    ensures { λ r. ⌜ now r ≡ bytesAt (now (config .entry)) (locatedIn (now (config .entry)) id) ⌝ }
-{
-    match locate(config, id) {
-        Located::Refused(_, _) => &config[..0],
-        Located::From(place) => scan::descriptor_at(config, place),
-    }
-}
-
-// An entity's own descriptor bytes: a part of the left or the right lent configuration, chosen by side; empty where it is refused. Here alone what is
-// handed back is a part of the bytes that the caller lends (demand 1's one exception).
-pub fn stretch<'a>(side: Side, id: u8, left: &'a [u8], right: &'a [u8]) -> &'a [u8]
-    ensures { λ r. ⌜ now r ≡ bytesAt (lentOn side (now (left .entry)) (now (right .entry))) (locatedIn (lentOn side (now (left .entry)) (now (right .entry))) id) ⌝ }
-{
-    match side {
-        Side::Left => descriptor_of(left, id),
-        Side::Right => descriptor_of(right, id),
-    }
 }

@@ -4,11 +4,11 @@ ghost use Prim.Native.Nat.{_≤_};
 ghost use mathlib.Core.Path.{_≡_};
 ghost use lib.ListN.{length};
 use duet::Duet;
-use duet::Side;
 use duet::Socket;
 use libc::STDIN_FILENO;
 use libc::STDOUT_FILENO;
 use request::State;
+use sides::Side;
 use table::Control;
 use table::Table;
 
@@ -345,10 +345,10 @@ fn put(duet: Duet, body: &[u8]) -> Next {
 
 // The stretch of an entity: its bytes, or the refusal.
 fn stretch<'a>(side: Side, id: u8, left: &'a [u8], right: &'a [u8]) {
-    let refusal = duet::stretch_refusal(side, id, left, right);
+    let refusal = extent::stretch_refusal(side, id, left, right);
     if refusal.number == 0 {
         say(b"bytes");
-        say_bytes(duet::stretch(side, id, left, right));
+        say_bytes(extent::stretch(side, id, left, right));
     } else {
         say_placed(refusal.number, refusal.place);
     }

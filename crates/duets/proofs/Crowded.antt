@@ -60,12 +60,13 @@ use Rattle.ground.specs.Pick.{yes, no}
 use Rattle.topology.specs.declared.Reading.{Reading}
 use Rattle.reader.proofs.Shows.{controls-counted}
 use Rattle.request.specs.Plugged.{stateOf}
-use Rattle.duet.specs.declared.Side.the-variants.{Left, Right}
+use Rattle.sides.specs.declared.Side.the-variants.{Left, Right}
+use Rattle.sides.specs.Sides.{mostTogether}
 use Rattle.duet.specs.declared.Duet.{Duet}
-use Rattle.duet.specs.Box.{mostTogether, emptySocket, emptyDuet, controlsOn, soundDuet}
+use Rattle.duet.specs.Box.{emptySocket, emptyDuet, controlsOn, soundDuet}
 use Rattle.duet.specs.Plugging.{Plugging, admittedBy, plugOf, duetAfter}
 use Rattle.duet.specs.Plugging.Plugging.{refused, taken}
-use Rattle.duets.specs.Steps.{Step, Seen, seenPlug, boxNext, answersTo, stepsOf, sentBy}
+use Rattle.duets.specs.Steps.{Step, Seen, seenPlug, boxNext, seenBy, stepsOf, sentBy}
 use Rattle.duets.specs.Steps.Step.{plug}
 use Rattle.duets.specs.Isolation.{CountTold}
 use Rattle.duets.specs.Crowded.{crowded, crowdedSheet, Crowds}
@@ -115,14 +116,14 @@ leftOnly = plug Left crowded crowdedSheet ∷ []
 abbrev both : List Step
 both = plug Right crowded crowdedSheet ∷ plug Left crowded crowdedSheet ∷ []
 
-seen-alone : answersTo Left emptyDuet leftOnly ≡ seenPlug crowded crowdedSheet (taken R) ∷ []
-unfolding answersTo
+seen-alone : seenBy Left emptyDuet leftOnly ≡ seenPlug crowded crowdedSheet (taken R) ∷ []
+unfolding seenBy
 seen-alone = ap (λ (o : Plugging). seenPlug crowded crowdedSheet o ∷ []) first-left
 
-seen-behind : answersTo Left emptyDuet both ≡ seenPlug crowded crowdedSheet (refused 62 0) ∷ []
-unfolding answersTo
+seen-behind : seenBy Left emptyDuet both ≡ seenPlug crowded crowdedSheet (refused 62 0) ∷ []
+unfolding seenBy
 seen-behind =
-    ap (λ (b : Duet). answersTo Left b leftOnly) after-right
+    ap (λ (b : Duet). seenBy Left b leftOnly) after-right
     ∙ ap (λ (o : Plugging). seenPlug crowded crowdedSheet o ∷ []) second-left
 
 numberFirst : List Seen → ℕ

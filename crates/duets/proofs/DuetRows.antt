@@ -27,17 +27,18 @@ use Rattle.request.specs.Load.{loadOf}
 use Rattle.request.specs.Request.{requestOf}
 use Rattle.runs.specs.RequestRows.{Row, given, passed, NoRow, loadRows, requestRows}
 use Rattle.runs.proofs.Rows.{request-rows, load-rows}
-use Rattle.duet.specs.declared.Side.{Side}
-use Rattle.duet.specs.declared.Side.the-variants.{Left, Right}
-use Rattle.duet.specs.declared.Addressee.{Addressee}
-use Rattle.duet.specs.declared.Addressee.the-variants.{Nobody, At}
+use Rattle.sides.specs.declared.Side.{Side}
+use Rattle.sides.specs.declared.Side.the-variants.{Left, Right}
+use Rattle.sides.specs.declared.Addressee.{Addressee}
+use Rattle.sides.specs.declared.Addressee.the-variants.{Nobody, At}
+use Rattle.sides.specs.Sides.{mostTogether, addresseeBy, addresseeOf, ownSetup}
 use Rattle.duet.specs.declared.Socket.{Socket}
 use Rattle.duet.specs.declared.Duet.{Duet}
-use Rattle.duet.specs.Box.{mostTogether, otherSide, socketOf, withSocket, emptySocket, controlsOn, together, soundSocket, soundDuet}
+use Rattle.duet.specs.Box.{otherSide, socketOf, withSocket, emptySocket, controlsOn, together, soundSocket, soundDuet}
 use Rattle.duet.specs.BoxLaws.{kept-socket}
 use Rattle.duet.specs.Plugging.{Plugging, admittedBy, plugOf, duetAfter, refusal, unplugAnswer}
 use Rattle.duet.specs.Plugging.Plugging.{refused, taken}
-use Rattle.duet.specs.Asking.{ownSetup, addresseeBy, addresseeOf, handedTo, askedOn, requestIn, loadedOn, loadIn, boxAfter, answerIn, answerFor}
+use Rattle.duet.specs.Asking.{handedTo, askedOn, requestIn, loadedOn, loadIn, boxAfter, answerIn, answerFor}
 use Rattle.duets.specs.Steps.{Step, seenPlug, seenIn, boxNext}
 use Rattle.duets.specs.Steps.Step.{plug, unplug, load, request}
 use Rattle.duets.specs.DuetRows.{SoundBox, presentedFor, plugRows, unplugRows, sideLoadRows, EmptyNamed, OnSide, sideRequestRows, numberIn, lentBy, DuetRows}

@@ -34,10 +34,11 @@ use Rattle.runs.specs.Runs as runs
 use Rattle.runs.specs.Runs.Step.{load as single-load, request as single-request}
 use Rattle.runs.proofs.Alone.{run-interface}
 use Rattle.demands.proofs.Demand2.{runs-so}
-use Rattle.duet.specs.declared.Side.{Side}
-use Rattle.duet.specs.declared.Side.the-variants as side
-use Rattle.duet.specs.declared.Addressee.{Addressee}
-use Rattle.duet.specs.declared.Addressee.the-variants.{Nobody, At}
+use Rattle.sides.specs.declared.Side.{Side}
+use Rattle.sides.specs.declared.Side.the-variants as side
+use Rattle.sides.specs.declared.Addressee.{Addressee}
+use Rattle.sides.specs.declared.Addressee.the-variants.{Nobody, At}
+use Rattle.sides.specs.Sides.{addresseeOf, ownSetup}
 use Rattle.duet.specs.declared.Socket.{Socket}
 use Rattle.duet.specs.declared.Duet.{Duet}
 use Rattle.duet.specs.declared.Answer.{Answer}
@@ -45,7 +46,7 @@ use Rattle.duet.specs.Box.{socketOf, withSocket, emptySocket, emptyDuet, soundD
 use Rattle.duet.specs.BoxLaws.{own-socket}
 use Rattle.duet.specs.Plugging.{Plugging, plugOf, duetAfter, refusal, unplugAnswer}
 use Rattle.duet.specs.Plugging.Plugging.{refused, taken}
-use Rattle.duet.specs.Asking.{addresseeOf, ownSetup, loadIn, requestIn, socketAfter, boxAfter, answerIn, answerFor}
+use Rattle.duet.specs.Asking.{loadIn, requestIn, socketAfter, boxAfter, answerIn, answerFor}
 use Rattle.duets.specs.DuetRuns.Life.{none, since}
 use Rattle.duets.specs.Steps.{Step, isFor, isOf, boxNext, boxAfterRun, sentBy, Carried}
 use Rattle.duets.specs.Steps.Step.{plug, unplug, load, request}

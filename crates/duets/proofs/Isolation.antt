@@ -17,9 +17,10 @@ use Rattle.setup.specs.Setup.{askedOf}
 use Rattle.topology.specs.Reading.{readingOf}
 use Rattle.request.specs.Outcome.{Outcome}
 use Rattle.request.specs.Plugged.{stateOf}
-use Rattle.duet.specs.declared.Side.{Side}
-use Rattle.duet.specs.declared.Addressee.{Addressee}
-use Rattle.duet.specs.declared.Addressee.the-variants.{Nobody, At}
+use Rattle.sides.specs.declared.Side.{Side}
+use Rattle.sides.specs.declared.Addressee.{Addressee}
+use Rattle.sides.specs.declared.Addressee.the-variants.{Nobody, At}
+use Rattle.sides.specs.Sides.{addresseeOf}
 use Rattle.duet.specs.declared.Socket.{Socket}
 use Rattle.duet.specs.declared.Duet.{Duet}
 use Rattle.duet.specs.declared.Answer.{Answer}
@@ -27,10 +28,10 @@ use Rattle.duet.specs.Box.{otherSide, socketOf, withSocket, emptySocket, emptyD
 use Rattle.duet.specs.BoxLaws.{own-socket}
 use Rattle.duet.specs.Plugging.{Plugging, admittedBy, plugOf, duetAfter, refusal, unplugAnswer}
 use Rattle.duet.specs.Plugging.Plugging.{refused, taken}
-use Rattle.duet.specs.Asking.{handedTo, askedOn, requestIn, loadedOn, loadIn, socketAfter, boxAfter, answerIn, addresseeOf, answerFor}
-use Rattle.duets.specs.Steps.{Step, sameSide, isFor, isOf, Seen, seenPlug, seenNumber, seenOutcome, seenIn, boxNext, answersTo, stepsOf, metAt, metBy, Carried}
+use Rattle.duet.specs.Asking.{handedTo, askedOn, requestIn, loadedOn, loadIn, socketAfter, boxAfter, answerIn, answerFor}
+use Rattle.duets.specs.Steps.{Step, sameSide, isFor, isOf, Seen, seenPlug, seenNumber, seenOutcome, seenIn, boxNext, seenBy, stepsOf, metAt, metBy, Carried}
 use Rattle.duets.specs.Steps.Step.{plug, unplug, load, request}
-use Rattle.duets.specs.Isolation.{Agree, Isolated}
+use Rattle.duets.specs.Isolation.{AgreeAt, Isolated}
 use Rattle.duets.proofs.Sound.{Fit, fit-empty, fit-next, same-side, other-next}
 
 abbrev plugAlone : Socket → ℕ → List ℕ → ℕ → Plugging
@@ -136,19 +137,19 @@ later-met b k (unplug j) ns = refl
 later-met b k (load j key range w) ns = refl
 later-met b k (request s d y) ns = refl
 
-own-run : (k : Side) (run : List Step) (b : Duet) → Fit b → Carried run → answersTo k b run ≡ alone (socketOf b k) (stepsOf k run) (metBy k b run)
-unfolding answersTo stepsOf metBy alone
+own-run : (k : Side) (run : List Step) (b : Duet) → Fit b → Carried run → seenBy k b run ≡ alone (socketOf b k) (stepsOf k run) (metBy k b run)
+unfolding seenBy stepsOf metBy alone
 own-run k [] b h c = refl
 own-run k (x ∷ run) b h c =
     go (isOf k x) refl (own-run k run (boxNext b x) (fit-next b x h (c x (List·Memᴰ·head refl))) (λ y m. c y (List·Memᴰ·tail m)))
   where
-    go : (p : Bool) → isOf k x ≡ p → answersTo k (boxNext b x) run ≡ alone (socketOf (boxNext b x) k) (stepsOf k run) (metBy k (boxNext b x) run)
-        → pick p (seenIn b x ∷ answersTo k (boxNext b x) run) (answersTo k (boxNext b x) run)
+    go : (p : Bool) → isOf k x ≡ p → seenBy k (boxNext b x) run ≡ alone (socketOf (boxNext b x) k) (stepsOf k run) (metBy k (boxNext b x) run)
+        → pick p (seenIn b x ∷ seenBy k (boxNext b x) run) (seenBy k (boxNext b x) run)
         ≡ alone (socketOf b k) (pick p (x ∷ stepsOf k run) (stepsOf k run)) (pick p (metAt b k x ++ metBy k (boxNext b x) run) (metBy k (boxNext b x) run))
     go true e ih =
         let ms = metAt b k x ++ metBy k (boxNext b x) run in
         let own = own-step b k x h e (metBy k (boxNext b x) run) in
-        ap (λ (y : Seen). y ∷ answersTo k (boxNext b x) run) (own .seen)
+        ap (λ (y : Seen). y ∷ seenBy k (boxNext b x) run) (own .seen)
         ∙ ap (λ (l : List Seen). ownSeen (socketOf b k) x (firstMet ms) ∷ l)
         (ih
         ∙ ap (λ (z : Socket). alone z (stepsOf k run) (metBy k (boxNext b x) run)) (own .left)

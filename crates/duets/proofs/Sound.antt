@@ -33,17 +33,18 @@ use Rattle.request.specs.Request.{requestOf}
 use Rattle.runs.specs.Runs as runs
 use Rattle.runs.specs.Runs.Step.{load as single-load, request as single-request}
 use Rattle.runs.proofs.Alone.{alone, step-sound}
-use Rattle.duet.specs.declared.Side.{Side}
-use Rattle.duet.specs.declared.Side.the-variants.{Left, Right}
-use Rattle.duet.specs.declared.Addressee.{Addressee}
-use Rattle.duet.specs.declared.Addressee.the-variants.{Nobody, At}
+use Rattle.sides.specs.declared.Side.{Side}
+use Rattle.sides.specs.declared.Side.the-variants.{Left, Right}
+use Rattle.sides.specs.declared.Addressee.{Addressee}
+use Rattle.sides.specs.declared.Addressee.the-variants.{Nobody, At}
+use Rattle.sides.specs.Sides.{mostTogether, addresseeOf, ownSetup}
 use Rattle.duet.specs.declared.Socket.{Socket}
 use Rattle.duet.specs.declared.Duet.{Duet}
-use Rattle.duet.specs.Box.{mostTogether, otherSide, socketOf, withSocket, emptySocket, emptyDuet, controlsOn, soundSocket, soundBeside, soundDuet}
+use Rattle.duet.specs.Box.{otherSide, socketOf, withSocket, emptySocket, emptyDuet, controlsOn, soundSocket, soundBeside, soundDuet}
 use Rattle.duet.specs.BoxLaws.{sound-split, kept-socket}
 use Rattle.duet.specs.Plugging.{Plugging, admittedBy, plugOf, duetAfter, refusal, unplugAnswer}
 use Rattle.duet.specs.Plugging.Plugging.{refused, taken}
-use Rattle.duet.specs.Asking.{ownSetup, handedTo, askedOn, requestIn, loadedOn, loadIn, socketAfter, boxAfter, answerIn, addresseeOf, answerFor}
+use Rattle.duet.specs.Asking.{handedTo, askedOn, requestIn, loadedOn, loadIn, socketAfter, boxAfter, answerIn, answerFor}
 use Rattle.duets.specs.Steps.{Step, sameSide, isFor, isOf, boxNext, sentBy}
 use Rattle.duets.specs.Steps.Step.{plug, unplug, load, request}
 

@@ -11,16 +11,17 @@ use Rattle.table.specs.Keys.{Key}
 use Rattle.deed.specs.Reply.{laid}
 use Rattle.setup.specs.Setup.{askedOf}
 use Rattle.request.specs.Outcome.{Outcome, bytesOf}
-use Rattle.duet.specs.declared.Side.{Side}
-use Rattle.duet.specs.declared.Addressee.{Addressee}
-use Rattle.duet.specs.declared.Addressee.the-variants.{Nobody, At}
+use Rattle.sides.specs.declared.Side.{Side}
+use Rattle.sides.specs.declared.Addressee.{Addressee}
+use Rattle.sides.specs.declared.Addressee.the-variants.{Nobody, At}
+use Rattle.sides.specs.Sides.{addresseeOf}
 use Rattle.duet.specs.declared.Duet.{Duet}
 use Rattle.duet.specs.declared.Admitted.{Admitted}
 use Rattle.duet.specs.declared.Answer.{Answer}
 use Rattle.duet.specs.Box.{socketOf, withSocket, emptySocket, soundDuet}
 use Rattle.duet.specs.Plugging.{Plugging, plugOf, duetAfter, plugAnswer, sheetAfter, PlugsIn, refusal, unplugAnswer}
 use Rattle.duet.specs.Plugging.Plugging.{refused, taken}
-use Rattle.duet.specs.Asking.{addresseeOf, loadIn, requestIn, boxAfter, answerIn, answerFor, AnsweredIn}
+use Rattle.duet.specs.Asking.{loadIn, requestIn, boxAfter, answerIn, answerFor, AnsweredIn}
 use Rattle.duets.specs.Steps.{Seen, seenPlug, seenNumber, seenOutcome, seenIn, boxNext}
 use Rattle.duets.specs.Steps.Step.{plug, unplug, load, request}
 use Rattle.duets.specs.StepsTold.{admittedSeen, answerSeen, StepsTold}

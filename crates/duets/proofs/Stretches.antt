@@ -36,10 +36,10 @@ use Rattle.reader.specs.Configuration.{runOf, placeOfRun, Configuration}
 use Rattle.reader.proofs.Surveyed.{entitiesOf, survey-kept, represented}
 use Rattle.reader.proofs.Exactly.{accepted-exactly}
 use Rattle.reader.proofs.Shows.{number-told}
-use Rattle.duet.specs.declared.Located.{Located}
-use Rattle.duet.specs.declared.Located.the-variants.{Refused, From}
-use Rattle.duet.specs.Stretch.{entityPlace, known, locatedBy, locatedIn, refusalOf, bytesAt}
-use Rattle.duet.specs.Drafts.{wholeSheet}
+use Rattle.extent.specs.declared.Located.{Located}
+use Rattle.extent.specs.declared.Located.the-variants.{Refused, From}
+use Rattle.extent.specs.Stretch.{entityPlace, known, locatedBy, locatedIn, refusalOf, bytesAt}
+use Rattle.demands.specs.Demand3.{wholeSheet}
 use Rattle.duets.specs.Stretches.{StretchShown}
 
 module _ (s : List ℕ) where

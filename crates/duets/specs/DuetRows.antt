@@ -24,13 +24,14 @@ use Rattle.setup.specs.Setup.{WellAsked}
 use Rattle.topology.specs.Reading.{readingOf}
 use Rattle.request.specs.Outcome.{numberOf}
 use Rattle.runs.specs.RequestRows.{Row, NoRow, loadRows, requestRows}
-use Rattle.duet.specs.declared.Side.{Side}
-use Rattle.duet.specs.declared.Side.the-variants.{Left, Right}
+use Rattle.sides.specs.declared.Side.{Side}
+use Rattle.sides.specs.declared.Side.the-variants.{Left, Right}
+use Rattle.sides.specs.Sides.{mostTogether, ownSetup}
 use Rattle.duet.specs.declared.Duet.{Duet}
-use Rattle.duet.specs.Box.{mostTogether, otherSide, socketOf, controlsOn, together}
+use Rattle.duet.specs.Box.{otherSide, socketOf, controlsOn, together}
 use Rattle.duet.specs.Plugging.{Plugging, plugOf, unplugAnswer}
 use Rattle.duet.specs.Plugging.Plugging.{refused, taken}
-use Rattle.duet.specs.Asking.{ownSetup, loadIn, requestIn}
+use Rattle.duet.specs.Asking.{loadIn, requestIn}
 use Rattle.duets.specs.Steps.{Step, seenIn, boxNext}
 use Rattle.duets.specs.Steps.Step.{plug, unplug, load, request}
 

@@ -30,14 +30,15 @@ use Rattle.request.specs.Request.{barredBy, requestOf}
 use Rattle.runs.specs.Runs as runs
 use Rattle.runs.specs.Runs.Step.{load as single-load, request as single-request}
 use Rattle.demands.specs.Demand2.{EveryRun}
-use Rattle.duet.specs.declared.Side.{Side}
-use Rattle.duet.specs.declared.Addressee.the-variants.{At}
+use Rattle.sides.specs.declared.Side.{Side}
+use Rattle.sides.specs.declared.Addressee.the-variants.{At}
+use Rattle.sides.specs.Sides.{addresseeOf, ownSetup}
 use Rattle.duet.specs.declared.Socket.{Socket}
 use Rattle.duet.specs.declared.Duet.{Duet}
 use Rattle.duet.specs.Box.{socketOf, emptyDuet, soundDuet}
 use Rattle.duet.specs.Plugging.{Plugging, plugOf, unplugAnswer}
 use Rattle.duet.specs.Plugging.Plugging.{refused, taken}
-use Rattle.duet.specs.Asking.{addresseeOf, ownSetup, loadIn, requestIn}
+use Rattle.duet.specs.Asking.{loadIn, requestIn}
 use Rattle.duets.specs.Steps.{Step, isOf, boxNext, boxAfterRun, Carried}
 use Rattle.duets.specs.Steps.Step.{plug, unplug, load, request}
 

@@ -2,22 +2,22 @@
 -- unpluggings, loads, requests and buffers, and in which each left plug-in met the same count of right-hand controls, give the left the same answers,
 -- and so with the sides exchanged; that count at plug-in is all a side may learn of the other." The steps of the other side, and those of no side, may
 -- be any number and stand anywhere between.
---   Agree k x y    ==  the runs x and y agree on the side k's steps, in their order, and each plug-in of k met the same count
+--   AgreeAt k x y  ==  the runs x and y agree on the side k's steps, in their order, and each plug-in of k met the same count
 --   Isolated       ==  two such runs give the side the same answers, replies and sheets; once over the side
 --   CountTold      ==  without the count it is not so: two runs that agree on the left side's steps, and give it other answers
 use mathlib.Core.Path.{_≡_}
 use mathlib.Core.List.{List}
-use Rattle.duet.specs.declared.Side.{Side}
-use Rattle.duet.specs.declared.Side.the-variants.{Left}
+use Rattle.sides.specs.declared.Side.{Side}
+use Rattle.sides.specs.declared.Side.the-variants.{Left}
 use Rattle.duet.specs.Box.{emptyDuet}
-use Rattle.duets.specs.Steps.{Step, answersTo, stepsOf, metBy, Carried}
+use Rattle.duets.specs.Steps.{Step, seenBy, stepsOf, metBy, Carried}
 
-pub record Agree (k : Side) (x y : List Step) : Type 0 where
+pub record AgreeAt (k : Side) (x y : List Step) : Type 0 where
   pub steps : stepsOf k x ≡ stepsOf k y
   pub met : metBy k emptyDuet x ≡ metBy k emptyDuet y
 
 abbrev pub Isolated : Type 0
-Isolated = (k : Side) (x y : List Step) → Carried x → Carried y → Agree k x y → answersTo k emptyDuet x ≡ answersTo k emptyDuet y
+Isolated = (k : Side) (x y : List Step) → Carried x → Carried y → AgreeAt k x y → seenBy k emptyDuet x ≡ seenBy k emptyDuet y
 
 pub record CountTold : Type 0 where
   pub x : List Step
@@ -25,4 +25,4 @@ pub record CountTold : Type 0 where
   pub x-carried : Carried x
   pub y-carried : Carried y
   pub steps : stepsOf Left x ≡ stepsOf Left y
-  pub apart : answersTo Left emptyDuet x ≡ answersTo Left emptyDuet y → ⊥
+  pub apart : seenBy Left emptyDuet x ≡ seenBy Left emptyDuet y → ⊥

@@ -8,7 +8,7 @@
 --   seenPlug s d o, seenOutcome h o, seenNumber n  ==  .. of a plug-in that comes to o, of a load or a request that comes to o, of an unplugging
 --   seenIn b step     ==  .. of the step in the box b
 --   boxNext b step    ==  the box after the step; boxAfterRun b run: after the run
---   answersTo k b run ==  what the side k sees in the run, step by step
+--   seenBy k b run    ==  what the side k sees in the run, step by step
 --   stepsOf k run     ==  the side's own steps, buffers and all
 --   metAt b k step, metBy k b run  ==  how many controls of the other side a plug-in of k met, and each of the run's
 --   sentBy step       ==  the data of a request
@@ -25,15 +25,16 @@ use Rattle.deed.specs.Reply.{laid}
 use Rattle.setup.specs.Setup.{askedOf}
 use Rattle.topology.specs.Reading.{sheetOf}
 use Rattle.request.specs.Outcome.{Outcome, numberOf, bytesOf}
-use Rattle.duet.specs.declared.Side.{Side}
-use Rattle.duet.specs.declared.Side.the-variants.{Left, Right}
-use Rattle.duet.specs.declared.Addressee.{Addressee}
-use Rattle.duet.specs.declared.Addressee.the-variants.{Nobody, At}
+use Rattle.sides.specs.declared.Side.{Side}
+use Rattle.sides.specs.declared.Side.the-variants.{Left, Right}
+use Rattle.sides.specs.declared.Addressee.{Addressee}
+use Rattle.sides.specs.declared.Addressee.the-variants.{Nobody, At}
+use Rattle.sides.specs.Sides.{addresseeOf}
 use Rattle.duet.specs.declared.Duet.{Duet}
 use Rattle.duet.specs.Box.{otherSide, socketOf, controlsOn}
 use Rattle.duet.specs.Plugging.{Plugging, plugOf, duetAfter, unplugAnswer}
 use Rattle.duet.specs.Plugging.Plugging.{refused, taken}
-use Rattle.duet.specs.Asking.{addresseeOf, loadIn, requestIn, boxAfter, answerFor}
+use Rattle.duet.specs.Asking.{loadIn, requestIn, boxAfter, answerFor}
 
 pub data Step : Type 0 where
   plug : Side → List ℕ → List ℕ → Step
@@ -108,9 +109,9 @@ unfoldable pub boxAfterRun : Duet → List Step → Duet
 boxAfterRun b [] = b
 boxAfterRun b (x ∷ run) = boxAfterRun (boxNext b x) run
 
-unfoldable pub answersTo : Side → Duet → List Step → List Seen
-answersTo k b [] = []
-answersTo k b (x ∷ run) = pick (isOf k x) (seenIn b x ∷ answersTo k (boxNext b x) run) (answersTo k (boxNext b x) run)
+unfoldable pub seenBy : Side → Duet → List Step → List Seen
+seenBy k b [] = []
+seenBy k b (x ∷ run) = pick (isOf k x) (seenIn b x ∷ seenBy k (boxNext b x) run) (seenBy k (boxNext b x) run)
 
 unfoldable pub stepsOf : Side → List Step → List Step
 stepsOf k [] = []

@@ -6,7 +6,7 @@ use mathlib.Core.Path.{_≡_}
 use mathlib.Core.List.{List, []}
 use Rattle.setting.specs.declared.Range.{Range}
 use Rattle.table.specs.Keys.{Key}
-use Rattle.duet.specs.declared.Side.{Side}
+use Rattle.sides.specs.declared.Side.{Side}
 use Rattle.duet.specs.declared.Duet.{Duet}
 use Rattle.duet.specs.declared.Admitted.{Admitted}
 use Rattle.duet.specs.declared.Answer.{Answer}

@@ -11,9 +11,9 @@ use Rattle.graph.specs.Members.{_∈_}
 use Rattle.edition.specs.Edition.{ownId}
 use Rattle.topology.specs.Reading.{readingOf}
 use Rattle.reader.specs.Configuration.{runOf, Configuration}
-use Rattle.duet.specs.declared.Located.the-variants.{Refused}
-use Rattle.duet.specs.Stretch.{locatedIn, refusalOf, bytesAt}
-use Rattle.duet.specs.Drafts.{wholeSheet}
+use Rattle.extent.specs.declared.Located.the-variants.{Refused}
+use Rattle.extent.specs.Stretch.{locatedIn, refusalOf, bytesAt}
+use Rattle.demands.specs.Demand3.{wholeSheet}
 
 pub record StretchShown (s : List ℕ) : Type 0 where
   pub shown : (t : Configuration s) (d : List ℕ) → d ∈ runOf (t .kept)

@@ -2,13 +2,13 @@
 -- layouts that the reader goes by (layout/specs/Layouts), in which each byte but the length and the type is a field.
 --   Listed               ==  an entity of a list: laid f: one of the five kinds, with the fields f; printed i s n: a printed Selector, which is
 --                            withdrawn, with a Selector's fields: ID, sources, name; wrong: what is no kind's fields
---   descriptorOf l       ==  its descriptor: the fields' bytes; the printed Selector's as source document 004 prints it, a byte 0 in front of the
+--   writtenAs l          ==  its descriptor: the fields' bytes; the printed Selector's as source document 004 prints it, a byte 0 in front of the
 --                            sources; no bytes where there are no fields
 --   spanOf v x           ==  the part of the lent slice v that x names
---   listedOf x s k       ==  the entity whose numbers are x, whose sources are s and whose control bytes or masks are k
+--   entityFrom x s k     ==  the entity whose numbers are x, whose sources are s and whose control bytes or masks are k
 --   listedWith v x       ==  the entity x, whose sources and control bytes or masks stand in the lent slice v
 --   blankItem            ==  a spare place: no entity, all zeros
---   foundBy k d          ==  the entity whose fields stand in d by the layout k, whether or not d has that layout
+--   foundWith k d        ==  the entity whose fields stand in d by the layout k, whether or not d has that layout
 --   foundAs o            ==  the entity of the fields o; wrong where there are none
 --   foundIn d            ==  the entity that the layouts find in the descriptor d; wrong where they find none
 --   noSpan               ==  no part
@@ -37,25 +37,25 @@ pub data Listed : Type 0 where
   laid : Fields → Listed
   printed : (id : ℕ) (sources : List ℕ) (name : ℕ) → Listed
 
-abbrev pub descriptorOf : Listed → List ℕ
-descriptorOf wrong = []
-descriptorOf (laid f) = bytesOf f
-descriptorOf (printed i s n) = (7 + length s) ∷ descriptorType ∷ 5 ∷ i ∷ length s ∷ 0 ∷ (s ++ n ∷ [])
+abbrev pub writtenAs : Listed → List ℕ
+writtenAs wrong = []
+writtenAs (laid f) = bytesOf f
+writtenAs (printed i s n) = (7 + length s) ∷ descriptorType ∷ 5 ∷ i ∷ length s ∷ 0 ∷ (s ++ n ∷ [])
 
 abbrev pub spanOf : List ℕ → Span → List ℕ
 spanOf v x = part v (x .from) (x .end)
 
-abbrev pub listedOf : Numbers → List ℕ → List ℕ → Listed
-listedOf Unknown s k = wrong
-listedOf (Input i t a c l m n) s k = laid (input i (twoOf t) a c (twoOf l) m n)
-listedOf (Output i t a f n) s k = laid (output i (twoOf t) a f n)
-listedOf (Mixer i c l m n) s k = laid (mixer i s c (twoOf l) m k n)
-listedOf (Selector i n) s k = laid (selector i s n)
-listedOf (Feature i f z n) s k = laid (feature i f z k n)
-listedOf (Printed i n) s k = printed i s n
+abbrev pub entityFrom : Numbers → List ℕ → List ℕ → Listed
+entityFrom Unknown s k = wrong
+entityFrom (Input i t a c l m n) s k = laid (input i (twoOf t) a c (twoOf l) m n)
+entityFrom (Output i t a f n) s k = laid (output i (twoOf t) a f n)
+entityFrom (Mixer i c l m n) s k = laid (mixer i s c (twoOf l) m k n)
+entityFrom (Selector i n) s k = laid (selector i s n)
+entityFrom (Feature i f z n) s k = laid (feature i f z k n)
+entityFrom (Printed i n) s k = printed i s n
 
 abbrev pub listedWith : List ℕ → Item → Listed
-listedWith v x = listedOf (x .numbers) (spanOf v (x .sources)) (spanOf v (x .controls))
+listedWith v x = entityFrom (x .numbers) (spanOf v (x .sources)) (spanOf v (x .controls))
 
 abbrev pub blankItem : Item
 blankItem = record { numbers = Unknown; sources = record { from = 0; end = 0 }; controls = record { from = 0; end = 0 } }
@@ -67,8 +67,8 @@ foundAs (some f) = laid f
 unfoldable pub foundIn : List ℕ → Listed
 foundIn d = foundAs (fieldsOf d)
 
-unfoldable pub foundBy : Kind → List ℕ → Listed
-foundBy k d = laid (fieldsAt k (valueAt (formatOf k) d 3))
+unfoldable pub foundWith : Kind → List ℕ → Listed
+foundWith k d = laid (fieldsAt k (valueAt (formatOf k) d 3))
 
 -- ---- where what varies in length stands, by the format
 
@@ -104,7 +104,7 @@ unfoldable pub controlsIn : List ℕ → Span
 controlsIn d = spanBy controlsAt d (fieldsOf d)
 
 pub record KindRead (k : Kind) (d : List ℕ) (r : Item) : Type 0 where
-  pub fields : listedWith d r ≡ foundBy k d
+  pub fields : listedWith d r ≡ foundWith k d
   pub sources : r .sources ≡ sourcesAt (formatOf k) d 3
   pub controls : r .controls ≡ controlsAt (formatOf k) d 3
 

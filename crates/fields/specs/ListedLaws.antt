@@ -30,7 +30,7 @@ use Rattle.fields.specs.declared.Item.{Item}
 use Rattle.fields.specs.declared.Numbers.{Numbers}
 use Rattle.fields.specs.declared.Numbers.the-variants.{Unknown, Input, Output, Mixer, Selector, Feature, Printed}
 use Rattle.fields.specs.declared.Span.{Span}
-use Rattle.fields.specs.Listed.{Listed, laid, wrong, printed, listedOf, listedWith, foundBy, foundAs, foundIn, blankItem, noSpan, sourcesAt, controlsAt, spanBy, sourcesIn, controlsIn, KindRead, ReadAs}
+use Rattle.fields.specs.Listed.{Listed, laid, wrong, printed, entityFrom, listedWith, foundWith, foundAs, foundIn, blankItem, noSpan, sourcesAt, controlsAt, spanBy, sourcesIn, controlsIn, KindRead, ReadAs}
 
 abbrev pub two : List ℕ → ℕ → TwoBytes
 two d k = record { low = byte d k; high = byte d (k + 1) }
@@ -47,25 +47,25 @@ two-own d k low high h e f =
 module _ (d : List ℕ) where
   pub input-found : (x : Item) (i t a c l m n : ℕ) → x ≡ plainItem (Input i t a c l m n) → i ≡ byte d 3 → twoOf t ≡ two d 4 → a ≡ byte d 6 → c ≡ byte d 7
       → twoOf l ≡ two d 8 → m ≡ byte d 10 → n ≡ byte d 11 → KindRead kind.input d x
-  unfolding foundBy
+  unfolding foundWith
   input-found x i t a c l m n e i= t= a= c= l= m= n= =
       record { fields = rw (e, i=, t=, a=, c=, l=, m=, n=) refl; sources = ap (λ (y : Item). y .sources) e; controls = ap (λ (y : Item). y .controls) e }
 
   pub output-found : (x : Item) (i t a s n : ℕ) → x ≡ plainItem (Output i t a s n) → i ≡ byte d 3 → twoOf t ≡ two d 4 → a ≡ byte d 6 → s ≡ byte d 7
       → n ≡ byte d 8 → KindRead kind.output d x
-  unfolding foundBy
+  unfolding foundWith
   output-found x i t a s n e i= t= a= s= n= =
       record { fields = rw (e, i=, t=, a=, s=, n=) refl; sources = ap (λ (y : Item). y .sources) e; controls = ap (λ (y : Item). y .controls) e }
 
   pub selector-found : (p i n : ℕ) → p ≡ byte d 4 → i ≡ byte d 3 → n ≡ byte d (5 + p)
       → KindRead kind.selector d (record { numbers = Selector i n; sources = record { from = 5; end = 5 + p }; controls = noSpan })
-  unfolding foundBy
+  unfolding foundWith
   selector-found p i n e i= n= = let q : 5 + p - 5 ≡ p = omega arith in record { fields = rw (q, i=, n=, e) refl; sources = rw e refl; controls = refl }
 
   pub mixer-found : (p i c l m n : ℕ) → p ≡ byte d 4 → i ≡ byte d 3 → c ≡ byte d (5 + p) → twoOf l ≡ two d (6 + p) → m ≡ byte d (8 + p)
       → n ≡ byte d (length d - 1)
       → KindRead kind.mixer d (record { numbers = Mixer i c l m n; sources = record { from = 5; end = 5 + p }; controls = record { from = 9 + p; end = length d - 1 } })
-  unfolding foundBy
+  unfolding foundWith
   mixer-found p i c l m n e i= c= l= m= n= =
       let q : 5 + p - 5 ≡ byte d 4 = omega arith in
       let a : 5 + p ≡ 4 + 1 + byte d 4 = omega arith in
@@ -77,7 +77,7 @@ module _ (d : List ℕ) where
 
   pub feature-found : (i s z n : ℕ) → i ≡ byte d 3 → s ≡ byte d 4 → z ≡ byte d 5 → n ≡ byte d (length d - 1)
       → KindRead kind.feature d (record { numbers = Feature i s z n; sources = noSpan; controls = record { from = 6; end = length d - 1 } })
-  unfolding foundBy
+  unfolding foundWith
   feature-found i s z n i= s= z= n= = let h : length d - 1 - 6 ≡ length d - 7 = omega arith in record { fields = rw (h, i=, s=, z=, n=) refl; sources = refl; controls = refl }
 
 -- the kind that was told
@@ -104,8 +104,8 @@ layout-own kind.selector v = refl
 layout-own kind.feature v = refl
 
 module _ (d : List ℕ) where
-  found-told : (k : Kind) → kindTold (entityOf d) ≡ some k → foundBy k d ≡ foundIn d
-  unfolding entityOf foundBy foundIn
+  found-told : (k : Kind) → kindTold (entityOf d) ≡ some k → foundWith k d ≡ foundIn d
+  unfolding entityOf foundWith foundIn
   found-told k q = go (fieldsOf d) refl q
     where
       go : (o : Option Fields) → fieldsOf d ≡ o → kindTold (entityIn o) ≡ some k → laid (fieldsAt k (valueAt (formatOf k) d 3)) ≡ foundAs o
@@ -210,7 +210,7 @@ numbersIn (printed i s n) = Printed i n
 word-own : (n : ℕ) → wordOf (twoOf n) ≡ n
 word-own n = omega arith
 
-numbers-back : (x : Numbers) (s k : List ℕ) → numbersIn (listedOf x s k) ≡ x
+numbers-back : (x : Numbers) (s k : List ℕ) → numbersIn (entityFrom x s k) ≡ x
 unfolding numbersIn
 numbers-back Unknown s k = refl
 numbers-back (Input i t a c l m n) s k = rw (word-own t, word-own l) refl

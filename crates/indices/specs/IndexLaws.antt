@@ -58,7 +58,7 @@ use Rattle.clusters.specs.Breach.{givenFor, breach13}
 use Rattle.connections.specs.declared.Connected.{Connected}
 use Rattle.connections.specs.Judgement.{judged, connectedIn, refusedBy}
 use Rattle.connections.specs.JudgementLaws.{decides-10, decides-11, decides-12, decides-13, connected-chain}
-use Rattle.indices.specs.Indices.{indexAt, indexIn, connectedThen, judgedThen}
+use Rattle.indices.specs.Indices.{indexAt, indexIn, connectedThen, indexedThen}
 
 abbrev pub FirstIndex : (List (List ℕ) → List ℕ → Type 0) → List (List ℕ) → ℕ → Type 0
 FirstIndex Wrong ds q = FirstPlace (length ds) (λ i. i) (WrongAt Wrong ds) q
@@ -184,8 +184,8 @@ module _ (ds : List (List ℕ)) where
 
     pub judged-rows : (behind : NoneWithdrawn audio ds → Rule10 ds → Rule11 audio ds → Rule12 audio ds → Rule13 audio ds → Rows) (r : Refusal)
         → ((w : NoneWithdrawn audio ds) (a : Rule10 ds) (b : Rule11 audio ds) (c : Rule12 audio ds) (e : Rule13 audio ds) → Answers (behind w a b c e) r)
-        → Answers (judgedRows behind) (judgedThen s r)
-    unfolding judgedThen connectedThen
+        → Answers (judgedRows behind) (indexedThen s r)
+    unfolding indexedThen connectedThen
     judged-rows behind r h = rw run-read (indexIn run (walkOf s 0 .unlaid), connectedThen s run r, refl, by-index (λ b d. audio .Withdrawn d) decides-17, λ w. connected w)
       where
         by-index : {b : Place} {K : Type 0} (Wrong : List (List ℕ) → List ℕ → Type 0) → Decides b K (Breaks Wrong 0 ds) → Decides (indexIn run b) K (FirstIndex Wrong ds)
@@ -216,8 +216,8 @@ module _ (ds : List (List ℕ)) where
               ),
             )
 
-pub judged-chain : (s : List ℕ) → Chain (judgedThen s)
-unfolding judgedThen connectedThen
+pub judged-chain : (s : List ℕ) → Chain (indexedThen s)
+unfolding indexedThen connectedThen
 judged-chain s =
     chain-more 17 (λ e. omega arith) _ _
     (chain-more 10 (λ e. omega arith) _ _

@@ -2,8 +2,8 @@
 --   indexAt run q    ==  the index of the entity of the run that stands at place q
 --   indexIn run b    ==  the breach b, by the index of its entity
 --   connectedThen s run r  ==  the first of 10 to 13 that applies to the run, which was read from s, so; r where none does
---   judgedThen s r   ==  the first of 17 and 10 to 13 that applies to the descriptors that stand in s one behind another, at the index of its entity;
---                        what r says where none does
+--   indexedThen s r  ==  the first of 17 and 10 to 13 that applies to the descriptors that stand in s one behind another, at the index of its entity;
+--                       what r says where none does
 use Prim.Native.Nat.{ℕ}
 use mathlib.Core.List.{List}
 use lib.Dec.{eqb}
@@ -34,5 +34,5 @@ connectedThen s run r =
     (refuse 11 (indexIn run (breach11 s run))
     (refuse 12 (indexIn run (breach12 run (ordered s run))) (refuse 13 (indexIn run (breach13 s run (givenFor s run))) r)))
 
-unfoldable pub judgedThen : List ℕ → Refusal → Refusal
-judgedThen s r = refuse 17 (indexIn (walkOf s 0 .run) (walkOf s 0 .unlaid)) (connectedThen s (walkOf s 0 .run) r)
+unfoldable pub indexedThen : List ℕ → Refusal → Refusal
+indexedThen s r = refuse 17 (indexIn (walkOf s 0 .run) (walkOf s 0 .unlaid)) (connectedThen s (walkOf s 0 .run) r)

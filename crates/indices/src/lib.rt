@@ -3,7 +3,7 @@
 // that applies, at the index of its entity; 0 and 0 where none does.
 ghost use mathlib.Core.Path.{_≡_};
 ghost use Rattle.ground.specs.Refuse.{none};
-ghost use Rattle.indices.specs.Indices.{indexAt, judgedThen};
+ghost use Rattle.indices.specs.Indices.{indexAt, indexedThen};
 use entities::Run;
 use ground::Place;
 use ground::Refusal;
@@ -25,7 +25,7 @@ fn index_at(run: Run, place: usize) -> usize
 
 // The first of 17 and 10 to 13 that descriptors, one behind another, are refused by, at the index of its entity.
 pub fn judge(s: &[u8]) -> Refusal
-    ensures { λ r. ⌜ r ≡ judgedThen (now (s .entry)) none ⌝ }
+    ensures { λ r. ⌜ r ≡ indexedThen (now (s .entry)) none ⌝ }
 {
     let walk = entities::read_run(s, 0);
     let run = walk.run;

@@ -19,7 +19,7 @@ use borrow.Author.Tests.{le-leb, lt-leb, leb-true, leb-false}
 use Rattle.ground.specs.Pick.{pick, yes, no, Reads, shows, refutes, decided, reads-and, reads-le}
 use Rattle.layout.specs.Format.{TwoBytes, twoOf}
 use Rattle.layout.specs.Fields.{mixer, selector, feature, bytesOf}
-use Rattle.fields.specs.Listed.{printed, descriptorOf}
+use Rattle.fields.specs.Listed.{printed, writtenAs}
 use Rattle.laying.specs.Paste.{pasted, pastedIn, pasted-append, pasted-length, pasted-none}
 use Rattle.laying.specs.Laying.{mostLong, shortOf, fitsAt, laidSize, laidIn, Lay}
 
@@ -42,7 +42,7 @@ short-told n r e z = go (leb n 255) refl e
 pub long-selector : (i n : ℕ) (s : List ℕ) → length (bytesOf (selector i s n)) ≡ 6 + length s
 long-selector i n s = let o = length-append s (n ∷ []) in omega arith
 
-pub long-printed : (i n : ℕ) (s : List ℕ) → length (descriptorOf (printed i s n)) ≡ 7 + length s
+pub long-printed : (i n : ℕ) (s : List ℕ) → length (writtenAs (printed i s n)) ≡ 7 + length s
 long-printed i n s = let o = length-append s (n ∷ []) in omega arith
 
 pub long-feature : (i s z n : ℕ) (k : List ℕ) → length (bytesOf (feature i s z k n)) ≡ 7 + length k
@@ -70,7 +70,7 @@ module _ (at i n : ℕ) (s d e : List ℕ) where
   pub selector-pasted : e ≡ pasted at (((6 + length s) ∷ 36 ∷ 5 ∷ i ∷ length s ∷ []) ++ (s ++ n ∷ [])) d → e ≡ pasted at (bytesOf (selector i s n)) d
   selector-pasted p = p ∙ ap (λ (h : ℕ). pasted at (h ∷ 36 ∷ 5 ∷ i ∷ length s ∷ (s ++ n ∷ [])) d) (sym (long-selector i n s))
 
-  pub printed-pasted : e ≡ pasted at (((7 + length s) ∷ 36 ∷ 5 ∷ i ∷ length s ∷ 0 ∷ []) ++ (s ++ n ∷ [])) d → e ≡ pasted at (descriptorOf (printed i s n)) d
+  pub printed-pasted : e ≡ pasted at (((7 + length s) ∷ 36 ∷ 5 ∷ i ∷ length s ∷ 0 ∷ []) ++ (s ++ n ∷ [])) d → e ≡ pasted at (writtenAs (printed i s n)) d
   printed-pasted p = p
 
   pub feature-pasted : (f z : ℕ) → e ≡ pasted at (((7 + length s) ∷ 36 ∷ 6 ∷ i ∷ f ∷ z ∷ []) ++ (s ++ n ∷ [])) d → e ≡ pasted at (bytesOf (feature i f z s n)) d

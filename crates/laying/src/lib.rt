@@ -7,7 +7,7 @@ ghost use mathlib.Core.List.{_++_, _∷_};
 ghost use lib.ListN.{length};
 ghost use Rattle.layout.specs.Format.{twoOf};
 ghost use Rattle.layout.specs.Fields.{input, output, mixer, selector, feature, bytesOf};
-ghost use Rattle.fields.specs.Listed.{printed, descriptorOf, listedOf, listedWith};
+ghost use Rattle.fields.specs.Listed.{printed, writtenAs, entityFrom, listedWith};
 ghost use Rattle.laying.specs.Paste.{pasted, pastedIn};
 ghost use Rattle.laying.specs.Laying.{shortOf, Lay};
 use fields::Item;
@@ -154,7 +154,7 @@ fn put_feature(id: u8, source: u8, size: u8, masks: &[u8], name: u8, out: &mut [
 fn put_printed(id: u8, sources: &[u8], name: u8, out: &mut [u8], at: usize)
     requires { ⌜ 7 + length (now sources) ≤ 255 ⌝ }
     requires { ⌜ at + (7 + length (now sources)) ≤ length (now out) ⌝ }
-    ensures { λ _. ⌜ now (out .exit) ≡ pasted at (descriptorOf (printed id (now (sources .entry)) name)) (now (out .entry)) ⌝ }
+    ensures { λ _. ⌜ now (out .exit) ≡ pasted at (writtenAs (printed id (now (sources .entry)) name)) (now (out .entry)) ⌝ }
 {
     let pins = sources.len();
     let n = 7 + pins;
@@ -183,7 +183,7 @@ fn sized(fixed: usize, first: usize, second: usize) -> usize
 
 // The length of an entity's descriptor; 0 where it passes 255, and where there is none.
 fn size_of(numbers: Numbers, sources: &[u8], controls: &[u8]) -> usize
-    ensures { λ r. ⌜ r ≡ shortOf (length (descriptorOf (listedOf numbers (now (sources .entry)) (now (controls .entry))))) ⌝ }
+    ensures { λ r. ⌜ r ≡ shortOf (length (writtenAs (entityFrom numbers (now (sources .entry)) (now (controls .entry))))) ⌝ }
 {
     match numbers {
         Numbers::Unknown => 0,
@@ -198,9 +198,9 @@ fn size_of(numbers: Numbers, sources: &[u8], controls: &[u8]) -> usize
 
 // Puts an entity's descriptor at a place where there is room for it.
 fn put_entity(numbers: Numbers, sources: &[u8], controls: &[u8], out: &mut [u8], at: usize)
-    requires { ⌜ length (descriptorOf (listedOf numbers (now sources) (now controls))) ≤ 255 ⌝ }
-    requires { ⌜ at + length (descriptorOf (listedOf numbers (now sources) (now controls))) ≤ length (now out) ⌝ }
-    ensures { λ _. ⌜ now (out .exit) ≡ pasted at (descriptorOf (listedOf numbers (now (sources .entry)) (now (controls .entry)))) (now (out .entry)) ⌝ }
+    requires { ⌜ length (writtenAs (entityFrom numbers (now sources) (now controls))) ≤ 255 ⌝ }
+    requires { ⌜ at + length (writtenAs (entityFrom numbers (now sources) (now controls))) ≤ length (now out) ⌝ }
+    ensures { λ _. ⌜ now (out .exit) ≡ pasted at (writtenAs (entityFrom numbers (now (sources .entry)) (now (controls .entry)))) (now (out .entry)) ⌝ }
 {
     match numbers {
         Numbers::Unknown => {}
@@ -209,71 +209,39 @@ fn put_entity(numbers: Numbers, sources: &[u8], controls: &[u8], out: &mut [u8],
             terminal,
             paired,
             channels,
-            locations,
+            locations: bits,
             names,
             name,
-        } => {
-            put_input(
-                id,
-                terminal,
-                paired,
-                channels,
-                locations,
-                names,
-                name,
-                out,
-                at,
-            );
-        }
+        } => put_input(id, terminal, paired, channels, bits, names, name, out, at),
         Numbers::Output {
             id,
             terminal,
             paired,
             source,
             name,
-        } => {
-            put_output(id, terminal, paired, source, name, out, at);
-        }
+        } => put_output(id, terminal, paired, source, name, out, at),
         Numbers::Mixer {
             id,
             channels,
-            locations,
+            locations: bits,
             names,
             name,
-        } => {
-            put_mixer(
-                id,
-                sources,
-                channels,
-                locations,
-                names,
-                controls,
-                name,
-                out,
-                at,
-            );
-        }
-        Numbers::Selector { id, name } => {
-            put_selector(id, sources, name, out, at);
-        }
+        } => put_mixer(id, sources, channels, bits, names, controls, name, out, at),
+        Numbers::Selector { id, name } => put_selector(id, sources, name, out, at),
         Numbers::Feature {
             id,
             source,
             size,
             name,
-        } => {
-            put_feature(id, source, size, controls, name, out, at);
-        }
-        Numbers::Printed { id, name } => {
-            put_printed(id, sources, name, out, at);
-        }
+        } => put_feature(id, source, size, controls, name, out, at),
+        Numbers::Printed { id, name } => put_printed(id, sources, name, out, at),
     }
 }
 
 // Lays the descriptor of an entity, whose sources and control bytes or masks stand in a lent slice, at a place of the buffer, and answers how
 // many bytes it has: none, and the buffer as it stood, where they would pass 255 or have no room.
 pub fn lay(item: Item, varying: &[u8], out: &mut [u8], at: usize) -> usize
-    ensures { λ r. ⌜ Lay (descriptorOf (listedWith (now (varying .entry)) item)) at (now (out .entry)) (now (out .exit)) r ⌝ }
+    ensures { λ r. ⌜ Lay (writtenAs (listedWith (now (varying .entry)) item)) at (now (out .entry)) (now (out .exit)) r ⌝ }
 {
     let sources = scan::stretch(varying, item.sources.from, item.sources.end);
     let controls = scan::stretch(varying, item.controls.from, item.controls.end);

@@ -22,13 +22,13 @@ use Rattle.ground.specs.Lists.{part}
 use Rattle.entities.specs.Run.{mostEntities}
 use Rattle.laying.specs.Paste.{pasted, pastedIn, pasted-length}
 use Rattle.laying.specs.LayingLaws.{pasted-three}
-use Rattle.indices.specs.Indices.{judgedThen}
+use Rattle.indices.specs.Indices.{indexedThen}
 use Rattle.indices.specs.IndexLaws.{judged-chain}
 use Rattle.writing.specs.declared.EntityList.{EntityList}
 use Rattle.writing.specs.declared.Wrote.{Wrote}
 use Rattle.writing.specs.declared.Judged.{Judged}
 use Rattle.fields.specs.Listed.{Listed}
-use Rattle.writing.specs.Writing.{mostNumbers, mostRun, listOf, descriptorsOf, wholeOf, writtenOf, breach8, breach9, entitiesThen, breach47, breach48, roomThen, verdictOf, Answered, Writes, LaidRun, JudgedRun}
+use Rattle.writing.specs.Writing.{mostNumbers, mostRun, listOf, descriptorsOf, wholeOf, writtenOf, breach8, breach9, entitiesThen, breach47, breach48, roomThen, writerVerdict, Answered, Writes, LaidRun, JudgedRun}
 use Rattle.writing.specs.LaidLaws.{listed-count}
 
 module _ (v : Refusal) (w before : List ℕ) where
@@ -101,7 +101,7 @@ module _ (v : List ℕ) (l : EntityList) (out : List ℕ) where
 
   eight : (within 1 (length ds) mostEntities ≡ false) → entitiesThen ds none ≡ record { number = 8; place = 0 }
   unfolding entitiesThen breach8 refuse
-  eight t = ap (λ (b : Place). refuse 8 b (refuse 9 (breach9 ds) (judgedThen (flatten ds) none))) (no _ _ t)
+  eight t = ap (λ (b : Place). refuse 8 b (refuse 9 (breach9 ds) (indexedThen (flatten ds) none))) (no _ _ t)
 
   pub count-none : (r : Judged) → length out ≡ mostRun → l .count < 1 → r ≡ record { refusal = record { number = 8; place = 0 }; size = 0 } → JudgedRun ds out (r .refusal) (r .size)
   count-none r h c q =
@@ -114,21 +114,21 @@ module _ (v : List ℕ) (l : EntityList) (out : List ℕ) where
       refused-as r 8 0 h (λ e. omega arith) (eight (refutes (reads-within 1 (length ds) mostEntities) (λ x. let y = x .1 in omega arith))) q
 
   module _ (low : 1 ≤ l .count) (high : l .count ≤ 32) where
-    on-eight : (r : Refusal) → entitiesThen ds r ≡ refuse 9 (breach9 ds) (judgedThen (flatten ds) r)
+    on-eight : (r : Refusal) → entitiesThen ds r ≡ refuse 9 (breach9 ds) (indexedThen (flatten ds) r)
     unfolding entitiesThen breach8 refuse
     on-eight r =
         let n = listed-count v l in
-        ap (λ (b : Place). refuse 8 b (refuse 9 (breach9 ds) (judgedThen (flatten ds) r))) (yes _ _ (shows (reads-within 1 (length ds) mostEntities) (omega arith, omega arith)))
+        ap (λ (b : Place). refuse 8 b (refuse 9 (breach9 ds) (indexedThen (flatten ds) r))) (yes _ _ (shows (reads-within 1 (length ds) mostEntities) (omega arith, omega arith)))
 
     module _ (w : Place) (size : ℕ) (t : LaidRun ds out w size) where
       pub wrong-layout : (r : Judged) (i : ℕ) → w ≡ At i → r ≡ record { refusal = record { number = 9; place = i }; size = 0 } → JudgedRun ds out (r .refusal) (r .size)
       unfolding refuse
-      wrong-layout r i e q = refused-as r 9 i (t .long) (λ x. omega arith) (on-eight none ∙ ap (λ (b : Place). refuse 9 b (judgedThen (flatten ds) none)) (sym (t .first) ∙ e)) q
+      wrong-layout r i e q = refused-as r 9 i (t .long) (λ x. omega arith) (on-eight none ∙ ap (λ (b : Place). refuse 9 b (indexedThen (flatten ds) none)) (sym (t .first) ∙ e)) q
 
-      pub judged-on : (r : Refusal) (x : List ℕ) → w ≡ Nowhere → x ≡ part out 0 size → r ≡ judgedThen x none → JudgedRun ds out r size
+      pub judged-on : (r : Refusal) (x : List ℕ) → w ≡ Nowhere → x ≡ part out 0 size → r ≡ indexedThen x none → JudgedRun ds out r size
       unfolding refuse
       judged-on r x e f q = record {
-        same = q ∙ ap (λ (y : List ℕ). judgedThen y none) (f ∙ t .bytes e) ∙ sym (on-eight none ∙ ap (λ (b : Place). refuse 9 b (judgedThen (flatten ds) none)) (sym (t .first) ∙ e));
+        same = q ∙ ap (λ (y : List ℕ). indexedThen y none) (f ∙ t .bytes e) ∙ sym (on-eight none ∙ ap (λ (b : Place). refuse 9 b (indexedThen (flatten ds) none)) (sym (t .first) ∙ e));
         bytes = λ z. t .bytes e;
         room = t .room;
         long = t .long;
@@ -138,9 +138,9 @@ module _ (v : List ℕ) (l : EntityList) (out : List ℕ) where
 
 module _ (ls : List Listed) (cs out : List ℕ) (r : Refusal) (size : ℕ) (t : JudgedRun (descriptorsOf ls) out r size) (before : List ℕ) where
   pub write-refused : (r .number ≡ 0 → ⊥) → Writes ls cs before before (record { number = r .number; place = r .place; written = 0 })
-  unfolding verdictOf
+  unfolding writerVerdict
   write-refused z =
-      answered-refused (verdictOf ls cs (length before)) (writtenOf ls cs) before (r .number) (r .place)
+      answered-refused (writerVerdict ls cs (length before)) (writtenOf ls cs) before (r .number) (r .place)
       (entities-chain (descriptorsOf ls) .stays (λ e. z (ap (λ (x : Refusal). x .number) (t .same) ∙ e)) (roomThen cs (flatten (descriptorsOf ls)) (length before)) ∙ sym (t .same)) z
 
   module _ (run : List ℕ) (f : run ≡ part out 0 size) where
@@ -153,7 +153,7 @@ module _ (ls : List Listed) (cs out : List ℕ) (r : Refusal) (size : ℕ) (t : 
 
     pub write-whole : r .number ≡ 0 → (after : List ℕ) (a : Wrote) → Answered (roomThen cs run (length before)) (wholeOf cs run) before after a
         → Writes ls cs before after a
-    unfolding verdictOf
+    unfolding writerVerdict
     write-whole z after a h =
         let e = entities-chain (descriptorsOf ls) .on (sym (ap (λ (x : Refusal). x .number) (t .same)) ∙ z) (roomThen cs (flatten (descriptorsOf ls)) (length before)) in
         rw e (rw (f ∙ t .bytes z) at h)

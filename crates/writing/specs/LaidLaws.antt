@@ -25,7 +25,7 @@ use Rattle.layout.specs.Withdrawn.{isWrong, isPrinted, reads-wrong}
 use Rattle.layout.specs.Layout.{entityOf, isUnknown}
 use Rattle.edition.specs.Audio.{audio}
 use Rattle.fields.specs.declared.Item.{Item}
-use Rattle.fields.specs.Listed.{Listed, wrong, descriptorOf, listedWith, blankItem}
+use Rattle.fields.specs.Listed.{Listed, wrong, writtenAs, listedWith, blankItem}
 use Rattle.laying.specs.Paste.{pasted, pasted-length}
 use Rattle.laying.specs.Laying.{mostLong, fitsAt, laidSize, laidIn, Lay}
 use Rattle.writing.specs.declared.EntityList.{EntityList}
@@ -40,12 +40,12 @@ unfolding wrongIn isWrong isUnknown entityOf isPrinted
 empty-wrong = refl
 
 pub listed-count : (v : List ℕ) (l : EntityList) → length (descriptorsOf (listOf v l)) ≡ l .count
-listed-count v l = length-map (listOf v l) descriptorOf ∙ length-map (pad blankItem (l .count) (l .items)) (listedWith v) ∙ pad-length blankItem (l .count) (l .items)
+listed-count v l = length-map (listOf v l) writtenAs ∙ length-map (pad blankItem (l .count) (l .items)) (listedWith v) ∙ pad-length blankItem (l .count) (l .items)
 
-pub listed-at : (v : List ℕ) (l : EntityList) (i : ℕ) → i < l .count → getD (descriptorsOf (listOf v l)) i [] ≡ descriptorOf (listedWith v (getD (l .items) i blankItem))
+pub listed-at : (v : List ℕ) (l : EntityList) (i : ℕ) → i < l .count → getD (descriptorsOf (listOf v l)) i [] ≡ writtenAs (listedWith v (getD (l .items) i blankItem))
 listed-at v l i h =
-    List·getD-map descriptorOf (listOf v l) i wrong
-    ∙ ap descriptorOf (List·getD-map (listedWith v) (pad blankItem (l .count) (l .items)) i blankItem ∙ ap (listedWith v) (pad-at blankItem (l .count) (l .items) i h))
+    List·getD-map writtenAs (listOf v l) i wrong
+    ∙ ap writtenAs (List·getD-map (listedWith v) (pad blankItem (l .count) (l .items)) i blankItem ∙ ap (listedWith v) (pad-at blankItem (l .count) (l .items) i h))
 
 -- what was pasted stands at its place, behind what stood in front
 module _ (at : ℕ) (d out : List ℕ) (h : at + length d ≤ length out) where
@@ -91,7 +91,7 @@ module _ (v : List ℕ) (l : EntityList) (few : l .count ≤ 32) where
 
     module _ (h : i < l .count) where
       abbrev d : List ℕ
-      d = descriptorOf (listedWith v (getD (l .items) i blankItem))
+      d = writtenAs (listedWith v (getD (l .items) i blankItem))
 
       here : getD ds i [] ≡ d
       here = listed-at v l i h

@@ -10,7 +10,7 @@
 --   TooLong d, WrongIn d  ==  it passes 255 bytes; rule 9 is broken: a wrong layout, or too long. wrongIn d: the test
 --   breach8, breach9, breach47, breach48  ==  where these are broken first
 --   entitiesThen ds r, roomThen cs run m  ==  the refusals of the entities, and r behind them; those of the collection list and of m bytes of room
---   verdictOf ls cs m  ==  the writer's refusal, 0 and 0 where there is none
+--   writerVerdict ls cs m  ==  the writer's refusal, 0 and 0 where there is none
 --   answersIn r      ==  the number and place of an answer
 --   Answered v w b a r  ==  the lent buffer b became a, and the answer is r, by the verdict v and the bytes w: in front where nothing is refused, the
 --                        bytes past them as they stood; all of them as they stood where something is
@@ -45,9 +45,9 @@ use Rattle.ids.specs.Rule10.{Rule10}
 use Rattle.sources.specs.Rule11.{Rule11}
 use Rattle.ranks.specs.Rule12.{Rule12}
 use Rattle.clusters.specs.Rule13.{Rule13}
-use Rattle.fields.specs.Listed.{Listed, descriptorOf, listedWith, blankItem}
+use Rattle.fields.specs.Listed.{Listed, writtenAs, listedWith, blankItem}
 use Rattle.laying.specs.Laying.{mostLong}
-use Rattle.indices.specs.Indices.{judgedThen}
+use Rattle.indices.specs.Indices.{indexedThen}
 use Rattle.indices.specs.IndexLaws.{FirstIndex, judgedRows}
 use Rattle.writing.specs.declared.EntityList.{EntityList}
 use Rattle.writing.specs.declared.Wrote.{Wrote}
@@ -62,7 +62,7 @@ abbrev pub listOf : List ℕ → EntityList → List Listed
 listOf v l = map (listedWith v) (pad blankItem (l .count) (l .items))
 
 abbrev pub descriptorsOf : List Listed → List (List ℕ)
-descriptorsOf ls = map descriptorOf ls
+descriptorsOf ls = map writtenAs ls
 
 abbrev pub headerOf : List ℕ → ℕ → List ℕ
 headerOf cs n =
@@ -92,7 +92,7 @@ unfoldable pub breach9 : List (List ℕ) → Place
 breach9 ds = firstIn (λ i. wrongIn (getD ds i [])) (λ i. At i) Nowhere 0 (length ds)
 
 unfoldable pub entitiesThen : List (List ℕ) → Refusal → Refusal
-entitiesThen ds r = refuse 8 (breach8 ds) (refuse 9 (breach9 ds) (judgedThen (flatten ds) r))
+entitiesThen ds r = refuse 8 (breach8 ds) (refuse 9 (breach9 ds) (indexedThen (flatten ds) r))
 
 unfoldable pub breach47 : List ℕ → Place
 breach47 cs = keptAt (leb (length cs) mostNumbers) 0
@@ -103,8 +103,8 @@ breach48 cs run m = keptAt (leb (length (wholeOf cs run)) m) 0
 unfoldable pub roomThen : List ℕ → List ℕ → ℕ → Refusal
 roomThen cs run m = refuse 47 (breach47 cs) (refuse 48 (breach48 cs run m) none)
 
-unfoldable pub verdictOf : List Listed → List ℕ → ℕ → Refusal
-verdictOf ls cs m = entitiesThen (descriptorsOf ls) (roomThen cs (flatten (descriptorsOf ls)) m)
+unfoldable pub writerVerdict : List Listed → List ℕ → ℕ → Refusal
+writerVerdict ls cs m = entitiesThen (descriptorsOf ls) (roomThen cs (flatten (descriptorsOf ls)) m)
 
 -- ---- the answer
 
@@ -117,7 +117,7 @@ pub record Answered (v : Refusal) (w before after : List ℕ) (r : Wrote) : Type
   pub lent : after ≡ pick (eqb (v .number) 0) (w ++ drop (length w) before) before
 
 abbrev pub Writes : List Listed → List ℕ → List ℕ → List ℕ → Wrote → Type 0
-Writes ls cs before after r = Answered (verdictOf ls cs (length before)) (writtenOf ls cs) before after r
+Writes ls cs before after r = Answered (writerVerdict ls cs (length before)) (writtenOf ls cs) before after r
 
 -- ---- on the way to it
 

@@ -6,10 +6,11 @@ use mathlib.Core.Bool.{Bool, true, false, _&&_}
 use native.Mathlib.Omega.{arith}
 use lib.Dec.{leb}
 use borrow.Author.Tests.{le-leb, lt-leb}
-use Rattle.duet.specs.declared.Side.{Side}
+use Rattle.sides.specs.declared.Side.{Side}
+use Rattle.sides.specs.Sides.{mostTogether}
 use Rattle.duet.specs.declared.Socket.{Socket}
 use Rattle.duet.specs.declared.Duet.{Duet}
-use Rattle.duet.specs.Box.{mostTogether, otherSide, socketOf, controlsOn, soundSocket, soundBeside}
+use Rattle.duet.specs.Box.{otherSide, socketOf, controlsOn, soundSocket, soundBeside}
 use Rattle.duet.proofs.sound_beside.Statement.{statement}
 use Rattle.duet.proofs.sound_beside.Tie as tie
 

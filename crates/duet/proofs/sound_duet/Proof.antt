@@ -3,7 +3,7 @@ use borrow.Author.Needs.{needs}
 use mathlib.Core.Path.{_≡_, sym, _∙_}
 use mathlib.Core.Bool.{Bool, true, false, not}
 use borrow.Author.Tests.{not-true, not-false}
-use Rattle.duet.specs.declared.Side.the-variants.{Left}
+use Rattle.sides.specs.declared.Side.the-variants.{Left}
 use Rattle.duet.specs.declared.Duet.{Duet}
 use Rattle.duet.specs.Box.{soundSocket, soundBeside, soundDuet}
 use Rattle.duet.specs.BoxLaws.{unsound-beside, sound-own}

@@ -1,8 +1,8 @@
 -- One side is what is put there, the other as it was.
 use borrow.Author.Needs.{needs}
 use mathlib.Core.Path.{_≡_, sym, ap}
-use Rattle.duet.specs.declared.Side.{Side}
-use Rattle.duet.specs.declared.Side.the-variants.{Left, Right}
+use Rattle.sides.specs.declared.Side.{Side}
+use Rattle.sides.specs.declared.Side.the-variants.{Left, Right}
 use Rattle.duet.specs.declared.Socket.{Socket}
 use Rattle.duet.specs.declared.Duet.{Duet}
 use Rattle.duet.specs.Box.{withSocket}

@@ -13,29 +13,29 @@ use Rattle.entities.specs.declared.Walk.{Walk}
 use Rattle.entities.specs.Run.{walkOf}
 use Rattle.connections.specs.declared.Connected.{Connected}
 use Rattle.connections.specs.Judgement.{connectedIn}
-use Rattle.indices.specs.Indices.{indexAt, indexIn, connectedThen, judgedThen}
+use Rattle.indices.specs.Indices.{indexAt, indexIn, connectedThen, indexedThen}
 use Rattle.indices.specs.IndexLaws.{indexed, indexed-judged, connected-refusal}
 use Rattle.indices.proofs.judge.Statement.{statement}
 use Rattle.indices.proofs.judge.Tie as tie
 
 module _ (s : List ℕ) (w : Walk) (e : w ≡ walkOf s 0) where
-  unlaid-at : (q i : ℕ) → w .unlaid ≡ At q → i ≡ indexAt (w .run) q → record { number = 17; place = i } ≡ judgedThen s none
-  unfolding judgedThen indexIn refuse
+  unlaid-at : (q i : ℕ) → w .unlaid ≡ At q → i ≡ indexAt (w .run) q → record { number = 17; place = i } ≡ indexedThen s none
+  unfolding indexedThen indexIn refuse
   unlaid-at q i h k = rw (k, ← e, h) refl
 
   module _ (h : w .unlaid ≡ Nowhere) where
-    on : connectedThen s (w .run) none ≡ judgedThen s none
-    unfolding judgedThen indexIn refuse
+    on : connectedThen s (w .run) none ≡ indexedThen s none
+    unfolding indexedThen indexIn refuse
     on = rw (← e, h) refl
 
     module _ (c : Connected) (k : c ≡ connectedIn s (w .run)) where
-      told : indexed (w .run) (c .refusal) ≡ judgedThen s none
+      told : indexed (w .run) (c .refusal) ≡ indexedThen s none
       told = ap (λ (x : Connected). indexed (w .run) (x .refusal)) k ∙ ap (indexed (w .run)) (connected-refusal s (w .run)) ∙ indexed-judged s (w .run) ∙ on
 
-      kept : c .refusal .number ≡ 0 → c .refusal ≡ judgedThen s none
+      kept : c .refusal .number ≡ 0 → c .refusal ≡ indexedThen s none
       kept z = sym (yes _ _ (eq-eqb _ _ z)) ∙ told
 
-      broken : (i : ℕ) → (c .refusal .number ≡ 0 → ⊥) → i ≡ indexAt (w .run) (c .refusal .place) → record { number = c .refusal .number; place = i } ≡ judgedThen s none
+      broken : (i : ℕ) → (c .refusal .number ≡ 0 → ⊥) → i ≡ indexAt (w .run) (c .refusal .place) → record { number = c .refusal .number; place = i } ≡ indexedThen s none
       broken i z q = ap (λ (j : ℕ). record { number = c .refusal .number; place = j }) q ∙ sym (no _ _ (ne-eqb _ _ z)) ∙ told
 
 ruleset laws = (unlaid-at, kept, broken, needs)

@@ -7,7 +7,7 @@ use lib.ListN.{length}
 use Rattle.ground.specs.Lists.{part}
 use Rattle.fields.specs.declared.Numbers.{Numbers}
 use Rattle.fields.specs.declared.Item.{Item}
-use Rattle.fields.specs.Listed.{descriptorOf, listedOf, listedWith}
+use Rattle.fields.specs.Listed.{writtenAs, entityFrom, listedWith}
 use Rattle.laying.specs.Paste.{pasted}
 use Rattle.laying.specs.Laying.{shortOf, Lay}
 use Rattle.laying.specs.LayingLaws.{lay-none, lay-short, lay-behind, lay-small, lay-room, lay-done}
@@ -16,23 +16,23 @@ use Rattle.laying.proofs.lay.Tie as tie
 
 module _ (x : Item) (v s k : List ℕ) (p : s ≡ part v (x .sources .from) (x .sources .end)) (q : k ≡ part v (x .controls .from) (x .controls .end)) where
   abbrev bytes : List ℕ
-  bytes = descriptorOf (listedOf (x .numbers) s k)
+  bytes = writtenAs (entityFrom (x .numbers) s k)
 
-  same : bytes ≡ descriptorOf (listedWith v x)
+  same : bytes ≡ writtenAs (listedWith v x)
   same = rw (p, q) refl
 
   module _ (at : ℕ) (d : List ℕ) (n : ℕ) (e : n ≡ shortOf (length bytes)) where
-    none : n ≡ 0 → Lay (descriptorOf (listedWith v x)) at d d 0
+    none : n ≡ 0 → Lay (writtenAs (listedWith v x)) at d d 0
     none z = rw same at (lay-none bytes at d n e z)
 
     module _ (z : n ≡ 0 → ⊥) where
-      short : length d < n → Lay (descriptorOf (listedWith v x)) at d d 0
+      short : length d < n → Lay (writtenAs (listedWith v x)) at d d 0
       short h = rw same at (lay-short bytes at d n e z h)
 
-      behind : length d - n < at → Lay (descriptorOf (listedWith v x)) at d d 0
+      behind : length d - n < at → Lay (writtenAs (listedWith v x)) at d d 0
       behind h = rw same at (lay-behind bytes at d n e z h)
 
-      done : (g : List ℕ) → n ≤ length d → at ≤ length d - n → g ≡ pasted at bytes d → Lay (descriptorOf (listedWith v x)) at d g n
+      done : (g : List ℕ) → n ≤ length d → at ≤ length d - n → g ≡ pasted at bytes d → Lay (writtenAs (listedWith v x)) at d g n
       done g h l j = rw same at (lay-done bytes at d n e z g h l j)
 
 ruleset laws = (none, short, behind, lay-small, lay-room, done, needs)

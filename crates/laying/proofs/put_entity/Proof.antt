@@ -9,7 +9,7 @@ use Rattle.layout.specs.Format.{twoOf}
 use Rattle.layout.specs.Fields.{input, output, mixer, selector, feature, bytesOf}
 use Rattle.fields.specs.declared.Numbers.{Numbers}
 use Rattle.fields.specs.declared.Numbers.the-variants.{Unknown, Input, Output, Mixer, Selector, Feature, Printed}
-use Rattle.fields.specs.Listed.{printed, descriptorOf, listedOf}
+use Rattle.fields.specs.Listed.{printed, writtenAs, entityFrom}
 use Rattle.laying.specs.Paste.{pasted, pasted-none}
 use Rattle.laying.specs.LayingLaws.{long-mixer, long-selector, long-feature, long-printed}
 use Rattle.laying.proofs.put_entity.Statement.{statement}
@@ -17,7 +17,7 @@ use Rattle.laying.proofs.put_entity.Tie as tie
 
 module _ (x : Numbers) (s k : List ℕ) where
   abbrev bytes : List ℕ
-  bytes = descriptorOf (listedOf x s k)
+  bytes = writtenAs (entityFrom x s k)
 
   -- the room and the length that are asked for are the kind's
   room-input : (i t a c l m n at r : ℕ) → x ≡ Input i t a c l m n → at + length bytes ≤ r → at + 12 ≤ r
@@ -81,7 +81,7 @@ module _ (x : Numbers) (s k : List ℕ) where
     put-feature : (i f z n : ℕ) → x ≡ Feature i f z n → g ≡ pasted at (bytesOf (feature i f z k n)) d → g ≡ pasted at bytes d
     put-feature i f z n e h = rw e h
 
-    put-printed : (i n : ℕ) → x ≡ Printed i n → g ≡ pasted at (descriptorOf (printed i s n)) d → g ≡ pasted at bytes d
+    put-printed : (i n : ℕ) → x ≡ Printed i n → g ≡ pasted at (writtenAs (printed i s n)) d → g ≡ pasted at bytes d
     put-printed i n e h = rw e h
 
 ruleset unknowns = (put-unknown, needs)

@@ -8,7 +8,7 @@ use native.Mathlib.Nat.{add-zero}
 use Rattle.layout.specs.Format.{twoOf}
 use Rattle.fields.specs.declared.Numbers.{Numbers}
 use Rattle.fields.specs.declared.Numbers.the-variants.{Unknown, Input, Output, Mixer, Selector, Feature, Printed}
-use Rattle.fields.specs.Listed.{descriptorOf, listedOf}
+use Rattle.fields.specs.Listed.{writtenAs, entityFrom}
 use Rattle.laying.specs.Laying.{shortOf}
 use Rattle.laying.specs.LayingLaws.{long-mixer, long-selector, long-feature, long-printed}
 use Rattle.laying.proofs.size_of.Statement.{statement}
@@ -16,7 +16,7 @@ use Rattle.laying.proofs.size_of.Tie as tie
 
 module _ (x : Numbers) (s k : List ℕ) where
   abbrev size : ℕ
-  size = length (descriptorOf (listedOf x s k))
+  size = length (writtenAs (entityFrom x s k))
 
   of-unknown : x ≡ Unknown → 0 ≡ shortOf size
   unfolding shortOf

@@ -7,7 +7,7 @@ use native.Mathlib.Omega.{arith}
 use lib.ListN.{getD}
 use mir.Val.{Fits}
 use mir.Syntax.{w64}
-use Rattle.fields.specs.Listed.{descriptorOf, listedWith, blankItem}
+use Rattle.fields.specs.Listed.{writtenAs, listedWith, blankItem}
 use Rattle.laying.specs.Laying.{Lay}
 use Rattle.writing.specs.declared.EntityList.{EntityList}
 use Rattle.writing.specs.Writing.{listOf, descriptorsOf}
@@ -16,7 +16,7 @@ use Rattle.writing.proofs.lay_out.Statement.{statement}
 use Rattle.writing.proofs.lay_out.Tie as tie
 
 end-fits : (v : List ℕ) (l : EntityList) → l .count ≤ 32 → (out : List ℕ) (at i : ℕ) → Laying (descriptorsOf (listOf v l)) out at i → i < l .count
-    → (after : List ℕ) (size : ℕ) → Lay (descriptorOf (listedWith v (getD (l .items) i blankItem))) at out after size → (size ≡ 0 → ⊥) → Fits w64 (at + size)
+    → (after : List ℕ) (size : ℕ) → Lay (writtenAs (listedWith v (getD (l .items) i blankItem))) at out after size → (size ≡ 0 → ⊥) → Fits w64 (at + size)
 end-fits v l few out at i g h after size t z = let n = turn-fits v l few out at i g h after size t z in record { fits = omega arith }
 
 ruleset start = (laying-start, needs)

@@ -1,0 +1,44 @@
+-- Each byte is the one that stands there.
+use borrow.Author.Needs.{needs}
+use Rattle.sides.proofs.own_setup.Statement.{statement}
+use Rattle.sides.proofs.own_setup.Tie as tie
+use Rattle.sides.proofs.own_setup.Reads as reads
+use Rattle.sides.proofs.own_setup.Lts as lts
+use Rattle.scan.proofs.byte_at.Reads as byte-at-reads
+
+byte-at-requires : tie.Need-byte-at-requires
+byte-at-requires c κs = search needs
+
+byte-at-requires-2 : tie.Need-byte-at-requires-2
+byte-at-requires-2 c κs = search needs
+
+byte-at-requires-3 : tie.Need-byte-at-requires-3
+byte-at-requires-3 c κs = search needs
+
+byte-at-requires-4 : tie.Need-byte-at-requires-4
+byte-at-requires-4 c κs = search needs
+
+byte-at-requires-5 : tie.Need-byte-at-requires-5
+byte-at-requires-5 c κs = search needs
+
+byte-at-requires-6 : tie.Need-byte-at-requires-6
+byte-at-requires-6 c κs = search needs
+
+byte-at-requires-7 : tie.Need-byte-at-requires-7
+byte-at-requires-7 c κs = search needs
+
+returns : tie.Need-returns
+returns c = cc
+
+pub own-setup-spec : {M : Type 1} → statement M
+own-setup-spec =
+    tie.close
+    (tie.spec
+    byte-at-requires
+    byte-at-requires-2
+    byte-at-requires-3
+    byte-at-requires-4
+    byte-at-requires-5
+    byte-at-requires-6
+    byte-at-requires-7
+    returns)
