@@ -1,17 +1,18 @@
 -- Rule 13 of the 3.0 edition, and what the reader computes of it: the laws of any edition (crate clusters), where clusters go by their IDs. An ID stands for
 -- the descriptor of the buffer that bears it, and 0, which none bears (rule 51), for none: so what the sweep makes of IDs is what the rules make of clusters.
---   Named ks id k    ==  k is found in ks by the ID: one that bears it, or none does and k is empty; named-finds: named finds so
+--   BorneBy ks id k    ==  k is found in ks by the ID: one that bears it, or none does and k is empty; named-finds: named finds so
+--   named-only       ==  in a cluster buffer the descriptor that bears an ID is the one that is found by it
 --   no-zero          ==  in a cluster buffer none is found by 0
 --   given-by-id      ==  what the sweep gives out, each as the cluster of its ID, is given out by the rules
---   reads-third      ==  the reader's test of an entity decides that it keeps its rule
+--   reads-fits-third      ==  the reader's test of an entity decides that it keeps its rule
 --   third13-nowhere  ==  THE LAW: the reader finds rule 13 broken nowhere exactly where the rule is kept
 --   third13-at       ==  .. and at q exactly where q is the place of the first descriptor that breaks it
 --   third-shown      ==  what is shown of an entity is of the cluster on its output
 use Prim.Native.Nat.{ℕ, _≤_, _<_}
 use mathlib.Core.Path.{_≡_, refl, sym, ap, _∙_}
 use mathlib.Core.Bool.{Bool, true, false}
-use mathlib.Core.Logic.{_↔_, inl, ⊎-elim}
-use mathlib.Core.List.{List, [], _∷_, map, List·Memᴰ·head, List·Memᴰ·tail, List·Memᴰ·not-nil, List·Memᴰ·cases-cons}
+use mathlib.Core.Logic.{_↔_, inl, inr, ⊎-elim}
+use mathlib.Core.List.{List, [], _∷_, _++_, map, append-assoc, List·Memᴰ·head, List·Memᴰ·tail, List·Memᴰ·not-nil, List·Memᴰ·cases-cons, List·Memᴰ·append-cases, Memᴰ·append-right}
 use native.Mathlib.Omega.{arith}
 use native.Mathlib.Nat.{min-le-right}
 use borrow.Author.Tests.{eqb-true, eqb-false, lt-ltb}
@@ -24,7 +25,7 @@ use Rattle.graph.specs.Members.{_∈_}
 use Rattle.graph.specs.Tables.{getD-tabulate}
 use Rattle.layout.specs.Layout.{noCluster}
 use Rattle.layout3.specs.declared.Facts.{Facts}
-use Rattle.buffer.specs.Clusters.{clusterId, Buffer}
+use Rattle.buffer.specs.Clusters.{clusterId, WrongCluster, Buffer}
 use Rattle.buffer.specs.Reading.{pieces, bearing, named, clusterWith}
 use Rattle.buffer.specs.BufferLaws.{buffer-pieces}
 use Rattle.edition.specs.Edition.{ownId}
@@ -43,25 +44,49 @@ use Rattle.keeping3.specs.Keeping.{keepsBy, breach13}
 use Rattle.clusters3.specs.Shown.{shownCluster, clustersBy}
 use Rattle.clusters3.specs.Given.{givenClusters}
 
-pub data Named (ks : List (List ℕ)) (id : ℕ) (k : List ℕ) : Type 0 where
-  borne : k ∈ ks → clusterId k ≡ id → Named ks id k
-  unborne : k ≡ [] → ((j : List ℕ) → j ∈ ks → clusterId j ≡ id → ⊥) → Named ks id k
+pub data BorneBy (ks : List (List ℕ)) (id : ℕ) (k : List ℕ) : Type 0 where
+  borne : k ∈ ks → clusterId k ≡ id → BorneBy ks id k
+  unborne : k ≡ [] → ((j : List ℕ) → j ∈ ks → clusterId j ≡ id → ⊥) → BorneBy ks id k
 
-pub named-finds : (ks : List (List ℕ)) (id : ℕ) → Named ks id (named ks id)
+pub named-finds : (ks : List (List ℕ)) (id : ℕ) → BorneBy ks id (named ks id)
 unfolding named
 named-finds [] id = unborne refl (λ j m e. List·Memᴰ·not-nil m)
 named-finds (k ∷ ks) id = go (bearing id k) refl (named-finds ks id)
   where
-    go : (t : Bool) → bearing id k ≡ t → Named ks id (named ks id) → Named (k ∷ ks) id (pick t k (named ks id))
+    go : (t : Bool) → bearing id k ≡ t → BorneBy ks id (named ks id) → BorneBy (k ∷ ks) id (pick t k (named ks id))
     go true e r = borne (List·Memᴰ·head refl) (eqb-true (clusterId k) id e)
     go false e (borne m q) = borne (List·Memᴰ·tail m) q
     go false e (unborne z n) = unborne z (λ j m q. ⊎-elim (λ f. eqb-false (clusterId k) id e (ap clusterId (sym f) ∙ q)) (λ l. n j l q) (List·Memᴰ·cases-cons m))
+
+-- two descriptors of a cluster buffer that bear one ID are one
+pub named-only : (ks : List (List ℕ)) → Sound WrongCluster ks → (k : List ℕ) → k ∈ ks → named ks (clusterId k) ≡ k
+unfolding Sound
+named-only ks ids k m = go (named-finds ks (clusterId k))
+  where
+    -- the one that stands behind the other would bear an ID that is borne before it
+    one : {j : List ℕ} → j ∈ ks → clusterId j ≡ clusterId k → j ≡ k
+    one {j} i e = of (split-of m)
+      where
+        of : (x : List (List ℕ)) × (y : List (List ℕ)) × (ks ≡ x ++ k ∷ y) → j ≡ k
+        of (x, y, f) = ⊎-elim front (λ l. ⊎-elim (λ q. q) back (List·Memᴰ·cases-cons l)) (List·Memᴰ·append-cases x (rw f at i))
+          where
+            front : j ∈ x → j ≡ k
+            front l = absurd (ids x k y f (inr (record { one = j; among = l; has = e })))
+
+            back : j ∈ y → j ≡ k
+            back l =
+                let z = split-of l in
+                absurd (ids (x ++ k ∷ z .0) j (z .1) (f ∙ ap (λ (r : List (List ℕ)). x ++ k ∷ r) (z .2) ∙ sym (append-assoc x (k ∷ z .0) (j ∷ z .1))) (inr (record { one = k; among = Memᴰ·append-right x (List·Memᴰ·head refl); has = sym e })))
+
+    go : {j : List ℕ} → BorneBy ks (clusterId k) j → j ≡ k
+    go (borne i e) = one i e
+    go (unborne z n) = absurd (n k m refl)
 
 pub no-zero : (b : List ℕ) → Buffer b → clusterWith b 0 ≡ []
 unfolding clusterWith Sound
 no-zero b buf = go (named-finds (pieces b) 0)
   where
-    go : Named (pieces b) 0 (named (pieces b) 0) → named (pieces b) 0 ≡ []
+    go : BorneBy (pieces b) 0 (named (pieces b) 0) → named (pieces b) 0 ≡ []
     go (borne m q) = let x = split-of m in absurd (buf .ids (x .0) (named (pieces b) 0) (x .1) (sym (buffer-pieces b buf) ∙ x .2) (inl q))
     go (unborne z n) = z
 
@@ -78,9 +103,9 @@ module _ {s b : List ℕ} {p : ℕ} {ds : List (List ℕ)} {run : Run} (k : Repr
       go false [] = no-zero b buf
       go false (x ∷ l) = refl
 
-  pub reads-third : (cl : ℕ → List ℕ) (i : ℕ) → i < length ds → Reads (keepsBy s b (nodeAt run i) cl) (Fits (third (pieces b)) cl (getD ds i []))
+  pub reads-fits-third : (cl : ℕ → List ℕ) (i : ℕ) → i < length ds → Reads (keepsBy s b (nodeAt run i) cl) (Fits (third (pieces b)) cl (getD ds i []))
   unfolding keepsBy
-  reads-third cl i l = rw (k .bytes i l, k .sources i l) (third (pieces b) .reads (getD ds i []) (entering (third (pieces b)) cl (getD ds i [])))
+  reads-fits-third cl i l = rw (k .bytes i l, k .sources i l) (third (pieces b) .reads (getD ds i []) (entering (third (pieces b)) cl (getD ds i [])))
 
   module _ (r10 : Rule10 ds) (r11 : Rule11 (third (pieces b)) ds) (r12 : Rule12 (third (pieces b)) ds) where
     pub given-by-id : GivenOut (third (pieces b)) ds (givenClusters b s run)
@@ -93,11 +118,11 @@ module _ {s b : List ℕ} {p : ℕ} {ds : List (List ℕ)} {run : Run} (k : Repr
 
     pub third13-nowhere : (breach13 s b run (givenClusters b s run) ≡ Nowhere) ↔ Rule13 (third (pieces b)) ds
     unfolding breach13
-    third13-nowhere = unfit-nowhere k r10 r11 r12 (givenClusters b s run) given-by-id _ (reads-third (givenClusters b s run))
+    third13-nowhere = unfit-nowhere k r10 r11 r12 (givenClusters b s run) given-by-id _ (reads-fits-third (givenClusters b s run))
 
     pub third13-at : (q : ℕ) → (breach13 s b run (givenClusters b s run) ≡ At q) ↔ Breaks (λ x d. Broken (third (pieces b)) ds d) p ds q
     unfolding breach13
-    third13-at = unfit-at k r10 r11 r12 (givenClusters b s run) given-by-id _ (reads-third (givenClusters b s run))
+    third13-at = unfit-at k r10 r11 r12 (givenClusters b s run) given-by-id _ (reads-fits-third (givenClusters b s run))
 
   pub third-shown : (c : Connected (third (pieces b)) ds) (i : ℕ) → i < length ds
       → getD (clustersBy b run (givenIds s (ordered s run))) i noCluster ≡ shownCluster (c .cluster (ownId (getD ds i [])))

@@ -1,14 +1,16 @@
 -- The edition is chosen by the protocol byte of the AudioControl interface that stands behind the rules 1 to 4; where there is none, both answer the same.
 --   protocol-told    ==  the byte that the reader looks at is that interface's
 --   choice           ==  THE THEOREM, field by field of Choice
-use Prim.Native.Nat.{ℕ}
+use Prim.Native.Nat.{ℕ, _≤_}
 use mathlib.Core.Path.{_≡_, refl, sym, ap, _∙_}
 use mathlib.Core.Bool.{Bool, true, false}
 use mathlib.Core.List.{List, _∷_, _++_, flatten}
+use mathlib.Core.Logic.{_⊎_, inl, inr, _↔_}
+use native.Mathlib.Omega.{arith}
 use lib.Dec.{eqb}
 use lib.ListN.{length, drop}
 use lib.Seq.{drop-at}
-use borrow.Author.Tests.{eq-eqb, ne-eqb}
+use borrow.Author.Tests.{eq-eqb, ne-eqb, eqb-true, eqb-false}
 use Rattle.ground.specs.declared.Refusal.{Refusal}
 use Rattle.ground.specs.Pick.{pick, yes, no}
 use Rattle.ground.specs.Numbers.{byte}
@@ -35,7 +37,10 @@ use Rattle.topology.specs.Reading.{judgedThen, verdictOf, refusedReading, readi
 use Rattle.third.specs.declared.SheetAnswer.{SheetAnswer}
 use Rattle.third.specs.Judgement.{thirdThen, thirdVerdict, sheetRefused, thirdAnswer, thirdSheet}
 use Rattle.protocol.specs.Protocol.{version3, protocolOf, sheetReading, eitherReading, eitherSheet}
-use Rattle.reader3.specs.BothEditions.{Choice}
+use Rattle.reader3.specs.BothEditions.{EitherConfiguration, Choice}
+use Rattle.reader3.proofs.ThirdShows.{third-demand}
+use Rattle.reader.proofs.Exactly.{accepted-exactly}
+use Rattle.reader.proofs.Shows.{number-told}
 
 module _ (s b : List ℕ) where
   chosen : eqb (protocolOf s) version3 ≡ true → (d : List ℕ) → (eitherReading s b (length d) ≡ sheetReading (thirdAnswer s b (length d))) × (eitherSheet s b d ≡ thirdSheet s b d)
@@ -108,9 +113,38 @@ module _ (s : List ℕ) (o : Opened s) where
           ∙ ap (λ (p : ℕ). byte (part s p (endAt s p)) 7) z
           ∙ ap (λ (d : List ℕ). byte d 7) control-is
 
+-- demand 3 of both editions together
+module _ (s b d : List ℕ) (h : 1024 ≤ length d) where
+  by-third : eqb (protocolOf s) version3 ≡ true → (eitherReading s b (length d) .number ≡ 0) ↔ EitherConfiguration s b
+  unfolding sheetReading
+  by-third e =
+      let n : eitherReading s b (length d) .number ≡ thirdAnswer s b (length d) .number = ap (λ (r : Reading). r .number) (chosen s b e d .0) in
+      (λ z. let t = third-demand s b .accepted d h .0 (sym n ∙ z) in inl (t, sym (protocol-told s (t .kept .opened)) ∙ eqb-true _ _ e), of n)
+    where
+      of : eitherReading s b (length d) .number ≡ thirdAnswer s b (length d) .number → EitherConfiguration s b → eitherReading s b (length d) .number ≡ 0
+      of n (inl (t, q)) = n ∙ third-demand s b .accepted d h .1 t
+      of n (inr (t, q)) = absurd (q (sym (protocol-told s (t .kept .opened)) ∙ eqb-true _ _ e))
+
+  by-first : eqb (protocolOf s) version3 ≡ false → (eitherReading s b (length d) .number ≡ 0) ↔ EitherConfiguration s b
+  by-first e =
+      let n : eitherReading s b (length d) .number ≡ verdictOf s (length d) .number = ap (λ (r : Reading). r .number) (left s b e d .0) ∙ number-told s (length d) in
+      (λ z. let t = accepted-exactly s (length d) .0 (sym n ∙ z) .0 in inr (t, λ q. eqb-false _ _ e (protocol-told s (t .kept .opened) ∙ q)), of n)
+    where
+      of : eitherReading s b (length d) .number ≡ verdictOf s (length d) .number → EitherConfiguration s b → eitherReading s b (length d) .number ≡ 0
+      of n (inl (t, q)) = absurd (eqb-false _ _ e (protocol-told s (t .kept .opened) ∙ q))
+      of n (inr (t, q)) = n ∙ accepted-exactly s (length d) .1 (t, let m = t .kept .rule8 .1 in omega arith)
+
+  either-accepted : (eitherReading s b (length d) .number ≡ 0) ↔ EitherConfiguration s b
+  either-accepted = go (eqb (protocolOf s) version3) refl
+    where
+      go : (c : Bool) → eqb (protocolOf s) version3 ≡ c → (eitherReading s b (length d) .number ≡ 0) ↔ EitherConfiguration s b
+      go true e = by-third e
+      go false e = by-first e
+
 pub choice : (s b : List ℕ) → Choice s b
 choice s b = record {
   third-read = λ o e. chosen s b (eq-eqb _ _ (protocol-told s o ∙ e));
   others-read = λ o n. left s b (ne-eqb _ _ (λ q. n (sym (protocol-told s o) ∙ q)));
   unopened = λ n d. unopened s b n d;
+  either-accepted = either-accepted s b;
 }

@@ -56,7 +56,7 @@ use Rattle.records.specs.Sheet.{Rule16, reads-room}
 use Rattle.third.specs.Judgement.{unlaid, runFor, runJudged, clustersJudged, linksJudged, frameJudged, thirdThen, roomRefused, thirdVerdict}
 use Rattle.reader3.proofs.KeptRun.{entitiesThird, run-kept, represented}
 use Rattle.reader3.specs.ThirdConfiguration.{KeptThird, runIn3, placeIn3, clustersIn, ThirdConfiguration}
-use Rattle.reader3.specs.ThirdRefusals.{linkRows, roomRows, keptThirdRows, thirdRows, thirdTable, RefusedThird, ShownThird}
+use Rattle.reader3.specs.ThirdRefusals.{linkRows, thirdRoomRows, keptThirdRows, thirdRows, thirdTable, RefusedThird, ShownThird}
 
 -- the rows 10 to 13, of a run that stands for descriptors
 module _ {s : List ℕ} {p : ℕ} {ds ks : List (List ℕ)} {run : Run} (k : Represents (third ks) s p ds run)
@@ -171,7 +171,7 @@ module _ (s b : List ℕ) (k : KeptThird s b) (room : ℕ) where
   some : (d : List ℕ) → d ∈ runIn3 k → 0 < length d
   some d m = let l = run-cut s (k .opened) (k .rule5) (k .rule6) d m .long in omega arith
 
-  room-answers : Answers (roomRows k room) (roomRefused s room none)
+  room-answers : Answers (thirdRoomRows k room) (roomRefused s room none)
   unfolding roomRefused
   room-answers = (
     _,
@@ -184,7 +184,7 @@ module _ (s b : List ℕ) (k : KeptThird s b) (room : ℕ) where
   kept-answers : Answers (keptThirdRows k room) (linksJudged s b (runFor s (frameOf s)) (roomRefused s room none))
   kept-answers =
       rw (run-kept s b k)
-      (links-answers (represented s b k) b (k .rule51) (buffer-pieces b (k .rule51)) some (λ a l c u x. roomRows k room) (roomRefused s room none)
+      (links-answers (represented s b k) b (k .rule51) (buffer-pieces b (k .rule51)) some (λ a l c u x. thirdRoomRows k room) (roomRefused s room none)
       (λ a l c u x. room-answers))
 
   kept-numbered : Numbered (keptThirdRows k room)

@@ -1,4 +1,5 @@
 pub mod ThirdConfiguration
 pub mod ThirdRefusals
 pub mod ThirdRecord
+pub mod Plainly
 pub mod BothEditions

@@ -1,7 +1,7 @@
 -- The table of refusals of the 3.0 edition, row by row: number, rule, place. Document 02, No. 12: "51 .., after 8, with the place in that buffer; 52 at the
 -- first entity whose cluster ID is unknown, between 12 and 13"; 7, 14, 15 and 17 are not applied.
 --   linkRows p ds ks behind  ==  the rows 10 to 13 of the run's descriptors ds from place p on, where ks are the cluster descriptors
---   roomRows k room     ==  the row 16; keptThirdRows k room: the rows behind 9
+--   thirdRoomRows k room     ==  the row 16; keptThirdRows k room: the rows behind 9
 --   thirdRows o b behind  ==  the rows 5, 6, 8, 51 and 9, and behind them what may speak of them kept
 --   thirdTable s b room ==  THE TABLE: all its rows, for a sheet of room bytes
 --   RefusedThird s b room n p  ==  number n at place p: every rule before n is kept, n is not, and p is its place
@@ -32,11 +32,11 @@ module _ (p : ℕ) (ds ks : List (List ℕ)) where
       row 52 (Rule52 ks ds) (Breaks (λ x d. UnknownCluster ks d) p ds) (λ u.
       row 13 (Rule13 (third ks) ds) (Breaks (λ x d. Broken (third ks) ds d) p ds) (λ e. behind a b c u e)))))
 
-abbrev pub roomRows : {s b : List ℕ} → KeptThird s b → ℕ → Rows
-roomRows k room = row 16 (Rule16 (runIn3 k) room) (BrokenAt (headerPlace (k .opened)) (Rule16 (runIn3 k) room)) (λ c. end)
+abbrev pub thirdRoomRows : {s b : List ℕ} → KeptThird s b → ℕ → Rows
+thirdRoomRows k room = row 16 (Rule16 (runIn3 k) room) (BrokenAt (headerPlace (k .opened)) (Rule16 (runIn3 k) room)) (λ c. end)
 
 abbrev pub keptThirdRows : {s b : List ℕ} → KeptThird s b → ℕ → Rows
-keptThirdRows k room = linkRows (placeIn3 k) (runIn3 k) (clustersIn k) (λ a b c u e. roomRows k room)
+keptThirdRows k room = linkRows (placeIn3 k) (runIn3 k) (clustersIn k) (λ a b c u e. thirdRoomRows k room)
 
 abbrev pub thirdRows : {s : List ℕ} → Opened s → (b : List ℕ) → (KeptThird s b → Rows) → Rows
 thirdRows o b behind =

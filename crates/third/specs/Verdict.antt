@@ -1,6 +1,6 @@
 -- The refusals in a row: what comes behind a row is reached exactly where none of it is given. So each function answers the whole verdict from what
 -- its callees say of their rows.
---   run-chain, links-chain, frame-chain, third-chain  ==  the rows 8, 51, 9; 10 to 13; all behind 6; all but 16 are such
+--   run-chain, links-chain, frame-chain, verdict3-chain  ==  the rows 8, 51, 9; 10 to 13; all behind 6; all but 16 are such
 --   found-refused, found-taken  ==  what is found where r refuses, and where it does not
 --   finding-told, finding-all  ==  a finding's refusal is the verdict of all rules but 16; where there is none it is all that is found
 --   verdict-before, verdict-room  ==  with rule 16 behind them
@@ -17,8 +17,7 @@ use Rattle.ground.specs.Refuse.{none, Chain, chain-end, chain-more, chain-both,
 use Rattle.entities.specs.declared.Run.{Run}
 use Rattle.groups.specs.declared.Frame.{Frame}
 use Rattle.groups.specs.Reading.{frameOf}
-use Rattle.groups.specs.Third.{thirdJudged}
-use Rattle.groups.specs.Third as groups
+use Rattle.groups.specs.Third.{thirdJudged, third-chain}
 use Rattle.third.specs.declared.Finding.{Finding}
 use Rattle.third.specs.Judgement.{runFor, runJudged, clustersJudged, linksJudged, frameJudged, thirdThen, roomRefused, thirdVerdict, nothingFound, allFound, foundThen, thirdFinding}
 
@@ -36,9 +35,9 @@ pub frame-chain : (s b : List ℕ) (f : Frame) → Chain (frameJudged s b f)
 unfolding frameJudged
 frame-chain s b f = chain-both (runJudged s b f) (linksJudged s b (runFor s f)) (run-chain s b f) (links-chain s b (runFor s f))
 
-pub third-chain : (s b : List ℕ) → Chain (thirdThen s b)
+pub verdict3-chain : (s b : List ℕ) → Chain (thirdThen s b)
 unfolding thirdThen
-third-chain s b = chain-both (thirdJudged s) (frameJudged s b (frameOf s)) (groups.third-chain s) (frame-chain s b (frameOf s))
+verdict3-chain s b = chain-both (thirdJudged s) (frameJudged s b (frameOf s)) (third-chain s) (frame-chain s b (frameOf s))
 
 module _ (r : Refusal) (ok : Finding) where
   pub found-refused : (r .number ≡ 0 → ⊥) → nothingFound r ≡ foundThen r ok
@@ -56,7 +55,7 @@ module _ (s b : List ℕ) (f : Finding) (e : f ≡ thirdFinding s b) where
     where
       go : (c : Bool) → eqb (thirdThen s b none .number) 0 ≡ c
           → pick c (allFound s b (frameOf s .header) (runFor s (frameOf s))) (nothingFound (thirdThen s b none)) .refusal ≡ thirdThen s b none
-      go true q = sym (chain-none (thirdThen s b) (third-chain s b) (eqb-true _ _ q))
+      go true q = sym (chain-none (thirdThen s b) (verdict3-chain s b) (eqb-true _ _ q))
       go false q = refl
 
   pub finding-all : f .refusal .number ≡ 0 → f ≡ allFound s b (frameOf s .header) (runFor s (frameOf s))
@@ -66,8 +65,8 @@ module _ (s b : List ℕ) (f : Finding) (e : f ≡ thirdFinding s b) where
   module _ (room : ℕ) where
     pub verdict-before : (f .refusal .number ≡ 0 → ⊥) → f .refusal ≡ thirdVerdict s b room
     unfolding thirdVerdict
-    verdict-before n = finding-told ∙ sym (third-chain s b .stays (λ q. n (ap (λ (x : Refusal). x .number) finding-told ∙ q)) (roomRefused s room none))
+    verdict-before n = finding-told ∙ sym (verdict3-chain s b .stays (λ q. n (ap (λ (x : Refusal). x .number) finding-told ∙ q)) (roomRefused s room none))
 
     pub verdict-room : f .refusal .number ≡ 0 → thirdVerdict s b room ≡ roomRefused s room none
     unfolding thirdVerdict
-    verdict-room z = third-chain s b .on (sym (ap (λ (x : Refusal). x .number) finding-told) ∙ z) (roomRefused s room none)
+    verdict-room z = verdict3-chain s b .on (sym (ap (λ (x : Refusal). x .number) finding-told) ∙ z) (roomRefused s room none)

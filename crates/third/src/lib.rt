@@ -12,11 +12,11 @@ use groups::Frame;
 use layout::Cluster;
 
 // What stands in a configuration that these rules do not refuse; where they do, the refusal and nothing else.
-pub struct Finding {
-    pub refusal: Refusal,
-    pub header: usize,
-    pub run: Run,
-    pub clusters: [Cluster; 32],
+struct Finding {
+    refusal: Refusal,
+    header: usize,
+    run: Run,
+    clusters: [Cluster; 32],
 }
 
 // The answer: "the sheet only", and how many entities it shows. A refusal: its number and place, and no entity.
@@ -135,7 +135,7 @@ fn judge_frame(config: &[u8], clusters: &[u8], f: Frame) -> Finding
 }
 
 // What is found of a configuration by the rules of the 3.0 edition but 16.
-pub fn judge(config: &[u8], clusters: &[u8]) -> Finding
+fn judge(config: &[u8], clusters: &[u8]) -> Finding
     ensures { λ r. ⌜ r ≡ thirdFinding (now (config .entry)) (now (clusters .entry)) ⌝ }
 {
     let framing = groups::framed_third(config);
