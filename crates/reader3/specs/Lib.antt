@@ -2,3 +2,4 @@ pub mod ThirdConfiguration
 pub mod ThirdRefusals
 pub mod ThirdRecord
 pub mod BothEditions
+pub mod Case3
