@@ -2,3 +2,4 @@ pub mod KeptRun
 pub mod ThirdExactly
 pub mod ThirdShows
 pub mod Choosing
+pub mod Case3
