@@ -6,7 +6,7 @@ ghost use Prim.Native.Nat.{_*_, _≤_};
 ghost use mathlib.Core.List.{_++_};
 ghost use lib.ListN.{length, drop};
 ghost use Rattle.ground.specs.Lists.{pad};
-ghost use Rattle.legal.specs.Sheet.{mostBytes};
+ghost use Rattle.legal.specs.Sheet.{mostSheet};
 ghost use Rattle.mover.specs.Moving.{otherOf, hasMore, losesMore, losesTo, movedTo, moveNumber, Move};
 ghost use Rattle.mover.specs.Laid.{Room, resized};
 use legal::Form;
@@ -76,7 +76,7 @@ fn loses(form: Form, s: &[u8]) -> bool
 
 // The bytes of the moved sheet.
 fn moved_size(form: Form, s: &[u8]) -> usize
-    requires { ⌜ length (now s) ≤ mostBytes ⌝ }
+    requires { ⌜ length (now s) ≤ mostSheet ⌝ }
     ensures { λ r. ⌜ r ≡ length (movedTo form (now (s .entry))) ⌝ }
 {
     legal::count(s, other(form)) * legal::record_size(form)
