@@ -22,7 +22,7 @@ use Rattle.edition3.specs.Third.{saidBy, firstOf, givesOut, third, Rule52}
 use Rattle.sources.specs.Rule11.{no-output}
 use Rattle.clusters.specs.Rule13.{Connected}
 use Rattle.clusters.specs.Topology.{source-of}
-use Rattle.clusters3.specs.Rule13Laws.{BorneBy, borne, unborne, named-finds}
+use Rattle.clusters3.specs.Rule13Laws.{FoundById, borne, unborne, found-by-id}
 
 -- an entity that is no Clock Source names a cluster or has a pin
 draws : (d : List ℕ) → LaidOut d → (saidBy d .kind ≡ 0x0B → ⊥) → (saidBy d .declares ≡ true) ⊎ (1 ≤ saidBy d .pins)
@@ -55,9 +55,9 @@ feeding d = of (told d)
 module _ (ks ds : List (List ℕ)) (c : Connected (third ks) ds) (known : Rule52 ks ds) where
   pub cluster-named : (d : List ℕ) → d ∈ ds → saidBy d .declares ≡ true → (c .cluster (ownId d) ∈ ks) × (clusterId (c .cluster (ownId d)) ≡ saidBy d .cluster)
   unfolding givesOut
-  cluster-named d m e = subst (λ (k : List ℕ). (k ∈ ks) × (clusterId k ≡ saidBy d .cluster)) (sym (c .given-out d m ∙ yes _ _ e)) (go (named-finds ks (saidBy d .cluster)))
+  cluster-named d m e = subst (λ (k : List ℕ). (k ∈ ks) × (clusterId k ≡ saidBy d .cluster)) (sym (c .given-out d m ∙ yes _ _ e)) (go (found-by-id ks (saidBy d .cluster)))
     where
-      go : {k : List ℕ} → BorneBy ks (saidBy d .cluster) k → (k ∈ ks) × (clusterId k ≡ saidBy d .cluster)
+      go : {k : List ℕ} → FoundById ks (saidBy d .cluster) k → (k ∈ ks) × (clusterId k ≡ saidBy d .cluster)
       go (borne a q) = (a, q)
       go (unborne z n) = absurd (known d m (e, n))
 

@@ -1,13 +1,13 @@
 -- Rule 13 of the 3.0 edition, and what the reader computes of it: the laws of any edition (crate clusters), where clusters go by their IDs. An ID stands for
 -- the descriptor of the buffer that bears it, and 0, which none bears (rule 51), for none: so what the sweep makes of IDs is what the rules make of clusters.
---   BorneBy ks id k    ==  k is found in ks by the ID: one that bears it, or none does and k is empty; named-finds: named finds so
---   named-only       ==  in a cluster buffer the descriptor that bears an ID is the one that is found by it
---   no-zero          ==  in a cluster buffer none is found by 0
---   given-by-id      ==  what the sweep gives out, each as the cluster of its ID, is given out by the rules
---   reads-fits-third      ==  the reader's test of an entity decides that it keeps its rule
---   third13-nowhere  ==  THE LAW: the reader finds rule 13 broken nowhere exactly where the rule is kept
---   third13-at       ==  .. and at q exactly where q is the place of the first descriptor that breaks it
---   third-shown      ==  what is shown of an entity is of the cluster on its output
+--   FoundById ks id k ==  k is found in ks by the ID: one that bears it, or none does and k is empty; found-by-id: clusterIn finds so
+--   found-only        ==  in a cluster buffer the descriptor that bears an ID is the one that is found by it
+--   no-zero           ==  in a cluster buffer none is found by 0
+--   given-by-id       ==  what the sweep gives out, each as the cluster of its ID, is given out by the rules
+--   reads-fits-third  ==  the reader's test of an entity decides that it keeps its rule
+--   third13-nowhere   ==  THE LAW: the reader finds rule 13 broken nowhere exactly where the rule is kept
+--   third13-at        ==  .. and at q exactly where q is the place of the first descriptor that breaks it
+--   third-shown       ==  what is shown of an entity is of the cluster on its output
 use Prim.Native.Nat.{ℕ, _≤_, _<_}
 use mathlib.Core.Path.{_≡_, refl, sym, ap, _∙_}
 use mathlib.Core.Bool.{Bool, true, false}
@@ -26,7 +26,7 @@ use Rattle.graph.specs.Tables.{getD-tabulate}
 use Rattle.layout.specs.Layout.{noCluster}
 use Rattle.layout3.specs.declared.Facts.{Facts}
 use Rattle.buffer.specs.Clusters.{clusterId, WrongCluster, Buffer}
-use Rattle.buffer.specs.Reading.{pieces, bearing, named, clusterWith}
+use Rattle.buffer.specs.Reading.{pieces, bearing, clusterIn, clusterWith}
 use Rattle.buffer.specs.BufferLaws.{buffer-pieces}
 use Rattle.edition.specs.Edition.{ownId}
 use Rattle.edition3.specs.Third.{saidBy, firstOf, givesOut, third}
@@ -44,24 +44,24 @@ use Rattle.keeping3.specs.Keeping.{keepsBy, breach13}
 use Rattle.clusters3.specs.Shown.{shownCluster, clustersBy}
 use Rattle.clusters3.specs.Given.{givenClusters}
 
-pub data BorneBy (ks : List (List ℕ)) (id : ℕ) (k : List ℕ) : Type 0 where
-  borne : k ∈ ks → clusterId k ≡ id → BorneBy ks id k
-  unborne : k ≡ [] → ((j : List ℕ) → j ∈ ks → clusterId j ≡ id → ⊥) → BorneBy ks id k
+pub data FoundById (ks : List (List ℕ)) (id : ℕ) (k : List ℕ) : Type 0 where
+  borne : k ∈ ks → clusterId k ≡ id → FoundById ks id k
+  unborne : k ≡ [] → ((j : List ℕ) → j ∈ ks → clusterId j ≡ id → ⊥) → FoundById ks id k
 
-pub named-finds : (ks : List (List ℕ)) (id : ℕ) → BorneBy ks id (named ks id)
-unfolding named
-named-finds [] id = unborne refl (λ j m e. List·Memᴰ·not-nil m)
-named-finds (k ∷ ks) id = go (bearing id k) refl (named-finds ks id)
+pub found-by-id : (ks : List (List ℕ)) (id : ℕ) → FoundById ks id (clusterIn ks id)
+unfolding clusterIn
+found-by-id [] id = unborne refl (λ j m e. List·Memᴰ·not-nil m)
+found-by-id (k ∷ ks) id = go (bearing id k) refl (found-by-id ks id)
   where
-    go : (t : Bool) → bearing id k ≡ t → BorneBy ks id (named ks id) → BorneBy (k ∷ ks) id (pick t k (named ks id))
+    go : (t : Bool) → bearing id k ≡ t → FoundById ks id (clusterIn ks id) → FoundById (k ∷ ks) id (pick t k (clusterIn ks id))
     go true e r = borne (List·Memᴰ·head refl) (eqb-true (clusterId k) id e)
     go false e (borne m q) = borne (List·Memᴰ·tail m) q
     go false e (unborne z n) = unborne z (λ j m q. ⊎-elim (λ f. eqb-false (clusterId k) id e (ap clusterId (sym f) ∙ q)) (λ l. n j l q) (List·Memᴰ·cases-cons m))
 
 -- two descriptors of a cluster buffer that bear one ID are one
-pub named-only : (ks : List (List ℕ)) → Sound WrongCluster ks → (k : List ℕ) → k ∈ ks → named ks (clusterId k) ≡ k
+pub found-only : (ks : List (List ℕ)) → Sound WrongCluster ks → (k : List ℕ) → k ∈ ks → clusterIn ks (clusterId k) ≡ k
 unfolding Sound
-named-only ks ids k m = go (named-finds ks (clusterId k))
+found-only ks ids k m = go (found-by-id ks (clusterId k))
   where
     -- the one that stands behind the other would bear an ID that is borne before it
     one : {j : List ℕ} → j ∈ ks → clusterId j ≡ clusterId k → j ≡ k
@@ -78,27 +78,27 @@ named-only ks ids k m = go (named-finds ks (clusterId k))
                 let z = split-of l in
                 absurd (ids (x ++ k ∷ z .0) j (z .1) (f ∙ ap (λ (r : List (List ℕ)). x ++ k ∷ r) (z .2) ∙ sym (append-assoc x (k ∷ z .0) (j ∷ z .1))) (inr (record { one = k; among = Memᴰ·append-right x (List·Memᴰ·head refl); has = sym e })))
 
-    go : {j : List ℕ} → BorneBy ks (clusterId k) j → j ≡ k
+    go : {j : List ℕ} → FoundById ks (clusterId k) j → j ≡ k
     go (borne i e) = one i e
     go (unborne z n) = absurd (n k m refl)
 
 pub no-zero : (b : List ℕ) → Buffer b → clusterWith b 0 ≡ []
 unfolding clusterWith Sound
-no-zero b buf = go (named-finds (pieces b) 0)
+no-zero b buf = go (found-by-id (pieces b) 0)
   where
-    go : BorneBy (pieces b) 0 (named (pieces b) 0) → named (pieces b) 0 ≡ []
-    go (borne m q) = let x = split-of m in absurd (buf .ids (x .0) (named (pieces b) 0) (x .1) (sym (buffer-pieces b buf) ∙ x .2) (inl q))
+    go : FoundById (pieces b) 0 (clusterIn (pieces b) 0) → clusterIn (pieces b) 0 ≡ []
+    go (borne m q) = let x = split-of m in absurd (buf .ids (x .0) (clusterIn (pieces b) 0) (x .1) (sym (buffer-pieces b buf) ∙ x .2) (inl q))
     go (unborne z n) = z
 
 module _ {s b : List ℕ} {p : ℕ} {ds : List (List ℕ)} {run : Run} (k : Represents (third (pieces b)) s p ds run) (buf : Buffer b) where
   -- the cluster of what an entity gives out by ID is what it gives out of the clusters
   named-out : (f : Facts) (l : List ℕ) → clusterWith b (pick (f .declares) (f .cluster) (firstId (map (givenIds s (ordered s run)) l)))
-      ≡ pick (f .declares) (named (pieces b) (f .cluster)) (firstOf (map (givenClusters b s run) l))
+      ≡ pick (f .declares) (clusterIn (pieces b) (f .cluster)) (firstOf (map (givenClusters b s run) l))
   unfolding clusterWith firstId firstOf
   named-out f l = go (f .declares) l
     where
-      go : (t : Bool) (l : List ℕ) → named (pieces b) (pick t (f .cluster) (firstId (map (givenIds s (ordered s run)) l)))
-          ≡ pick t (named (pieces b) (f .cluster)) (firstOf (map (givenClusters b s run) l))
+      go : (t : Bool) (l : List ℕ) → clusterIn (pieces b) (pick t (f .cluster) (firstId (map (givenIds s (ordered s run)) l)))
+          ≡ pick t (clusterIn (pieces b) (f .cluster)) (firstOf (map (givenClusters b s run) l))
       go true l = refl
       go false [] = no-zero b buf
       go false (x ∷ l) = refl

@@ -1,4 +1,4 @@
--- The papers' table of refusals of a configuration (document 01), row by row: number, rule, place.
+-- The papers' table of refusals of a configuration (document 01; row 17 is document 02's, No. 6), row by row: number, rule, place.
 --   runRows k cluster room  ==  the rows 14 to 16, with the clusters on IDs and a sheet of room bytes
 --   keptRows k room         ==  the rows 10 to 16 of a configuration that keeps the rules 1 to 9
 --   tableOfRows s room      ==  THE TABLE: all seventeen rows, 17 between 9 and 10

@@ -201,13 +201,13 @@ module _ {ks ds : List (List ℕ)} (c : Connected (third ks) ds) (clocks : Clock
 
   -- what d gives out and keeps, where it is x
   module _ (x : Entity) (e : entityOf d ≡ x) where
-    own : factsOf x .declares ≡ true → c .cluster (ownId d) ≡ buffer.named ks (factsOf x .cluster)
+    own : factsOf x .declares ≡ true → c .cluster (ownId d) ≡ buffer.clusterIn ks (factsOf x .cluster)
     unfolding givesOut
-    own q = c .given-out d m ∙ ap (λ (y : Entity). pick (factsOf y .declares) (buffer.named ks (factsOf y .cluster)) (firstOf cs)) e ∙ yes _ _ q
+    own q = c .given-out d m ∙ ap (λ (y : Entity). pick (factsOf y .declares) (buffer.clusterIn ks (factsOf y .cluster)) (firstOf cs)) e ∙ yes _ _ q
 
     passed : factsOf x .declares ≡ false → c .cluster (ownId d) ≡ firstOf cs
     unfolding givesOut
-    passed q = c .given-out d m ∙ ap (λ (y : Entity). pick (factsOf y .declares) (buffer.named ks (factsOf y .cluster)) (firstOf cs)) e ∙ no _ _ q
+    passed q = c .given-out d m ∙ ap (λ (y : Entity). pick (factsOf y .declares) (buffer.clusterIn ks (factsOf y .cluster)) (firstOf cs)) e ∙ no _ _ q
 
     bears : factsOf x .declares ≡ true → clusterId (c .cluster (ownId d)) ≡ factsOf x .cluster
     bears q = cluster-named ks ds c known d m (ap (λ (y : Entity). factsOf y .declares) e ∙ q) .1 ∙ ap (λ (y : Entity). factsOf y .cluster) e
