@@ -4,7 +4,9 @@
 
 use crate::cut::two_bytes;
 use crate::numbers::{CONTROLS, SHEET};
-use crate::relay::{self, over_body, plain, read_load, refused, BadStep, Printed, PUT_CONTROL};
+use crate::relay::{
+    self, each_step, over_body, plain, read_load, refused, take, BadStep, Printed, PUT_CONTROL,
+};
 use crate::requests::State;
 use crate::sides::{self, Duet, Refused, Side};
 use crate::ways::Way;
@@ -27,19 +29,10 @@ pub const STRETCH: u8 = 7;
 /// Runs a whole script.
 pub fn program(script: &[u8]) -> String {
     let mut duet = Duet::empty();
-    let mut printed = String::new();
-    let mut rest = script;
-    while !rest.is_empty() {
-        let Ok((kind, body, after)) = relay::take(rest) else {
-            return printed + "bad step\n";
-        };
-        let Ok(step) = step(&mut duet, kind, body) else {
-            return printed + "bad step\n";
-        };
-        printed += &step.lines;
-        rest = after;
-    }
-    printed
+    each_step(script, |rest| {
+        let (kind, body, after) = take(rest)?;
+        Ok((step(&mut duet, kind, body)?, after))
+    })
 }
 
 /// One step. An unknown kind, a side byte over 1 or a body of the wrong length for its kind is a bad
@@ -70,10 +63,7 @@ fn sided(body: &[u8]) -> Result<(Side, &[u8]), BadStep> {
 fn told(refusal: Refused) -> Printed {
     match refusal {
         Refused::Own(way) => refused(way),
-        Refused::Reader(one) => Printed {
-            lines: format!("refused {} at {}\n", one.way.number(), one.place),
-            way: Some(one.way),
-        },
+        Refused::Reader(one) => Printed { lines: one.line(), way: Some(one.way) },
     }
 }
 

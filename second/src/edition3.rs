@@ -1,13 +1,14 @@
 //! The 3.0 edition (document 02, No. 12; source document 001): the header, the run and its entities,
 //! the cluster descriptors of a second lent buffer, and the sheet.
 //!
-//! Rules 1 to 4 are those of [`cut`], and ranks those of [`topology`]. The order is 1 to 6, 8, 51, 9,
+//! Rules 1 to 4 are those of [`cut`], 10 and 12 those of [`topology`]. The order is 1 to 6, 8, 51, 9,
 //! 10, 11, 12, 52, 13, 16; "Rules 7, 14, 15 and 17 are not applied."
 
 use crate::cut::{self, two_bytes, Descriptor, Group, CLASS};
+use crate::entity;
 use crate::numbers::{CHANNELS, CLUSTER_LEAST, EDITION_3, ENTITIES, PINS, RECORD};
 use crate::reader;
-use crate::topology;
+use crate::topology::{self, find, sources_of};
 use crate::ways::{Refusal, Way};
 
 /// The subtypes of table A-15 that are taken.
@@ -54,9 +55,10 @@ fn accept(
     }
     let clusters = cut_clusters(clusters)?;
     let entities = run.iter().map(lay_out).collect::<Result<Vec<Entity>, Refusal>>()?;
-    check_ids(&entities)?;
+    topology::check_ids(&entities, [Way::IdZeroIn3, Way::IdRepeatedIn3])?;
     check_sources(&entities)?;
-    check_chains(&entities)?;
+    // A clock is no source.
+    topology::check_chains(&entities, [Way::ChainOnLoopIn3, Way::ChainBelowLoopIn3])?;
     check_cluster_ids(&entities, &clusters)?;
     let shown: Vec<Option<Cluster>> =
         (0..entities.len()).map(|index| leaving(&entities, &clusters, index)).collect();
@@ -168,25 +170,14 @@ impl Kind {
     }
 }
 
-/// An entity as its layout reads it.
-#[derive(Clone, Debug)]
-struct Entity {
-    place: usize,
-    length: usize,
-    id: u8,
-    kind: Kind,
-    sources: Vec<u8>,
-}
+type Entity<'a> = entity::Entity<'a, Kind>;
 
 /// Refusal 9: any other kind, or too few bytes for that kind's fields; what is exact for a Mixer and a
 /// Feature Unit is 13's.
-fn lay_out(descriptor: &Descriptor) -> Result<Entity, Refusal> {
-    let bytes = descriptor.bytes;
+fn lay_out<'a>(&Descriptor { place, bytes }: &Descriptor<'a>) -> Result<Entity<'a>, Refusal> {
     match fields(bytes) {
-        Ok((kind, sources)) => {
-            Ok(Entity { place: descriptor.place, length: bytes.len(), id: bytes[3], kind, sources })
-        }
-        Err(way) => Err(Refusal::at(way, descriptor.place)),
+        Ok((kind, sources)) => Ok(Entity { place, bytes, id: bytes[3], kind, sources }),
+        Err(way) => Err(Refusal::at(way, place)),
     }
 }
 
@@ -235,23 +226,6 @@ fn pins(bytes: &[u8], short: Way, other: Way) -> Result<usize, Way> {
     }
 }
 
-fn find(entities: &[Entity], id: u8) -> Option<usize> {
-    entities.iter().position(|entity| entity.id == id)
-}
-
-/// Refusal 10, as in the other edition.
-fn check_ids(entities: &[Entity]) -> Result<(), Refusal> {
-    for (index, entity) in entities.iter().enumerate() {
-        if entity.id == 0 {
-            return Err(Refusal::at(Way::IdZeroIn3, entity.place));
-        }
-        if find(&entities[..index], entity.id).is_some() {
-            return Err(Refusal::at(Way::IdRepeatedIn3, entity.place));
-        }
-    }
-    Ok(())
-}
-
 /// Refusal 11: "A Terminal's clock ID names a Clock Source, which is no source for a pin; rule 11
 /// covers both", at the first entity by place that has such a pin or such a clock.
 fn check_sources(entities: &[Entity]) -> Result<(), Refusal> {
@@ -289,23 +263,6 @@ fn clock_breach(entities: &[Entity], clock: u8) -> Option<Way> {
         None => Some(Way::ClockUnknown),
         Some(Kind::ClockSource) => None,
         Some(_) => Some(Way::ClockOther),
-    }
-}
-
-/// The indices of an entity's sources, all of which are known.
-fn sources_of(entities: &[Entity], index: usize) -> Vec<usize> {
-    let known = |&id: &u8| find(entities, id).expect("refusal 11 comes first");
-    entities[index].sources.iter().map(known).collect()
-}
-
-/// Refusal 12, as in the other edition; a clock is no source.
-fn check_chains(entities: &[Entity]) -> Result<(), Refusal> {
-    let sources: Vec<Vec<usize>> =
-        (0..entities.len()).map(|index| sources_of(entities, index)).collect();
-    match topology::unranked(&sources) {
-        None => Ok(()),
-        Some((index, true)) => Err(Refusal::at(Way::ChainOnLoopIn3, entities[index].place)),
-        Some((index, false)) => Err(Refusal::at(Way::ChainBelowLoopIn3, entities[index].place)),
     }
 }
 
@@ -368,9 +325,11 @@ fn cluster_breach(entity: &Entity, pins: &[Cluster], own: Option<Cluster>) -> Op
             let entering: usize = pins.iter().map(Cluster::channels).sum();
             let length = 13 + pins.len() + (entering * c).div_ceil(8);
             outside(Way::MixerChannelsZeroIn3, Way::MixerChannelsHighIn3)
-                .or((entity.length != length).then_some(Way::MixerControlsIn3))
+                .or((entity.bytes.len() != length).then_some(Way::MixerControlsIn3))
         }
-        Kind::FeatureUnit => (entity.length != 7 + 4 * (c + 1)).then_some(Way::FeatureMasksIn3),
+        Kind::FeatureUnit => {
+            (entity.bytes.len() != 7 + 4 * (c + 1)).then_some(Way::FeatureMasksIn3)
+        }
         Kind::Selector => pins
             .iter()
             .any(|pin| pin.content() != pins[0].content())

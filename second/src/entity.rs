@@ -55,9 +55,9 @@ pub enum Kind {
     },
 }
 
-/// An entity as its layout reads it.
+/// An entity as its layout reads it, with the kinds of this edition or of another.
 #[derive(Clone, Debug)]
-pub struct Entity<'a> {
+pub struct Entity<'a, K = Kind> {
     /// Where its descriptor stands.
     pub place: usize,
     /// Its descriptor's bytes.
@@ -65,7 +65,7 @@ pub struct Entity<'a> {
     /// "byte 3 the ID".
     pub id: u8,
     /// Its kind and that kind's fields.
-    pub kind: Kind,
+    pub kind: K,
     /// The source IDs, one for each pin.
     pub sources: Vec<u8>,
 }

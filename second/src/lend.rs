@@ -8,21 +8,12 @@
 use crate::cut::two_bytes;
 use crate::numbers::{LENT, LINE, MARK, STEP};
 use crate::reader;
-use crate::relay::{BadStep, Printed};
+use crate::relay::{each_step, BadStep, Printed};
 use crate::sheet;
 
 /// Runs over a whole input.
 pub fn program(input: &[u8]) -> String {
-    let mut printed = String::new();
-    let mut rest = input;
-    while !rest.is_empty() {
-        let Ok((m, config, after)) = take(rest) else {
-            return printed + "bad step\n";
-        };
-        printed += &step(m, config).lines;
-        rest = after;
-    }
-    printed
+    each_step(input, |rest| take(rest).map(|(m, config, after)| (step(m, config), after)))
 }
 
 /// The first step of what is not empty: the length of its sheet, its configuration, and what

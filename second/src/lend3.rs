@@ -14,25 +14,18 @@ use crate::cut::two_bytes;
 use crate::edition3;
 use crate::lend;
 use crate::numbers::{CLUSTERS, LENT, MARK, RECORD, SHEET, STEP};
-use crate::relay::{BadStep, Printed};
+use crate::relay::{each_step, BadStep, Printed};
 use crate::sheet;
-use crate::ways::Refusal;
 
 /// A step: the length of its sheet, its configuration, its cluster buffer, and what follows it.
 type Step<'a> = (usize, &'a [u8], &'a [u8], &'a [u8]);
 
 /// Runs over a whole input.
 pub fn program(input: &[u8]) -> String {
-    let mut printed = String::new();
-    let mut rest = input;
-    while !rest.is_empty() {
-        let Ok((m, config, clusters, after)) = take(rest) else {
-            return printed + "bad step\n";
-        };
-        printed += &step(m, config, clusters).lines;
-        rest = after;
-    }
-    printed
+    each_step(input, |rest| {
+        let (m, config, clusters, after) = take(rest)?;
+        Ok((step(m, config, clusters), after))
+    })
 }
 
 /// The first step of what is not empty. An m over 2,048, an n or a k over 8,192 or an input that ends
@@ -55,13 +48,9 @@ pub fn step(m: usize, config: &[u8], clusters: &[u8]) -> Printed {
     let mut lent = vec![MARK; m];
     let (line, way) = match edition3::read(config, clusters, &mut lent) {
         Ok(entities) => (format!("accepted {entities}\n"), None),
-        Err(refusal) => (refused(refusal), Some(refusal.way)),
+        Err(refusal) => (refusal.line(), Some(refusal.way)),
     };
     Printed { lines: line + &lend::shown(&lent), way }
-}
-
-fn refused(refusal: Refusal) -> String {
-    format!("refused {} at {}\n", refusal.way.number(), refusal.place)
 }
 
 /// The program `sheet3`: standard input is a configuration, the file `clusters` of the folder the
@@ -85,7 +74,7 @@ pub fn printed(config: &[u8], file: &[u8]) -> String {
     let mut lent = [0; SHEET];
     match edition3::read(config, &file[..file.len().min(CLUSTERS)], &mut lent) {
         Ok(entities) => lent.chunks_exact(RECORD).take(entities).map(sheet::line).collect(),
-        Err(refusal) => refused(refusal),
+        Err(refusal) => refusal.line(),
     }
 }
 

@@ -18,10 +18,10 @@
 //! `second way ID`: the program `way`.
 //! `second vectors DIR [--report]`: writes the vectors; fails if a clause is not reached.
 //! `second fuzz SEED COUNT`: a fresh script of COUNT configurations and COUNT other steps.
-//! `second compare SEED COUNT EVERY SHEET LEND RELAY SHEETS MOVE ROUTES WRITER DUET [LEND3]`: fresh inputs
-//! through the programs SHEET, LEND, RELAY, SHEETS, MOVE, ROUTES, WRITER, DUET and, where it is given,
-//! LEND3 (each a command with its arguments) and through this one; one configuration in EVERY goes
-//! through SHEET, and as many sheets through MOVE.
+//! `second compare SEED COUNT EVERY SHEET LEND RELAY SHEETS MOVE ROUTES WRITER DUET LEND3`: fresh inputs
+//! through the programs SHEET, LEND, RELAY, SHEETS, MOVE, ROUTES, WRITER, DUET and LEND3 (each a
+//! command with its arguments) and through this one; one configuration in EVERY goes through SHEET,
+//! and as many sheets through MOVE.
 
 #![deny(missing_docs)]
 
@@ -59,7 +59,7 @@ use generator::{compare, vectors};
 const USAGE: &str = "usage: second sheet | lend | relay | sheets | differ | move new|old \
                      | routes | way ID | writer | duet | lend3 | sheet3 | vectors DIR [--report] \
                      | fuzz SEED COUNT | compare SEED COUNT EVERY SHEET LEND RELAY SHEETS MOVE \
-                     ROUTES WRITER DUET [LEND3]";
+                     ROUTES WRITER DUET LEND3";
 
 fn main() -> ExitCode {
     let arguments: Vec<String> = std::env::args().skip(1).collect();
@@ -96,7 +96,7 @@ fn run(words: &[&str]) -> Result<Vec<u8>, String> {
         ["fuzz", seed, count] => {
             Ok(compare::script(number(seed)?, number(count)? as usize).tape.bytes)
         }
-        ["compare", seed, count, every, programs @ ..] if (8..=9).contains(&programs.len()) => {
+        ["compare", seed, count, every, programs @ ..] if programs.len() == 9 => {
             let command = |text: &str| text.split_whitespace().map(str::to_string).collect();
             let job = compare::Job {
                 seed: number(seed)?,
@@ -109,7 +109,7 @@ fn run(words: &[&str]) -> Result<Vec<u8>, String> {
                 routes: command(programs[5]),
                 writer: command(programs[6]),
                 duet: command(programs[7]),
-                lend3: programs.get(8).map(|text| command(text)).unwrap_or_default(),
+                lend3: command(programs[8]),
                 every: number(every)? as usize,
             };
             compare::run(&job).map(|line| (line + "\n").into_bytes())

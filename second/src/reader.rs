@@ -23,7 +23,7 @@ impl Answer {
     /// As the programs print it: `accepted I E C` or `refused N at P`.
     pub fn line(&self) -> String {
         match self.refusal {
-            Some(refusal) => format!("refused {} at {}\n", refusal.way.number(), refusal.place),
+            Some(refusal) => refusal.line(),
             None => {
                 let State { number, table } = &self.state;
                 format!("accepted {number} {} {}\n", self.entities, table.count)

@@ -39,22 +39,31 @@ pub struct Printed {
 #[derive(Clone, Copy, Debug, PartialEq, Eq)]
 pub struct BadStep;
 
-/// Runs a whole script.
-pub fn program(script: &[u8]) -> String {
-    let mut state = State::empty();
+/// What a program prints over a whole input, given what the first step of what is left prints and what
+/// follows it. What is no step ends the program.
+pub fn each_step(
+    input: &[u8],
+    mut first: impl FnMut(&[u8]) -> Result<(Printed, &[u8]), BadStep>,
+) -> String {
     let mut printed = String::new();
-    let mut rest = script;
+    let mut rest = input;
     while !rest.is_empty() {
-        let Ok((kind, body, after)) = take(rest) else {
-            return printed + "bad step\n";
-        };
-        let Ok(step) = step(&mut state, kind, body) else {
+        let Ok((step, after)) = first(rest) else {
             return printed + "bad step\n";
         };
         printed += &step.lines;
         rest = after;
     }
     printed
+}
+
+/// Runs a whole script.
+pub fn program(script: &[u8]) -> String {
+    let mut state = State::empty();
+    each_step(script, |rest| {
+        let (kind, body, after) = take(rest)?;
+        Ok((step(&mut state, kind, body)?, after))
+    })
 }
 
 /// The first step of what is not empty: its kind, its bytes, and what follows. "an n over 8,192 ...

@@ -10,7 +10,7 @@ use crate::entity::Kind;
 use crate::lend;
 use crate::numbers::{LIST, MARK, ROUTES, STEP, WAY};
 use crate::reader;
-use crate::relay::{BadStep, Printed};
+use crate::relay::{each_step, BadStep, Printed};
 use crate::sheet;
 use crate::topology::Topology;
 use crate::ways::{Refusal, Way};
@@ -111,16 +111,7 @@ fn go_on(
 
 /// The program `routes`: runs over a whole input.
 pub fn program(input: &[u8]) -> String {
-    let mut printed = String::new();
-    let mut rest = input;
-    while !rest.is_empty() {
-        let Ok((id, m, config, after)) = take(rest) else {
-            return printed + "bad step\n";
-        };
-        printed += &step(id, m, config).lines;
-        rest = after;
-    }
-    printed
+    each_step(input, |rest| take(rest).map(|(id, m, config, after)| (step(id, m, config), after)))
 }
 
 /// A step: its ID, the length of its list, its configuration, and what follows it.

@@ -8,7 +8,7 @@ use crate::differences::differences;
 use crate::lend;
 use crate::mover::{mover, Wanted};
 use crate::numbers::{LENT, MARK};
-use crate::relay::{take, BadStep, Printed};
+use crate::relay::{each_step, take, BadStep, Printed};
 
 /// 01: two bytes a, a bytes of the left sheet, the rest is the right one.
 pub const PAIR: u8 = 1;
@@ -38,18 +38,10 @@ pub fn compared(left: &[u8], right: &[u8]) -> Printed {
 
 /// Runs a whole script.
 pub fn program(script: &[u8]) -> String {
-    let mut printed = String::new();
-    let mut rest = script;
-    while !rest.is_empty() {
-        let Ok((step, after)) =
-            take(rest).and_then(|(kind, body, after)| Ok((step(kind, body)?, after)))
-        else {
-            return printed + "bad step\n";
-        };
-        printed += &step.lines;
-        rest = after;
-    }
-    printed
+    each_step(script, |rest| {
+        let (kind, body, after) = take(rest)?;
+        Ok((step(kind, body)?, after))
+    })
 }
 
 /// One step. Each kind's body opens with a number of two bytes.

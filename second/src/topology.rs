@@ -29,9 +29,9 @@ pub fn read<'a>(run: &[Descriptor<'a>]) -> Result<Topology<'a>, Refusal> {
 
 /// The entities, refusing with 10 to 13.
 pub fn judge(entities: Vec<Entity<'_>>) -> Result<Topology<'_>, Refusal> {
-    check_ids(&entities)?;
+    check_ids(&entities, [Way::IdZero, Way::IdRepeated])?;
     check_sources(&entities)?;
-    check_chains(&entities)?;
+    check_chains(&entities, [Way::ChainOnLoop, Way::ChainBelowLoop])?;
     let clusters = clusters_of(&entities);
     for (index, entity) in entities.iter().enumerate() {
         if let Some(way) = cluster_breach(&entities, &clusters, index) {
@@ -52,20 +52,21 @@ pub fn laid_out(layouts: Vec<Result<Entity<'_>, Refusal>>) -> Result<Vec<Entity<
     }
 }
 
-/// Refusal 10: "ID zero or borne by an earlier entity".
-fn check_ids(entities: &[Entity]) -> Result<(), Refusal> {
+/// Refusal 10, of either edition: "ID zero or borne by an earlier entity".
+pub fn check_ids<K>(entities: &[Entity<K>], [zero, repeated]: [Way; 2]) -> Result<(), Refusal> {
     for (index, entity) in entities.iter().enumerate() {
         if entity.id == 0 {
-            return Err(Refusal::at(Way::IdZero, entity.place));
+            return Err(Refusal::at(zero, entity.place));
         }
         if find(&entities[..index], entity.id).is_some() {
-            return Err(Refusal::at(Way::IdRepeated, entity.place));
+            return Err(Refusal::at(repeated, entity.place));
         }
     }
     Ok(())
 }
 
-fn find(entities: &[Entity], id: u8) -> Option<usize> {
+/// The index of the entity that bears `id`.
+pub fn find<K>(entities: &[Entity<K>], id: u8) -> Option<usize> {
     entities.iter().position(|entity| entity.id == id)
 }
 
@@ -95,19 +96,21 @@ fn source_breach(entities: &[Entity], source: u8) -> Option<Way> {
 }
 
 /// The indices of an entity's sources, all of which are known.
-fn sources_of(entities: &[Entity], index: usize) -> Vec<usize> {
+pub fn sources_of<K>(entities: &[Entity<K>], index: usize) -> Vec<usize> {
     let known = |&id: &u8| find(entities, id).expect("refusal 11 comes first");
     entities[index].sources.iter().map(known).collect()
 }
 
-/// Refusal 12: "some upstream chain of sources is longer than 32 steps (no ranks exist)".
-fn check_chains(entities: &[Entity]) -> Result<(), Refusal> {
+/// Refusal 12, of either edition: "some upstream chain of sources is longer than 32 steps (no ranks
+/// exist)", for what stands on a loop and for what stands below one.
+pub fn check_chains<K>(entities: &[Entity<K>], [on_loop, below]: [Way; 2]) -> Result<(), Refusal> {
     let sources: Vec<Vec<usize>> =
         (0..entities.len()).map(|index| sources_of(entities, index)).collect();
     match unranked(&sources) {
         None => Ok(()),
-        Some((index, true)) => Err(Refusal::at(Way::ChainOnLoop, entities[index].place)),
-        Some((index, false)) => Err(Refusal::at(Way::ChainBelowLoop, entities[index].place)),
+        Some((index, on)) => {
+            Err(Refusal::at(if on { on_loop } else { below }, entities[index].place))
+        }
     }
 }
 
@@ -116,7 +119,7 @@ fn check_chains(entities: &[Entity]) -> Result<(), Refusal> {
 /// An entity gets a rank once all its sources have one. With at most 32 entities no chain without
 /// a return is longer than 31 steps, so those left without a rank are the ones that have a chain
 /// with no end: they stand on a loop or below one.
-pub fn unranked(sources: &[Vec<usize>]) -> Option<(usize, bool)> {
+fn unranked(sources: &[Vec<usize>]) -> Option<(usize, bool)> {
     let mut ranked = vec![false; sources.len()];
     for _ in 0..sources.len() {
         for (index, above) in sources.iter().enumerate() {

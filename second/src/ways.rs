@@ -256,6 +256,11 @@ impl Refusal {
     pub fn at(way: Way, place: usize) -> Refusal {
         Refusal { way, place }
     }
+
+    /// `refused N at P`, as the programs print it.
+    pub fn line(&self) -> String {
+        format!("refused {} at {}\n", self.way.number(), self.place)
+    }
 }
 
 #[cfg(test)]

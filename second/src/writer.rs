@@ -13,7 +13,7 @@ use crate::cut::{count_breach, two_bytes, Descriptor, CLASS, HEADER_OPENING};
 use crate::entity::{self, Entity};
 use crate::lend;
 use crate::numbers::{COLLECTION, DESCRIPTOR, FIELDS, MARK, ROOM, SELECTORS};
-use crate::relay::{BadStep, Printed};
+use crate::relay::{each_step, BadStep, Printed};
 use crate::topology;
 use crate::ways::{Refusal, Way};
 
@@ -86,16 +86,7 @@ fn layout<'a>(descriptor: &Descriptor<'a>) -> Result<Entity<'a>, Way> {
 
 /// The program `writer`: runs over a whole input.
 pub fn program(input: &[u8]) -> String {
-    let mut printed = String::new();
-    let mut rest = input;
-    while !rest.is_empty() {
-        let Ok((m, list, after)) = take(rest) else {
-            return printed + "bad step\n";
-        };
-        printed += &step(m, &list).lines;
-        rest = after;
-    }
-    printed
+    each_step(input, |rest| take(rest).map(|(m, list, after)| (step(m, &list), after)))
 }
 
 /// The first step of what is not empty: the room, the list, and what follows. An m over 9,000, a k or
@@ -132,9 +123,7 @@ pub fn step(m: usize, list: &List) -> Printed {
     let mut lent = vec![MARK; m];
     let (line, way) = match write(list, &mut lent) {
         Ok(count) => (format!("wrote {count}\n"), None),
-        Err(Refusal { way, place }) => {
-            (format!("refused {} at {place}\n", way.number()), Some(way))
-        }
+        Err(refusal) => (refusal.line(), Some(refusal.way)),
     };
     Printed { lines: line + &lend::shown(&lent), way }
 }

@@ -25,7 +25,7 @@ use Rattle.scan.specs.Cutting.{Piece, Pieces, endBy, restBy, breachBy, MisfitBy
 use Rattle.scan.specs.PieceLaws.{StandingBy, standing, end-none, end-off, end-stands, rest-none, rest-more, rest-of, starts-end, starts-part, cut-rest, cut-exists, cut-misfit}
 use Rattle.scan.specs.Search.{PassedBy}
 use Rattle.buffer.specs.Clusters.{twoBytes, clusterId, WrongCluster, Buffer, Fault, no-piece, wrong-id, Broken51}
-use Rattle.buffer.specs.Reading.{pieces, bearing, foundCluster, named, clusterWith, isWrongCluster, foundOr, breach51}
+use Rattle.buffer.specs.Reading.{pieces, bearing, foundCluster, clusterIn, clusterWith, isWrongCluster, foundOr, breach51}
 
 pub reads-wrong : (b : List (List ℕ)) (k : List ℕ) → Reads (isWrongCluster b k) (WrongCluster b k)
 unfolding isWrongCluster
@@ -209,34 +209,34 @@ module _ (s : List ℕ) where
       ∙ ap (λ (i : ℕ). isBefore (firstFrom (λ b d. bearing id d) 0 [] (g .behind ++ restBy twoBytes s at)) i) (g .place)
       ∙ first-before (bearing id) 0 [] (g .behind) (restBy twoBytes s at) (λ d m. let l = k .each d (rw (g .whole) (Memᴰ·append-left (restBy twoBytes s at) m)) .long in omega arith)
 
-named-behind : (x : List (List ℕ)) (d : List ℕ) (y : List (List ℕ)) (id : ℕ) → any (bearing id) x ≡ false → bearing id d ≡ true → named (x ++ d ∷ y) id ≡ d
-unfolding named any
-named-behind [] d y id n t = yes _ _ t
-named-behind (a ∷ x) d y id n t = go (bearing id a) n (λ m. named-behind x d y id m t)
+cluster-in-behind : (x : List (List ℕ)) (d : List ℕ) (y : List (List ℕ)) (id : ℕ) → any (bearing id) x ≡ false → bearing id d ≡ true → clusterIn (x ++ d ∷ y) id ≡ d
+unfolding clusterIn any
+cluster-in-behind [] d y id n t = yes _ _ t
+cluster-in-behind (a ∷ x) d y id n t = go (bearing id a) n (λ m. cluster-in-behind x d y id m t)
   where
-    go : (b : Bool) → (b || any (bearing id) x) ≡ false → (any (bearing id) x ≡ false → named (x ++ d ∷ y) id ≡ d) → pick b a (named (x ++ d ∷ y) id) ≡ d
+    go : (b : Bool) → (b || any (bearing id) x) ≡ false → (any (bearing id) x ≡ false → clusterIn (x ++ d ∷ y) id ≡ d) → pick b a (clusterIn (x ++ d ∷ y) id) ≡ d
     go true m ih = absurd (true≠false m)
     go false m ih = ih m
 
-named-none : (x : List (List ℕ)) (id : ℕ) → any (bearing id) x ≡ false → named x id ≡ []
-unfolding named any
-named-none [] id n = refl
-named-none (a ∷ x) id n = go (bearing id a) n (λ m. named-none x id m)
+cluster-in-none : (x : List (List ℕ)) (id : ℕ) → any (bearing id) x ≡ false → clusterIn x id ≡ []
+unfolding clusterIn any
+cluster-in-none [] id n = refl
+cluster-in-none (a ∷ x) id n = go (bearing id a) n (λ m. cluster-in-none x id m)
   where
-    go : (b : Bool) → (b || any (bearing id) x) ≡ false → (any (bearing id) x ≡ false → named x id ≡ []) → pick b a (named x id) ≡ []
+    go : (b : Bool) → (b || any (bearing id) x) ≡ false → (any (bearing id) x ≡ false → clusterIn x id ≡ []) → pick b a (clusterIn x id) ≡ []
     go true m ih = absurd (true≠false m)
     go false m ih = ih m
 
 module _ (s : List ℕ) (id : ℕ) where
   pub cluster-none : foundCluster s id ≡ Nowhere → clusterWith s id ≡ []
   unfolding foundCluster clusterWith
-  cluster-none e = named-none (pieces s) id (first-none-any (bearing id) 0 (pieces s) e)
+  cluster-none e = cluster-in-none (pieces s) id (first-none-any (bearing id) 0 (pieces s) e)
 
   pub cluster-at : (p : ℕ) → foundCluster s id ≡ At p → part s p (endBy twoBytes s p) ≡ clusterWith s id
   unfolding foundCluster clusterWith flatten
   cluster-at p e = of (first-at (λ b d. bearing id d) (λ b d. bearing id d ≡ true) (λ b d. reads-true (bearing id d)) 0 (pieces s) p .0 e)
     where
-      of : Breaks (λ b d. bearing id d ≡ true) 0 (pieces s) p → part s p (endBy twoBytes s p) ≡ named (pieces s) id
+      of : Breaks (λ b d. bearing id d ≡ true) 0 (pieces s) p → part s p (endBy twoBytes s p) ≡ clusterIn (pieces s) id
       of b =
           let x = b .before in
           let d = b .offender in
@@ -248,4 +248,4 @@ module _ (s : List ℕ) (id : ℕ) where
           let t : drop p s ≡ d ++ later = rw z (tail-is s x (d ++ later) split (rest-each s x (d ∷ b .after) (b .split))) in
           ap (part s p) (starts-end twoBytes s p d later t stands)
           ∙ starts-part twoBytes s p d later t stands
-          ∙ sym (ap (λ (l : List (List ℕ)). named l id) (b .split) ∙ named-behind x d (b .after) id (sound-none (bearing id) x (b .none-before)) (b .wrong))
+          ∙ sym (ap (λ (l : List (List ℕ)). clusterIn l id) (b .split) ∙ cluster-in-behind x d (b .after) id (sound-none (bearing id) x (b .none-before)) (b .wrong))

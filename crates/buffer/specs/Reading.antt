@@ -2,7 +2,7 @@
 --   pieces s             ==  the cluster descriptors that stand in s one after another from the first byte on
 --   bearing id k         ==  the test that k bears the ID
 --   foundCluster s id    ==  the place of the first that bears the ID
---   named ks id          ==  the first of ks that bears it; empty where none does
+--   clusterIn ks id      ==  the first of ks that bears it; empty where none does
 --   clusterWith s id     ==  the first that stands in s
 --   isWrongCluster before k  ==  the test that the ID of k is 0 or borne by one of those before
 --   foundOr a b          ==  the place that a search a found; where it found none, what b says
@@ -32,12 +32,12 @@ bearing id k = eqb (clusterId k) id
 unfoldable pub foundCluster : List ℕ → ℕ → Place
 foundCluster s id = firstFrom (λ b k. bearing id k) 0 [] (pieces s)
 
-unfoldable pub named : List (List ℕ) → ℕ → List ℕ
-named [] id = []
-named (k ∷ ks) id = pick (bearing id k) k (named ks id)
+unfoldable pub clusterIn : List (List ℕ) → ℕ → List ℕ
+clusterIn [] id = []
+clusterIn (k ∷ ks) id = pick (bearing id k) k (clusterIn ks id)
 
 unfoldable pub clusterWith : List ℕ → ℕ → List ℕ
-clusterWith s id = named (pieces s) id
+clusterWith s id = clusterIn (pieces s) id
 
 unfoldable pub isWrongCluster : List (List ℕ) → List ℕ → Bool
 isWrongCluster before k = eqb (clusterId k) 0 || any (bearing (clusterId k)) before

@@ -16,7 +16,7 @@ use scan::word_at;
 const LEAST: usize = 7;
 
 // Where the cluster descriptor at a place ends: the place itself where none stands.
-pub fn cluster_end(s: &[u8], at: usize) -> usize
+fn cluster_end(s: &[u8], at: usize) -> usize
     ensures { λ r. ⌜ r ≡ endBy twoBytes (now (s .entry)) at ⌝ }
 {
     let n = word_at(s, at) as usize;

@@ -3,6 +3,8 @@
 --   verdict-kept     ==  nothing is refused exactly where the nine rules are kept
 --   verdict-refused  ==  number n is given at place p exactly where that is the refusal that document 01 gives
 --   cutting-answers  ==  the verdict, with whatever is judged behind the nine, is put together by their rows; cutting-numbered: none is number 0
+--   opening-answers, opening-numbered  ==  the same of the rows 1 to 4, whatever stands behind them
+--   four-kept, all-four  ==  the four rows kept are the rules 1 to 4 kept, and the other way
 --   nine-kept, all-nine  ==  the nine rows kept are the nine rules kept, and the other way
 --   kept-cutting, kept-header, kept-run  ==  the cutting, the header and the run that keep the rules are those that the reader works
 --                        with, so they are one
@@ -12,7 +14,7 @@ use mathlib.Core.Bool.{Bool, _&&_}
 use lib.Dec.{eqb}
 use mathlib.Core.List.{List, []}
 use mathlib.Core.Logic.{_⊎_, inl, inr, ⊎-elim, _↔_}
-use lib.ListN.{length, take}
+use lib.ListN.{length}
 use native.Mathlib.Omega.{arith}
 use Rattle.ground.specs.declared.Place.{Place}
 use Rattle.ground.specs.declared.Place.the-variants.{Nowhere, At}
@@ -24,7 +26,6 @@ use Rattle.ground.specs.Refuse.{none, kept-nowhere, kept-at}
 use Rattle.ground.specs.Rows.{Rows, end, AllKept, FirstBroken, Numbered, Answers, all-none, answers-kept, answers-broken}
 use Rattle.scan.specs.Cutting.{Cutting, rest, breach3}
 use Rattle.scan.specs.CuttingLaws.{cutting-exists, cutting-misfit, cutting-rest}
-use Rattle.scan.specs.Search.{searched}
 use Rattle.layout.specs.Withdrawn.{Printed, isPrinted, reads-printed, printed-unlaid, isWrong, reads-wrong, layout-or}
 use Rattle.edition.specs.Audio.{audio}
 use Rattle.entities.specs.Run.{mostEntities}
@@ -37,9 +38,9 @@ use Rattle.collection.specs.Rule7.{Rule7}
 use Rattle.groups.specs.Rules5and6.{Rule5, listedOf, Rule6}
 use Rattle.groups.specs.Reading.{frameOf, breach5, breach6, breach7, groupJudged, judged, headerOf}
 use Rattle.groups.specs.FrameLaws.{Framed, framed}
-use Rattle.cutting.specs.Rules1to9.{Rule8, WrongLayout, Recognised, NoneWithdrawn, laidOut, Opened, headerPlace, Opening, opened, Kept, groupRows, cuttingRows}
+use Rattle.cutting.specs.Rules1to9.{Rule8, WrongLayout, Recognised, NoneWithdrawn, laidOut, Opened, headerPlace, Opening, opened, Kept, groupRows, openingRows, cuttingRows}
 use Rattle.cutting.specs.Survey.{runOf, breach8, breach9, breach17, runJudged, verdictThen, verdict}
-use Rattle.cutting.specs.Context.{cut-told, header-place, rule5-reads, header-is, run-place, rule6-reads, rule7-reads, run-is}
+use Rattle.cutting.specs.Context.{cut-told, header-place, rule5-reads, header-is, rule6-reads, rule7-reads, run-is, run-first}
 
 reads-rule1 : (s : List ℕ) → Reads (within 9 (length s) mostBytes) (Rule1 s)
 reads-rule1 s = reads-within 9 (length s) mostBytes
@@ -117,13 +118,9 @@ module _ (s : List ℕ) where
         abbrev firstOf : (List ℕ → Bool) → Place
         firstOf p = firstFrom (λ b d. p d) (headerPlace o + length (h .header)) [] (t .run)
 
-        run-first : (p : List ℕ → Bool) → searched (λ b d. p d) (take (frameOf s .end) s) (frameOf s .run) ≡ firstOf p
-        unfolding searched runOf
-        run-first p = ap (firstFrom (λ b d. p d) (frameOf s .run) []) (run-is s o h t) ∙ ap (λ (i : ℕ). firstFrom (λ b d. p d) i [] (t .run)) (run-place s o h)
-
         breach9-is : breach9 s (frameOf s) ≡ firstOf isWrong
         unfolding breach9
-        breach9-is = run-first isWrong
+        breach9-is = run-first s o h t isWrong
 
         keeps9 : (breach9 s (frameOf s) ≡ Nowhere) ↔ Recognised audio (t .run)
         keeps9 = rw breach9-is (
@@ -139,7 +136,7 @@ module _ (s : List ℕ) where
 
         breach17-is : breach17 s (frameOf s) ≡ firstOf isPrinted
         unfolding breach17
-        breach17-is = run-first isPrinted
+        breach17-is = run-first s o h t isPrinted
 
         keeps17 : (breach17 s (frameOf s) ≡ Nowhere) ↔ NoneWithdrawn audio (t .run)
         keeps17 = rw breach17-is (λ e. each .0 (first .0 e), λ k. first .1 (each .1 k))
@@ -158,6 +155,46 @@ module _ (s : List ℕ) where
     where
       go : (before : List (List ℕ)) × (control : List ℕ) × (tail : List (List ℕ)) × Framed s before control tail → Opening ds
       go (before, control, tail, f) = record { rule4 = k; before = before; control = control; tail = tail; split = sym (cut-is ds c) ∙ f .whole; is-control = f .is-control }
+
+  -- the rows 1 to 4, whatever is judged behind them
+  pub opening-answers : (behind : Opened s → Rows) (r : Refusal) → ((o : Opened s) → Answers (behind o) r) → Answers (openingRows s behind) (interfacesJudged s r)
+  unfolding interfacesJudged
+  opening-answers behind r h = (
+    breach1 s,
+    _,
+    refl,
+    record { kept = keeps1; broken = breaks1 },
+    λ a. (
+      breach2 s,
+      _,
+      refl,
+      record { kept = keeps2; broken = breaks2 },
+      λ b. (
+        breach3 s,
+        _,
+        refl,
+        record { kept = cutting-exists s; broken = cutting-misfit s },
+        λ c. (
+          breach4 s,
+          r,
+          refl,
+          record { kept = (λ e. opens (c .0) (c .1) (keeps4 (c .0) (c .1) .0 e), λ o. keeps4 (c .0) (c .1) .1 (o .rule4)); broken = breaks4 (c .0) (c .1) },
+          λ o. h (opened a b c o),
+        ),
+      ),
+    ),
+  )
+
+  pub opening-numbered : (behind : Opened s → Rows) → ((o : Opened s) → Numbered (behind o)) → Numbered (openingRows s behind)
+  opening-numbered behind h = (λ e. omega arith, λ a. (λ e. omega arith, λ b. (λ e. omega arith, λ c. (λ e. omega arith, λ o. h (opened a b c o)))))
+
+  pub four-kept : (behind : Opened s → Rows) → AllKept (openingRows s behind) → (o : Opened s) × AllKept (behind o)
+  four-kept behind (a, (b, (c, (o, x)))) = (opened a b c o, x)
+
+  pub all-four : (behind : Opened s → Rows) (o : Opened s) → AllKept (behind o) → AllKept (openingRows s behind)
+  all-four behind o x =
+      let q : Opening (o .descriptors) = record { rule4 = o .rule4; before = o .before; control = o .control; tail = o .tail; split = o .split; is-control = o .is-control } in
+      (o .rule1, (o .rule2, ((o .descriptors, o .rule3), (q, x))))
 
   -- each row by what decides it
   module _ (behind : Kept s → Rows) (r : Refusal) (h : (k : Kept s) → Answers (behind k) r) where
@@ -202,61 +239,25 @@ module _ (s : List ℕ) where
     )
 
     pub cutting-answers : Answers (cuttingRows s behind) (verdictThen s r)
-    unfolding verdictThen judged interfacesJudged
-    cutting-answers = (
-      breach1 s,
-      _,
-      refl,
-      record { kept = keeps1; broken = breaks1 },
-      λ a. (
-        breach2 s,
-        _,
-        refl,
-        record { kept = keeps2; broken = breaks2 },
-        λ b. (
-          breach3 s,
-          _,
-          refl,
-          record { kept = cutting-exists s; broken = cutting-misfit s },
-          λ c. (
-            breach4 s,
-            _,
-            refl,
-            record { kept = (λ e. opens (c .0) (c .1) (keeps4 (c .0) (c .1) .0 e), λ o. keeps4 (c .0) (c .1) .1 (o .rule4)); broken = breaks4 (c .0) (c .1) },
-            λ o. group-answers (opened a b c o),
-          ),
-        ),
-      ),
-    )
+    unfolding verdictThen judged
+    cutting-answers = opening-answers (λ o. groupRows o behind) _ group-answers
 
   pub cutting-numbered : (behind : Kept s → Rows) → ((k : Kept s) → Numbered (behind k)) → Numbered (cuttingRows s behind)
-  cutting-numbered behind h = (
-    λ e. omega arith,
-    λ a. (
-      λ e. omega arith,
-      λ b. (
-        λ e. omega arith,
-        λ c. (
-          λ e. omega arith,
-          λ o. (
-            λ e. omega arith,
-            λ d. (λ e. omega arith, λ t. (λ e. omega arith, λ k. (λ e. omega arith, λ m. (λ e. omega arith, λ l. (λ e. omega arith, λ w. h (record { opened = opened a b c o; rule5 = d; rule6 = t; rule7 = k; rule8 = m; rule9 = laidOut audio (t .run) l w })))))),
-          ),
-        ),
-      ),
-    ),
-  )
+  cutting-numbered behind h =
+      opening-numbered (λ o. groupRows o behind)
+      (λ o. (λ e. omega arith, λ d. (λ e. omega arith, λ t. (λ e. omega arith, λ k. (λ e. omega arith, λ m. (λ e. omega arith, λ l. (λ e. omega arith, λ w. h (record { opened = o; rule5 = d; rule6 = t; rule7 = k; rule8 = m; rule9 = laidOut audio (t .run) l w }))))))))
 
   pub nine-kept : (behind : Kept s → Rows) → AllKept (cuttingRows s behind) → (k : Kept s) × AllKept (behind k)
-  nine-kept behind (a, (b, (c, (o, (e, (t, (k, (m, (l, (w, x)))))))))) = (record { opened = opened a b c o; rule5 = e; rule6 = t; rule7 = k; rule8 = m; rule9 = laidOut audio (t .run) l w }, x)
+  nine-kept behind x = of (four-kept (λ o. groupRows o behind) x)
+    where
+      of : (o : Opened s) × AllKept (groupRows o behind) → (k : Kept s) × AllKept (behind k)
+      of (o, (e, (t, (k, (m, (l, (w, y))))))) = (record { opened = o; rule5 = e; rule6 = t; rule7 = k; rule8 = m; rule9 = laidOut audio (t .run) l w }, y)
 
   pub all-nine : (behind : Kept s → Rows) (k : Kept s) → AllKept (behind k) → AllKept (cuttingRows s behind)
   all-nine behind k x =
-      let o = k .opened in
-      let q : Opening (o .descriptors) = record { rule4 = o .rule4; before = o .before; control = o .control; tail = o .tail; split = o .split; is-control = o .is-control } in
       let l : Recognised audio (k .rule6 .run) = λ d m. inl (k .rule9 d m) in
       let w : NoneWithdrawn audio (k .rule6 .run) = λ d m y. printed-unlaid d y (k .rule9 d m) in
-      (o .rule1, (o .rule2, ((o .descriptors, o .rule3), (q, (k .rule5, (k .rule6, (k .rule7, (k .rule8, (l, (w, x))))))))))
+      all-four (λ o. groupRows o behind) (k .opened) (k .rule5, (k .rule6, (k .rule7, (k .rule8, (l, (w, x))))))
 
   answers : Answers (cuttingRows s (λ k. end)) (verdict s)
   unfolding verdict

@@ -10,7 +10,8 @@
 --                     edition
 --   Opening ds    ==  rule 4 is kept by the cutting ds, and the AudioControl interface stands in it; opened: with the rules 1 to 3 before it
 --   BrokenAt q K p  ==  the rule K is broken, and p is its one place q
---   cuttingRows s behind  ==  the rows 1 to 9 and 17 of the papers' table, and behind them what may speak of them kept; groupRows: from 5 on
+--   openingRows s behind  ==  the rows 1 to 4 of the papers' table, the same for every edition, and behind them what may speak of them kept
+--   cuttingRows s behind  ==  the rows 1 to 9 and 17, and behind them what may speak of them kept; groupRows: from 5 on
 use Prim.Native.Nat.{ℕ, _+_, _≤_}
 use mathlib.Core.Path.{_≡_}
 use mathlib.Core.Logic.{_⊎_, ⊎-elim}
@@ -109,9 +110,12 @@ groupRows o behind =
     row 17 (NoneWithdrawn audio (t .run)) (Breaks (λ b d. audio .Withdrawn d) (headerPlace o + length (h .header)) (t .run)) (λ w.
     behind (record { opened = o; rule5 = h; rule6 = t; rule7 = c; rule8 = m; rule9 = laidOut audio (t .run) l w })))))))
 
-abbrev pub cuttingRows : (s : List ℕ) → (Kept s → Rows) → Rows
-cuttingRows s behind =
+abbrev pub openingRows : (s : List ℕ) → (Opened s → Rows) → Rows
+openingRows s behind =
     row 1 (Rule1 s) (BrokenAt 0 (Rule1 s)) (λ a.
     row 2 (Rule2 s) (BrokenAt 0 (Rule2 s)) (λ b.
     row 3 (Rule3 s) (Misfit s) (λ c.
-    row 4 (Opening (c .0)) (Broken4 s (c .0)) (λ o. groupRows (opened a b c o) behind))))
+    row 4 (Opening (c .0)) (Broken4 s (c .0)) (λ o. behind (opened a b c o)))))
+
+abbrev pub cuttingRows : (s : List ℕ) → (Kept s → Rows) → Rows
+cuttingRows s behind = openingRows s (λ o. groupRows o behind)

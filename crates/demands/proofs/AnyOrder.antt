@@ -13,9 +13,10 @@ use Rattle.sound.specs.Meaning.{Sound}
 use Rattle.groups.specs.Rules5and6.{Rule5, Rule6}
 use Rattle.cutting.specs.Rules1to9.{Opened}
 use Rattle.records.specs.Records.{recordSize}
+use Rattle.records.specs.Sheet.{Rule16}
 use Rattle.topology.specs.declared.Reading.{Reading}
 use Rattle.topology.specs.Reading.{verdictOf, readingOf, sheetOf}
-use Rattle.reader.specs.Configuration.{runOf, Configuration, Rule16}
+use Rattle.reader.specs.Configuration.{runOf, Configuration}
 use Rattle.reader.specs.Refusals.{tableOfRows}
 use Rattle.reader.proofs.Exactly.{answers, accepted-exactly}
 use Rattle.reader.proofs.Shows.{number-told, answer-shows, sheet-shows, controls-stand, controls-counted}

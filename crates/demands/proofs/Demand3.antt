@@ -7,7 +7,8 @@ use mathlib.Core.Logic.{_↔_}
 use lib.ListN.{length}
 use native.Mathlib.Omega.{arith}
 use Rattle.topology.specs.Reading.{readingOf}
-use Rattle.reader.specs.Configuration.{runOf, Configuration, Rule16}
+use Rattle.records.specs.Sheet.{Rule16}
+use Rattle.reader.specs.Configuration.{runOf, Configuration}
 use Rattle.reader.proofs.Exactly.{accepted-exactly}
 use Rattle.reader.proofs.Shows.{number-told, one-cutting, one-descriptors, one-clusters, answer-shows, sheet-shows, record-shows, record-bytes, controls-stand, controls-order, controls-counted}
 use Rattle.demands.specs.Demand3.{wholeSheet, Demand3}

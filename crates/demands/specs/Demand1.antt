@@ -4,8 +4,8 @@
 -- its contract, which has no `requires`; here is what a refusal says and leaves. What is handed back is numbers: it equals a
 -- definition over the inputs at the call, and holds no part of the lent bytes. The one exception is the duet box's stretch (document 02, No. 11), a part of
 -- a lent configuration: crate duet, `stretch`.
---   RefusedReading s d  ==  what the reader answers and leaves where it refuses: the number and the place are those that document 01
---                           gives, "interface number 0, zero counts and an empty table; the sheet keeps its bytes"
+--   RefusedReading s d  ==  what the reader answers and leaves where it refuses: the number and the place are those that the papers
+--                           give, "interface number 0, zero counts and an empty table; the sheet keeps its bytes"
 --   RefusedAnswer Rows st r  ==  what an answer r says where it refuses: the number of the first of the Rows that applies, nothing
 --                               written, and st, the state as it stood
 --   Agree b a c e       ==  two replies, b that became a and c that became e, agree in the bytes written

@@ -32,10 +32,10 @@ use Rattle.controls.specs.Growth.{tableOf}
 use Rattle.controls.specs.Standing.{Stands}
 use Rattle.controls.specs.Order.{Before}
 use Rattle.records.specs.Records.{recordSize, recordIn}
-use Rattle.records.specs.Sheet.{recordsOf}
+use Rattle.records.specs.Sheet.{recordsOf, Rule16}
 use Rattle.records.specs.Bytes.{RecordBytes}
 use Rattle.topology.specs.Reading.{readingOf, sheetOf}
-use Rattle.reader.specs.Configuration.{runOf, Configuration, Rule16}
+use Rattle.reader.specs.Configuration.{runOf, Configuration}
 
 -- a sheet that holds 32 records
 abbrev pub wholeSheet : ℕ

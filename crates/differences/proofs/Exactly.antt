@@ -16,7 +16,7 @@ use Rattle.legal.specs.Sheet.{recordsIn, idOf, Sheet}
 use Rattle.ground.specs.Rising.{rising-one}
 use Rattle.differences.specs.InTurn.{in-turn, of-turn, turn-rising}
 use Rattle.differences.specs.Mended.{compared-same, mended, mended-byte, mended-id}
-use Rattle.differences.specs.Lines.{Line, lineId, lastId, recordOf, differing, changedLine, lineOf, lineAt, linesOf}
+use Rattle.differences.specs.Lines.{Line, lineId, lastId, recordBearing, differing, changedLine, lineOf, lineAt, linesOf}
 use Rattle.differences.specs.Lines.Line.{leftOnly, rightOnly, changed}
 use Rattle.differences.specs.LinesLaws.{line-own, line-few}
 use Rattle.differences.specs.Exact.{Stands, Differ, Changed, Exact, SameRecords, NoLine}
@@ -66,29 +66,29 @@ module _ (l r : List ℕ) where
   unfolding linesOf
   line-there i a b m = in-turn (lineAt l r) 1 lastId i a (omega arith) m
 
-  pub line-of : {x : Line} → x ∈ linesOf l r → LineSays (lineId x) (recordOf l (lineId x)) (recordOf r (lineId x)) x
+  pub line-of : {x : Line} → x ∈ linesOf l r → LineSays (lineId x) (recordBearing l (lineId x)) (recordBearing r (lineId x)) x
   unfolding linesOf lineAt
   line-of {x} m =
       let j = of-turn (lineAt l r) 1 lastId m in
       let e : lineId x ≡ j .0 = line-own l r (j .0) x (j .3) in
-      rw e (line-says (j .0) (recordOf l (j .0)) (recordOf r (j .0)) (j .3))
+      rw e (line-says (j .0) (recordBearing l (j .0)) (recordBearing r (j .0)) (j .3))
 
-  line-by : (i : ℕ) {p q : Option (List ℕ)} → recordOf l i ≡ p → recordOf r i ≡ q → lineAt l r i ≡ lineOf i p q
+  line-by : (i : ℕ) {p q : Option (List ℕ)} → recordBearing l i ≡ p → recordBearing r i ≡ q → lineAt l r i ≡ lineOf i p q
   unfolding lineAt
   line-by i p q = rw (p, q) refl
 
   module _ (left : Sheet l) (right : Sheet r) (lb : Bytes l) (rb : Bytes r) where
-    stands-left : (i : ℕ) {a : List ℕ} → recordOf l i ≡ some a → Stands l i
+    stands-left : (i : ℕ) {a : List ℕ} → recordBearing l i ≡ some a → Stands l i
     stands-left i {a} e = let f = found-is l i e in record { one = a; among = f .0; has = f .1 }
 
-    stands-right : (i : ℕ) {b : List ℕ} → recordOf r i ≡ some b → Stands r i
+    stands-right : (i : ℕ) {b : List ℕ} → recordBearing r i ≡ some b → Stands r i
     stands-right i {b} e = let f = found-is r i e in record { one = b; among = f .0; has = f .1 }
 
     -- for an ID that does not stand nothing is found
-    nothing-in : (s : List ℕ) (i : ℕ) → (Stands s i → ⊥) → recordOf s i ≡ none
-    nothing-in s i n = go (found-or-not (recordOf s i))
+    nothing-in : (s : List ℕ) (i : ℕ) → (Stands s i → ⊥) → recordBearing s i ≡ none
+    nothing-in s i n = go (found-or-not (recordBearing s i))
       where
-        go : (recordOf s i ≡ none) ⊎ ((a : List ℕ) × (recordOf s i ≡ some a)) → recordOf s i ≡ none
+        go : (recordBearing s i ≡ none) ⊎ ((a : List ℕ) × (recordBearing s i ≡ some a)) → recordBearing s i ≡ none
         go (inl e) = e
         go (inr (a, e)) = let f = found-is s i e in absurd (n (record { one = a; among = f .0; has = f .1 }))
 
@@ -97,33 +97,33 @@ module _ (l r : List ℕ) where
         let e = s .has in
         let a = id-above l left (s .among) in
         let b = id-below l lb (s .among) in
-        line-there i (omega arith) (omega arith) (along (sym (line-by i (ap (recordOf l) (sym e) ∙ record-found l left (s .among)) (nothing-in r i n))) (List·Memᴰ·head refl))
+        line-there i (omega arith) (omega arith) (along (sym (line-by i (ap (recordBearing l) (sym e) ∙ record-found l left (s .among)) (nothing-in r i n))) (List·Memᴰ·head refl))
 
     to-right : (i : ℕ) → (Stands l i → ⊥) × Stands r i → rightOnly i ∈ linesOf l r
     to-right i (n, s) =
         let e = s .has in
         let a = id-above r right (s .among) in
         let b = id-below r rb (s .among) in
-        line-there i (omega arith) (omega arith) (along (sym (line-by i (nothing-in l i n) (ap (recordOf r) (sym e) ∙ record-found r right (s .among)))) (List·Memᴰ·head refl))
+        line-there i (omega arith) (omega arith) (along (sym (line-by i (nothing-in l i n) (ap (recordBearing r) (sym e) ∙ record-found r right (s .among)))) (List·Memᴰ·head refl))
 
     to-changed : (i : ℕ) {a b : List ℕ} → a ∈ recordsIn l → b ∈ recordsIn r → idOf a ≡ i → idOf b ≡ i → (differing a b ≡ [] → ⊥) → changed i (differing a b) ∈ linesOf l r
     to-changed i {a} {b} m n e f d =
         let p = id-above l left m in
         let q = id-below l lb m in
         line-there i (omega arith) (omega arith)
-        (along (sym (line-by i (ap (recordOf l) (sym e) ∙ record-found l left m) (ap (recordOf r) (sym f) ∙ record-found r right n) ∙ changed-one i (differing a b) d)) (List·Memᴰ·head refl))
+        (along (sym (line-by i (ap (recordBearing l) (sym e) ∙ record-found l left m) (ap (recordBearing r) (sym f) ∙ record-found r right n) ∙ changed-one i (differing a b) d)) (List·Memᴰ·head refl))
 
-    of-left : (i : ℕ) {x : Line} → LineSays i (recordOf l i) (recordOf r i) x → x ≡ leftOnly i → Stands l i × (Stands r i → ⊥)
+    of-left : (i : ℕ) {x : Line} → LineSays i (recordBearing l i) (recordBearing r i) x → x ≡ leftOnly i → Stands l i × (Stands r i → ⊥)
     of-left i (says-left p q) e = (stands-left i p, λ s. found-none r right i q (s .among) (s .has))
     of-left i (says-right p q) e = let z : _≡_ {A = ℕ} 0 1 = cc in absurd (omega arith)
     of-left i (says-changed p q d) e = let z : _≡_ {A = ℕ} 0 1 = cc in absurd (omega arith)
 
-    of-right : (i : ℕ) {x : Line} → LineSays i (recordOf l i) (recordOf r i) x → x ≡ rightOnly i → (Stands l i → ⊥) × Stands r i
+    of-right : (i : ℕ) {x : Line} → LineSays i (recordBearing l i) (recordBearing r i) x → x ≡ rightOnly i → (Stands l i → ⊥) × Stands r i
     of-right i (says-left p q) e = let z : _≡_ {A = ℕ} 0 1 = cc in absurd (omega arith)
     of-right i (says-right p q) e = (λ s. found-none l left i p (s .among) (s .has), stands-right i q)
     of-right i (says-changed p q d) e = let z : _≡_ {A = ℕ} 0 1 = cc in absurd (omega arith)
 
-    of-changed : (i : ℕ) (ns : List ℕ) {x : Line} → LineSays i (recordOf l i) (recordOf r i) x → x ≡ changed i ns → Changed l r i ns
+    of-changed : (i : ℕ) (ns : List ℕ) {x : Line} → LineSays i (recordBearing l i) (recordBearing r i) x → x ≡ changed i ns → Changed l r i ns
     of-changed i ns (says-left p q) e = let z : _≡_ {A = ℕ} 0 1 = cc in absurd (omega arith)
     of-changed i ns (says-right p q) e = let z : _≡_ {A = ℕ} 0 1 = cc in absurd (omega arith)
     of-changed i ns (says-changed {a} {b} p q d) e =
@@ -164,18 +164,18 @@ module _ (l r : List ℕ) where
         (empty-or-not (differing a b))
 
     pub stays : {a : List ℕ} → a ∈ recordsIn l → ((x : Line) → x ∈ linesOf l r → lineId x ≡ idOf a → ⊥) → mended a ∈ map mended (recordsIn r)
-    stays {a} m f = go (found-or-not (recordOf r (idOf a)))
+    stays {a} m f = go (found-or-not (recordBearing r (idOf a)))
       where
-        go : (recordOf r (idOf a) ≡ none) ⊎ ((b : List ℕ) × (recordOf r (idOf a) ≡ some b)) → mended a ∈ map mended (recordsIn r)
+        go : (recordBearing r (idOf a) ≡ none) ⊎ ((b : List ℕ) × (recordBearing r (idOf a) ≡ some b)) → mended a ∈ map mended (recordsIn r)
         go (inl e) =
             absurd (f (leftOnly (idOf a)) (to-left (idOf a) (record { one = a; among = m; has = refl }, λ s. found-none r right (idOf a) e (s .among) (s .has))) refl)
         go (inr (b, e)) = let g = found-is r (idOf a) e in rw (same-there m (g .0) (sym (g .1)) f) (Memᴰ·map mended (g .0))
 
     pub stood : {b : List ℕ} → b ∈ recordsIn r → ((x : Line) → x ∈ linesOf l r → lineId x ≡ idOf b → ⊥)
         → (a : List ℕ) × a ∈ recordsIn l × (idOf a ≡ idOf b) × (mended a ≡ mended b)
-    stood {b} m f = go (found-or-not (recordOf l (idOf b)))
+    stood {b} m f = go (found-or-not (recordBearing l (idOf b)))
       where
-        go : (recordOf l (idOf b) ≡ none) ⊎ ((a : List ℕ) × (recordOf l (idOf b) ≡ some a)) → (a : List ℕ) × a ∈ recordsIn l × (idOf a ≡ idOf b) × (mended a ≡ mended b)
+        go : (recordBearing l (idOf b) ≡ none) ⊎ ((a : List ℕ) × (recordBearing l (idOf b) ≡ some a)) → (a : List ℕ) × a ∈ recordsIn l × (idOf a ≡ idOf b) × (mended a ≡ mended b)
         go (inl e) =
             absurd (f (rightOnly (idOf b)) (to-right (idOf b) (λ s. found-none l left (idOf b) e (s .among) (s .has), record { one = b; among = m; has = refl })) refl)
         go (inr (a, e)) =
@@ -204,7 +204,7 @@ module _ (l r : List ℕ) where
             let o = stood (k .1) (λ x i q. nothing e x i) in
             rw (o .3 ∙ k .2) at (Memᴰ·map mended (o .1))
 
-        says : SameRecords l r → {i : ℕ} {x : Line} → LineSays i (recordOf l i) (recordOf r i) x → ⊥
+        says : SameRecords l r → {i : ℕ} {x : Line} → LineSays i (recordBearing l i) (recordBearing r i) x → ⊥
         says h {i} (says-left {a} p q) =
             let f = found-is l i p in
             let k = counterpart l r (λ b. h b .0) (f .0) in
@@ -217,7 +217,7 @@ module _ (l r : List ℕ) where
             let f = found-is l i p in
             let k = counterpart l r (λ c. h c .0) (f .0) in
             let c = k .0 in
-            let e : some c ≡ some b = sym (record-found r right (k .1)) ∙ ap (recordOf r) (k .2 ∙ f .1) ∙ q in
+            let e : some c ≡ some b = sym (record-found r right (k .1)) ∙ ap (recordBearing r) (k .2 ∙ f .1) ∙ q in
             let z : c ≡ b = cc in
             let y : mended a ≡ mended b = sym (k .3) ∙ ap mended z in
             d (no-member (differing a b) (λ n m. differing-each a b n .0 m .1 (compared-same n _ _ (sym (mended-byte a n) ∙ ap (λ (x : List ℕ). byte x n) y ∙ mended-byte b n))))

@@ -14,33 +14,33 @@ use Rattle.ground.specs.Lists.{any, Some, reads-any}
 use Rattle.graph.specs.Members.{_∈_, along}
 use Rattle.legal.specs.Sheet.{recordsIn, idOf, Sheet}
 use Rattle.differences.specs.Mended.{mended}
-use Rattle.differences.specs.Lines.{Line, lineId, lastId, recordOf, lineAt, linesOf}
-use Rattle.differences.specs.Rebuilt.{Handed, handed, OwnRecord, named, untouched, if-any, brought, rebuilt, Rebuilt}
+use Rattle.differences.specs.Lines.{Line, lineId, lastId, recordBearing, lineAt, linesOf}
+use Rattle.differences.specs.Rebuilt.{Handed, handed, OwnRecord, touched, untouched, if-any, brought, rebuilt, Rebuilt}
 use Rattle.differences.specs.LinesLaws.{line-own}
 use Rattle.differences.specs.InTurn.{of-turn}
 use Rattle.differences.proofs.Records.{found-is, record-found, id-above, id-below}
 use Rattle.differences.proofs.Exactly.{line-there, stays, stood}
 
-in-untouched : (rs : List (List ℕ)) (hs : List Handed) {a : List ℕ} → a ∈ rs → named hs a ≡ false → a ∈ untouched rs hs
+in-untouched : (rs : List (List ℕ)) (hs : List Handed) {a : List ℕ} → a ∈ rs → touched hs a ≡ false → a ∈ untouched rs hs
 unfolding untouched
 in-untouched [] hs m e = absurd (List·Memᴰ·not-nil m)
-in-untouched (c ∷ rs) hs {a} m e = go (named hs c) refl (List·Memᴰ·cases-cons m) (λ k. in-untouched rs hs k e)
+in-untouched (c ∷ rs) hs {a} m e = go (touched hs c) refl (List·Memᴰ·cases-cons m) (λ k. in-untouched rs hs k e)
   where
-    go : (b : Bool) → named hs c ≡ b → (a ≡ c) ⊎ (a ∈ rs) → (a ∈ rs → a ∈ untouched rs hs) → a ∈ pick b (untouched rs hs) (c ∷ untouched rs hs)
-    go true q (inl p) ih = absurd (true≠false (sym q ∙ ap (named hs) (sym p) ∙ e))
+    go : (b : Bool) → touched hs c ≡ b → (a ≡ c) ⊎ (a ∈ rs) → (a ∈ rs → a ∈ untouched rs hs) → a ∈ pick b (untouched rs hs) (c ∷ untouched rs hs)
+    go true q (inl p) ih = absurd (true≠false (sym q ∙ ap (touched hs) (sym p) ∙ e))
     go true q (inr k) ih = ih k
     go false q (inl p) ih = List·Memᴰ·head p
     go false q (inr k) ih = List·Memᴰ·tail (ih k)
 
-of-untouched : (rs : List (List ℕ)) (hs : List Handed) {a : List ℕ} → a ∈ untouched rs hs → a ∈ rs × (named hs a ≡ false)
+of-untouched : (rs : List (List ℕ)) (hs : List Handed) {a : List ℕ} → a ∈ untouched rs hs → a ∈ rs × (touched hs a ≡ false)
 unfolding untouched
 of-untouched [] hs m = absurd (List·Memᴰ·not-nil m)
-of-untouched (c ∷ rs) hs {a} m = go (named hs c) refl m (λ k. of-untouched rs hs k)
+of-untouched (c ∷ rs) hs {a} m = go (touched hs c) refl m (λ k. of-untouched rs hs k)
   where
-    go : (b : Bool) → named hs c ≡ b → a ∈ pick b (untouched rs hs) (c ∷ untouched rs hs) → (a ∈ untouched rs hs → a ∈ rs × (named hs a ≡ false))
-        → a ∈ (c ∷ rs) × (named hs a ≡ false)
+    go : (b : Bool) → touched hs c ≡ b → a ∈ pick b (untouched rs hs) (c ∷ untouched rs hs) → (a ∈ untouched rs hs → a ∈ rs × (touched hs a ≡ false))
+        → a ∈ (c ∷ rs) × (touched hs a ≡ false)
     go true q k ih = let r = ih k in (List·Memᴰ·tail (r .0), r .1)
-    go false q k ih = ⊎-elim (λ (p : a ≡ c). (List·Memᴰ·head p, ap (named hs) p ∙ q)) (λ k′. let r = ih k′ in (List·Memᴰ·tail (r .0), r .1)) (List·Memᴰ·cases-cons k)
+    go false q k ih = ⊎-elim (λ (p : a ≡ c). (List·Memᴰ·head p, ap (touched hs) p ∙ q)) (λ k′. let r = ih k′ in (List·Memᴰ·tail (r .0), r .1)) (List·Memᴰ·cases-cons k)
 
 in-brought : {hs : List Handed} {h : Handed} {b : List ℕ} → h ∈ hs → h .after ≡ some b → b ∈ brought hs
 unfolding brought
@@ -65,24 +65,24 @@ of-brought (k ∷ hs) {b} m =
     held (some c) n = ⊎-elim (λ (e : b ≡ c). ap (λ (d : List ℕ). some d) (sym e)) (λ t. absurd (List·Memᴰ·not-nil t)) (List·Memᴰ·cases-cons n)
 
 pub own-record : (r : List ℕ) → Sheet r → OwnRecord r
-own-record r right i b = (λ e. found-is r i e, λ m. ap (recordOf r) (sym (m .1)) ∙ record-found r right (m .0))
+own-record r right i b = (λ e. found-is r i e, λ m. ap (recordBearing r) (sym (m .1)) ∙ record-found r right (m .0))
 
 module _ (l r : List ℕ) where
   abbrev given : List Handed
   given = handed r (linesOf l r)
 
   abbrev hand : Line → Handed
-  hand x = record { line = x; after = recordOf r (lineId x) }
+  hand x = record { line = x; after = recordBearing r (lineId x) }
 
   -- whether a line names the ID of a record
-  reads-named : (a : List ℕ) → Reads (named given a) (Some (λ h. lineId (h .line) ≡ idOf a) given)
-  reads-named a = reads-any (λ h. eqb (lineId (h .line)) (idOf a)) (λ h. lineId (h .line) ≡ idOf a) (λ h. reads-eq (lineId (h .line)) (idOf a)) given
+  reads-touched : (a : List ℕ) → Reads (touched given a) (Some (λ h. lineId (h .line) ≡ idOf a) given)
+  reads-touched a = reads-any (λ h. eqb (lineId (h .line)) (idOf a)) (λ h. lineId (h .line) ≡ idOf a) (λ h. reads-eq (lineId (h .line)) (idOf a)) given
 
-  unnamed : (a : List ℕ) → named given a ≡ false → (x : Line) → x ∈ linesOf l r → lineId x ≡ idOf a → ⊥
-  unnamed a e x m q = reads-named a .denies e (record { one = hand x; among = Memᴰ·map hand m; has = q })
+  unnamed : (a : List ℕ) → touched given a ≡ false → (x : Line) → x ∈ linesOf l r → lineId x ≡ idOf a → ⊥
+  unnamed a e x m q = reads-touched a .denies e (record { one = hand x; among = Memᴰ·map hand m; has = q })
 
-  not-named : (a : List ℕ) → ((x : Line) → x ∈ linesOf l r → lineId x ≡ idOf a → ⊥) → named given a ≡ false
-  not-named a f = refutes (reads-named a) no
+  not-touched : (a : List ℕ) → ((x : Line) → x ∈ linesOf l r → lineId x ≡ idOf a → ⊥) → touched given a ≡ false
+  not-touched a f = refutes (reads-touched a) no
     where
       no : Some (λ h. lineId (h .line) ≡ idOf a) given → ⊥
       no s = let k = Memᴰ·of-map hand (linesOf l r) (s .among) in f (k .0) (k .1) (ap (λ (h : Handed). lineId (h .line)) (k .2) ∙ s .has)
@@ -125,10 +125,10 @@ module _ (l r : List ℕ) where
         back {b} m =
             ⊎-elim
             (λ (x : (x : Line) × x ∈ linesOf l r × (lineId x ≡ idOf b)).
-            Memᴰ·map mended (Memᴰ·append-right (untouched (recordsIn l) given) (in-brought (Memᴰ·map hand (x .1)) (ap (recordOf r) (x .2) ∙ record-found r right m))))
+            Memᴰ·map mended (Memᴰ·append-right (untouched (recordsIn l) given) (in-brought (Memᴰ·map hand (x .1)) (ap (recordBearing r) (x .2) ∙ record-found r right m))))
             (λ f.
             let o = stood l r left right lb rb m f in
-            rw (o .3) at (Memᴰ·map mended (Memᴰ·append-left (brought given) (in-untouched (recordsIn l) given (o .1) (not-named (o .0) (λ x k q. f x k (q ∙ o .2)))))))
+            rw (o .3) at (Memᴰ·map mended (Memᴰ·append-left (brought given) (in-untouched (recordsIn l) given (o .1) (not-touched (o .0) (λ x k q. f x k (q ∙ o .2)))))))
             (line-or-none (idOf b) (id-above r right m) (id-below r rb m))
 
         from : a ∈ map mended (recordsIn r) → a ∈ map mended (untouched (recordsIn l) given ++ brought given)

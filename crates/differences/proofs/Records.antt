@@ -29,7 +29,7 @@ use Rattle.ground.specs.Rising.{Rising}
 use Rattle.differences.specs.InTurn.{inTurn, in-turn, of-turn, AtMostOne, turn-rising}
 use Rattle.differences.specs.InTurn.AtMostOne.{nothing, one}
 use Rattle.differences.specs.Mended.{SameByte, same-compared, comparedAs, reads-same-byte, mended, mended-long, mended-byte}
-use Rattle.differences.specs.Lines.{lastId, recordOf, differs, differing}
+use Rattle.differences.specs.Lines.{lastId, recordBearing, differs, differing}
 use Rattle.differences.specs.LinesLaws.{record-first}
 
 module _ (s : List ℕ) where
@@ -38,8 +38,8 @@ module _ (s : List ℕ) where
   record-in k h =
       along refl (rw (getD-tabulate (countIn s) (recordAt s) k [] h) at (member-at [] (recordsIn s) k (rw (length-tabulate (countIn s) (recordAt s)) h)))
 
-  pub found-is : (i : ℕ) {a : List ℕ} → recordOf s i ≡ some a → a ∈ recordsIn s × (idOf a ≡ i)
-  unfolding recordOf
+  pub found-is : (i : ℕ) {a : List ℕ} → recordBearing s i ≡ some a → a ∈ recordsIn s × (idOf a ≡ i)
+  unfolding recordBearing
   found-is i {a} e = go (finding (bears (idAt s) i) (λ j. some (recordAt s j)) none (countIn s)) e
     where
       go : {x : Option (List ℕ)} → Finding (bears (idAt s) i) (λ j. some (recordAt s j)) none (countIn s) x → x ≡ some a → a ∈ recordsIn s × (idOf a ≡ i)
@@ -52,7 +52,7 @@ module _ (s : List ℕ) where
   record-size m = records-long recordSize s m
 
   module _ (sheet : Sheet s) where
-    pub record-found : {a : List ℕ} → a ∈ recordsIn s → recordOf s (idOf a) ≡ some a
+    pub record-found : {a : List ℕ} → a ∈ recordsIn s → recordBearing s (idOf a) ≡ some a
     record-found {a} m =
         let k = in-records recordSize s m in
         let i : idAt s (k .0) ≡ idOf a = sym (record-id recordSize s (k .0) (k .1) (omega arith)) ∙ ap idOf (k .2) in
@@ -66,8 +66,8 @@ module _ (s : List ℕ) where
         let n : idOf a ≡ 0 → ⊥ = (λ z. sheet .own .named (k .0) (k .1) (i ∙ z)) in
         omega arith
 
-    pub found-none : (i : ℕ) → recordOf s i ≡ none → {a : List ℕ} → a ∈ recordsIn s → idOf a ≡ i → ⊥
-    found-none i e {a} m q = let f : recordOf s i ≡ some a = ap (recordOf s) (sym q) ∙ record-found m in let z : _≡_ {A = ℕ} 0 1 = cc in omega arith
+    pub found-none : (i : ℕ) → recordBearing s i ≡ none → {a : List ℕ} → a ∈ recordsIn s → idOf a ≡ i → ⊥
+    found-none i e {a} m q = let f : recordBearing s i ≡ some a = ap (recordBearing s) (sym q) ∙ record-found m in let z : _≡_ {A = ℕ} 0 1 = cc in omega arith
 
   pub id-below : Bytes s → {a : List ℕ} → a ∈ recordsIn s → idOf a ≤ lastId
   id-below b {a} m =

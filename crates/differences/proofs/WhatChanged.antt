@@ -13,7 +13,7 @@ use Rattle.records.specs.Records.{recordSize}
 use Rattle.legal.specs.Sheet.{sheetNumber}
 use Rattle.legal.specs.Sheet.JudgedBy.{sheet}
 use Rattle.legal.specs.SheetLaws.{sheet-judged, judged-one, sheet-given}
-use Rattle.differences.specs.Lines.{Line, lineId, recordOf, linesOf, firstAbove, told, lineTold, pairNumber}
+use Rattle.differences.specs.Lines.{Line, lineId, recordBearing, linesOf, firstAbove, differenceOf, lineTold, pairNumber}
 use Rattle.differences.specs.Masks.{numbers-back}
 use Rattle.differences.specs.WhatChanged.{JudgedPair, Sheets, WhatChanged}
 use Rattle.differences.specs.WhatChanged.JudgedPair.{by-left, by-right}
@@ -37,19 +37,19 @@ module _ (l r : List ℕ) where
   pair-one n (by-right k j) = yes _ _ (eq-eqb (sheetNumber l) 0 (judged-one recordSize l (sheet k))) ∙ judged-one recordSize r j
 
   -- what is told of the first line above a number is that line
-  whole : (a : ℕ) (ls : List Line) → ((x : Line) → x ∈ ls → LineSays (lineId x) (recordOf l (lineId x)) (recordOf r (lineId x)) x)
-      → lineTold (told (firstAbove a ls)) ≡ firstAbove a ls
+  whole : (a : ℕ) (ls : List Line) → ((x : Line) → x ∈ ls → LineSays (lineId x) (recordBearing l (lineId x)) (recordBearing r (lineId x)) x)
+      → lineTold (differenceOf (firstAbove a ls)) ≡ firstAbove a ls
   unfolding firstAbove
   whole a [] h = refl
   whole a (x ∷ ls) h = go (ltb a (lineId x)) (h x (List·Memᴰ·head refl)) (whole a ls (λ y m. h y (List·Memᴰ·tail m)))
     where
-      of-line : {p q : Option (List ℕ)} {i : ℕ} {y : Line} → LineSays i p q y → lineTold (told (some y)) ≡ some y
+      of-line : {p q : Option (List ℕ)} {i : ℕ} {y : Line} → LineSays i p q y → lineTold (differenceOf (some y)) ≡ some y
       of-line (says-left p q) = refl
       of-line (says-right p q) = refl
       of-line {i = i} (says-changed {a} {b} p q d) = ap (λ (ns : List ℕ). some (Line.changed i ns)) (numbers-back a b)
 
-      go : (b : Bool) → LineSays (lineId x) (recordOf l (lineId x)) (recordOf r (lineId x)) x → lineTold (told (firstAbove a ls)) ≡ firstAbove a ls
-          → lineTold (told (pick b (some x) (firstAbove a ls))) ≡ pick b (some x) (firstAbove a ls)
+      go : (b : Bool) → LineSays (lineId x) (recordBearing l (lineId x)) (recordBearing r (lineId x)) x → lineTold (differenceOf (firstAbove a ls)) ≡ firstAbove a ls
+          → lineTold (differenceOf (pick b (some x) (firstAbove a ls))) ≡ pick b (some x) (firstAbove a ls)
       go true s ih = of-line s
       go false s ih = ih
 

@@ -1,23 +1,23 @@
 -- The differences of two sheets (document 02, No. 4): "by rising ID: `left ID` or `right ID` for one that stands on that side only, or `changed ID`
 -- with the numbers of the bytes that differ, and nothing for equal records". Every word is of any bytes; what a sheet is stands in `legal`.
---   Line             ==  a line of the answer: `left ID` (leftOnly), `right ID` (rightOnly), or `changed ID N N ..` (changed)
---   lineId x         ==  the line's ID
---   lastId           ==  the highest ID that a byte holds: 255
---   recordOf s i     ==  the record of s that bears the ID i, the first where several do; none where it stands nowhere
---   differs a b n    ==  the test that the records a and b differ in byte n, counted from 0; kinds 05 and 15 hex count as the same (document 02, No. 6)
---   differing a b    ==  the numbers of the bytes in which they differ, rising
---   changedLine i ns ==  the line of an ID that stands on both sides: none where no byte differs
---   lineOf i a b     ==  the line of the ID i, whose record on the left is a and on the right b
---   lineAt l r i     ==  the line of the ID i, for the sheets l and r
---   linesOf l r      ==  all lines, by rising ID from 1
---   firstAbove a ls  ==  the first of the lines ls whose ID is above a
---   maskOf ns        ==  the number whose bits ns are set
---   told x           ==  how an answer tells a line, case by case; `None` where there is none
---   hasBit m n       ==  the test that bit n of the number m is set
---   numbersOf m      ==  the numbers of the bytes whose bits are set in m, rising
---   lineTold d       ==  .. and the line that an answer tells: the paper's words for each of its cases
---   idTold d         ==  the ID that an answer tells, 0 where it tells none
---   pairNumber l r   ==  the number by which l and r are refused as two sheets: "both of the left and then those of the right"
+--   Line              ==  a line of the answer: `left ID` (leftOnly), `right ID` (rightOnly), or `changed ID N N ..` (changed)
+--   lineId x          ==  the line's ID
+--   lastId            ==  the highest ID that a byte holds: 255
+--   recordBearing s i ==  the record of s that bears the ID i, the first where several do; none where it stands nowhere
+--   differs a b n     ==  the test that the records a and b differ in byte n, counted from 0; kinds 05 and 15 hex count as the same (document 02, No. 6)
+--   differing a b     ==  the numbers of the bytes in which they differ, rising
+--   changedLine i ns  ==  the line of an ID that stands on both sides: none where no byte differs
+--   lineOf i a b      ==  the line of the ID i, whose record on the left is a and on the right b
+--   lineAt l r i      ==  the line of the ID i, for the sheets l and r
+--   linesOf l r       ==  all lines, by rising ID from 1
+--   firstAbove a ls   ==  the first of the lines ls whose ID is above a
+--   bitsSet ns        ==  the number whose bits ns are set
+--   differenceOf x    ==  how an answer tells a line, case by case; `None` where there is none
+--   hasBit m n        ==  the test that bit n of the number m is set
+--   numbersOf m       ==  the numbers of the bytes whose bits are set in m, rising
+--   lineTold d        ==  .. and the line that an answer tells: the paper's words for each of its cases
+--   idTold d          ==  the ID that an answer tells, 0 where it tells none
+--   pairNumber l r    ==  the number by which l and r are refused as two sheets: "both of the left and then those of the right"
 use Prim.Native.Nat.{ℕ, _+_, _/_, _%_, _^_}
 use mathlib.Core.Bool.{Bool, not}
 use mathlib.Core.Option.{Option, none, some}
@@ -47,8 +47,8 @@ lineId (changed i ns) = i
 abbrev pub lastId : ℕ
 lastId = 255
 
-unfoldable pub recordOf : List ℕ → ℕ → Option (List ℕ)
-recordOf s i = firstIn (bears (idAt s) i) (λ j. some (recordAt s j)) none 0 (countIn s)
+unfoldable pub recordBearing : List ℕ → ℕ → Option (List ℕ)
+recordBearing s i = firstIn (bears (idAt s) i) (λ j. some (recordAt s j)) none 0 (countIn s)
 
 abbrev pub differs : List ℕ → List ℕ → ℕ → Bool
 differs a b n = not (eqb (comparedAs n (byte a n)) (comparedAs n (byte b n)))
@@ -67,7 +67,7 @@ lineOf i none (some b) = rightOnly i ∷ []
 lineOf i (some a) (some b) = changedLine i (differing a b)
 
 unfoldable pub lineAt : List ℕ → List ℕ → ℕ → List Line
-lineAt l r i = lineOf i (recordOf l i) (recordOf r i)
+lineAt l r i = lineOf i (recordBearing l i) (recordBearing r i)
 
 unfoldable pub linesOf : List ℕ → List ℕ → List Line
 linesOf l r = inTurn (lineAt l r) 1 lastId
@@ -76,15 +76,15 @@ unfoldable pub firstAbove : ℕ → List Line → Option Line
 firstAbove a [] = none
 firstAbove a (x ∷ ls) = pick (ltb a (lineId x)) (some x) (firstAbove a ls)
 
-unfoldable pub maskOf : List ℕ → ℕ
-maskOf [] = 0
-maskOf (n ∷ ns) = 2 ^ n + maskOf ns
+unfoldable pub bitsSet : List ℕ → ℕ
+bitsSet [] = 0
+bitsSet (n ∷ ns) = 2 ^ n + bitsSet ns
 
-abbrev pub told : Option Line → Difference
-told none = difference.None
-told (some (leftOnly i)) = difference.LeftOnly i
-told (some (rightOnly i)) = difference.RightOnly i
-told (some (changed i ns)) = difference.Changed i (maskOf ns)
+abbrev pub differenceOf : Option Line → Difference
+differenceOf none = difference.None
+differenceOf (some (leftOnly i)) = difference.LeftOnly i
+differenceOf (some (rightOnly i)) = difference.RightOnly i
+differenceOf (some (changed i ns)) = difference.Changed i (bitsSet ns)
 
 abbrev pub hasBit : ℕ → ℕ → Bool
 hasBit m n = eqb (m / 2 ^ n % 2) 1

@@ -22,18 +22,18 @@ use Rattle.graph.specs.Borne.{bears}
 use Rattle.legal.specs.Sheet.{countIn, recordAt, idAt}
 use Rattle.differences.specs.InTurn.{inTurn, AtMostOne}
 use Rattle.differences.specs.InTurn.AtMostOne.{nothing, one}
-use Rattle.differences.specs.Lines.{Line, lineId, lastId, recordOf, differing, changedLine, lineOf, lineAt, linesOf, firstAbove, told, idTold}
+use Rattle.differences.specs.Lines.{Line, lineId, lastId, recordBearing, differing, changedLine, lineOf, lineAt, linesOf, firstAbove, differenceOf, idTold}
 use Rattle.differences.specs.Lines.Line.{leftOnly, rightOnly, changed}
 
 module _ (s : List ℕ) (i : ℕ) where
-  pub record-first : (k : ℕ) → k < countIn s → idAt s k ≡ i → ((j : ℕ) → j < k → idAt s j ≡ i → ⊥) → recordOf s i ≡ some (recordAt s k)
-  unfolding recordOf
+  pub record-first : (k : ℕ) → k < countIn s → idAt s k ≡ i → ((j : ℕ) → j < k → idAt s j ≡ i → ⊥) → recordBearing s i ≡ some (recordAt s k)
+  unfolding recordBearing
   record-first k l e f =
       first-some (bears (idAt s) i) (λ j. some (recordAt s j)) none (countIn s) k
       (record { inside = l; passes = eq-eqb (idAt s k) i e; none-before = λ j h. ne-eqb (idAt s j) i (f j h) })
 
-  pub record-none : ((j : ℕ) → j < countIn s → idAt s j ≡ i → ⊥) → recordOf s i ≡ none
-  unfolding recordOf
+  pub record-none : ((j : ℕ) → j < countIn s → idAt s j ≡ i → ⊥) → recordBearing s i ≡ none
+  unfolding recordBearing
   record-none f = first-none (bears (idAt s) i) (λ j. some (recordAt s j)) none (countIn s) (λ j h. ne-eqb (idAt s j) i (f j h))
 
 only : {x y : Line} → x ∈ (y ∷ []) → x ≡ y
@@ -42,7 +42,7 @@ only m = ⊎-elim (λ e. e) (λ t. absurd (List·Memᴰ·not-nil t)) (List·Mem�
 module _ (l r : List ℕ) (i : ℕ) where
   pub line-own : (x : Line) → x ∈ lineAt l r i → lineId x ≡ i
   unfolding lineAt
-  line-own x m = go (recordOf l i) (recordOf r i) m
+  line-own x m = go (recordBearing l i) (recordBearing r i) m
     where
       both : (ns : List ℕ) → x ∈ changedLine i ns → lineId x ≡ i
       both [] m = absurd (List·Memᴰ·not-nil m)
@@ -56,7 +56,7 @@ module _ (l r : List ℕ) (i : ℕ) where
 
   pub line-few : AtMostOne (lineAt l r i)
   unfolding lineAt
-  line-few = go (recordOf l i) (recordOf r i)
+  line-few = go (recordBearing l i) (recordBearing r i)
     where
       both : (ns : List ℕ) → AtMostOne (changedLine i ns)
       both [] = nothing
@@ -74,18 +74,18 @@ module _ (a : ℕ) where
   passed [] rest h = refl
   passed (x ∷ ls) rest h = no _ _ (le-ltb a (lineId x) (h x (List·Memᴰ·head refl))) ∙ passed ls rest (λ y m. h y (List·Memᴰ·tail m))
 
-  pub told-above : (ls : List Line) → (idTold (told (firstAbove a ls)) ≡ 0 → ⊥) → a < idTold (told (firstAbove a ls))
+  pub told-above : (ls : List Line) → (idTold (differenceOf (firstAbove a ls)) ≡ 0 → ⊥) → a < idTold (differenceOf (firstAbove a ls))
   unfolding firstAbove
   told-above [] n = absurd (n refl)
   told-above (x ∷ ls) n = go (ltb a (lineId x)) (reads-lt a (lineId x)) (told-above ls) n
     where
-      of-line : (x : Line) → idTold (told (some x)) ≡ lineId x
+      of-line : (x : Line) → idTold (differenceOf (some x)) ≡ lineId x
       of-line (leftOnly i) = refl
       of-line (rightOnly i) = refl
       of-line (changed i ns) = refl
 
-      go : (b : Bool) → Reads b (a < lineId x) → ((idTold (told (firstAbove a ls)) ≡ 0 → ⊥) → a < idTold (told (firstAbove a ls)))
-          → (idTold (told (pick b (some x) (firstAbove a ls))) ≡ 0 → ⊥) → a < idTold (told (pick b (some x) (firstAbove a ls)))
+      go : (b : Bool) → Reads b (a < lineId x) → ((idTold (differenceOf (firstAbove a ls)) ≡ 0 → ⊥) → a < idTold (differenceOf (firstAbove a ls)))
+          → (idTold (differenceOf (pick b (some x) (firstAbove a ls))) ≡ 0 → ⊥) → a < idTold (differenceOf (pick b (some x) (firstAbove a ls)))
       go true r ih n = rw (of-line x) (r .says refl)
       go false r ih n = ih n
 

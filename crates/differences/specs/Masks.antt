@@ -15,7 +15,7 @@ use lib.Dec.{eqb}
 use Rattle.ground.specs.Pick.{pick}
 use Rattle.records.specs.Records.{recordSize}
 use Rattle.differences.specs.InTurn.{inTurn, turn-same}
-use Rattle.differences.specs.Lines.{differs, differing, maskOf, hasBit, numbersOf}
+use Rattle.differences.specs.Lines.{differs, differing, bitsSet, hasBit, numbersOf}
 
 unfoldable pub bitsOf : (ℕ → Bool) → ℕ → ℕ → ℕ
 bitsOf t i zero = 0
@@ -30,20 +30,20 @@ bits-below t i (suc k) = go (t i) (bits-below t (suc i) k)
     go true h = omega arith
     go false h = omega arith
 
-pub mask-bits : (t : ℕ → Bool) (i k : ℕ) → maskOf (inTurn (λ n. pick (t n) (n ∷ []) []) i k) ≡ 2 ^ i * bitsOf t i k
-unfolding bitsOf inTurn maskOf
+pub mask-bits : (t : ℕ → Bool) (i k : ℕ) → bitsSet (inTurn (λ n. pick (t n) (n ∷ []) []) i k) ≡ 2 ^ i * bitsOf t i k
+unfolding bitsOf inTurn bitsSet
 mask-bits t i zero = omega arith
 mask-bits t i (suc k) = go (t i) (mask-bits t (suc i) k)
   where
-    go : (b : Bool) → maskOf (inTurn (λ n. pick (t n) (n ∷ []) []) (suc i) k) ≡ 2 ^ suc i * bitsOf t (suc i) k
-        → maskOf (pick b (i ∷ []) [] ++ inTurn (λ n. pick (t n) (n ∷ []) []) (suc i) k) ≡ 2 ^ i * (bitsOf t (suc i) k * 2 + pick b 1 0)
+    go : (b : Bool) → bitsSet (inTurn (λ n. pick (t n) (n ∷ []) []) (suc i) k) ≡ 2 ^ suc i * bitsOf t (suc i) k
+        → bitsSet (pick b (i ∷ []) [] ++ inTurn (λ n. pick (t n) (n ∷ []) []) (suc i) k) ≡ 2 ^ i * (bitsOf t (suc i) k * 2 + pick b 1 0)
     go true h = let e = rw (pow-succ' 2 i) at h in omega arith
     go false h = rw (pow-succ' 2 i) at h ∙ (let q : 2 * 2 ^ i * bitsOf t (suc i) k ≡ 2 ^ i * (bitsOf t (suc i) k * 2 + 0) = omega arith in q)
 
-pub mask-zero : (ns : List ℕ) → (maskOf ns ≡ 0) ↔ (ns ≡ [])
-unfolding maskOf
+pub mask-zero : (ns : List ℕ) → (bitsSet ns ≡ 0) ↔ (ns ≡ [])
+unfolding bitsSet
 mask-zero [] = (λ e. refl, λ e. refl)
-mask-zero (n ∷ ns) = (λ e. let h = one-le-pow n 2 (omega arith) in absurd (omega arith), λ e. ap maskOf e)
+mask-zero (n ∷ ns) = (λ e. let h = one-le-pow n 2 (omega arith) in absurd (omega arith), λ e. ap bitsSet e)
 
 -- bit n of the bits of t from i on is t at i + n
 bit-at : (t : ℕ → Bool) (k i n : ℕ) → n < k → hasBit (bitsOf t i k) n ≡ t (i + n)
@@ -64,8 +64,8 @@ bit-at t (suc k) i (suc n) h =
     go true = omega arith
     go false = omega arith
 
-pub numbers-back : (a b : List ℕ) → numbersOf (maskOf (differing a b)) ≡ differing a b
+pub numbers-back : (a b : List ℕ) → numbersOf (bitsSet (differing a b)) ≡ differing a b
 unfolding numbersOf differing
 numbers-back a b =
-    let e : maskOf (differing a b) ≡ bitsOf (differs a b) 0 recordSize = mask-bits (differs a b) 0 recordSize ∙ (let q : 2 ^ 0 * bitsOf (differs a b) 0 recordSize ≡ bitsOf (differs a b) 0 recordSize = omega arith in q) in
+    let e : bitsSet (differing a b) ≡ bitsOf (differs a b) 0 recordSize = mask-bits (differs a b) 0 recordSize ∙ (let q : 2 ^ 0 * bitsOf (differs a b) 0 recordSize ≡ bitsOf (differs a b) 0 recordSize = omega arith in q) in
     rw e (turn-same _ _ 0 recordSize (λ n l h. ap (λ (c : Bool). pick c (n ∷ []) []) (bit-at (differs a b) recordSize 0 n h ∙ ap (differs a b) (zero-add n))))

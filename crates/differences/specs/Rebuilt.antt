@@ -3,7 +3,7 @@
 --   Handed          ==  a line with the right one's record; a line for an ID that stands on the left only has none
 --   handed r ls     ==  the lines ls, each with the record of its ID in r
 --   OwnRecord r     ==  the record of an ID in r is the one that bears it, and there is none exactly where no record does, whatever finds it
---   named hs a      ==  the test that one of the lines bears the ID of the record a
+--   touched hs a    ==  the test that one of the lines bears the ID of the record a
 --   untouched rs hs ==  those of the records rs whose ID no line bears
 --   if-any x        ==  the record x, if there is one
 --   brought hs      ==  the records that were handed over with the lines
@@ -22,24 +22,24 @@ use Rattle.ground.specs.Lists.{any}
 use Rattle.graph.specs.Members.{_∈_}
 use Rattle.legal.specs.Sheet.{recordsIn, idOf}
 use Rattle.differences.specs.Mended.{mended}
-use Rattle.differences.specs.Lines.{Line, lineId, recordOf, linesOf}
+use Rattle.differences.specs.Lines.{Line, lineId, recordBearing, linesOf}
 
 pub record Handed : Type 0 where
   pub line : Line
   pub after : Option (List ℕ)
 
 abbrev pub handed : List ℕ → List Line → List Handed
-handed r ls = map (λ x. record { line = x; after = recordOf r (lineId x) }) ls
+handed r ls = map (λ x. record { line = x; after = recordBearing r (lineId x) }) ls
 
 abbrev pub OwnRecord : List ℕ → Type 0
-OwnRecord r = (i : ℕ) (b : List ℕ) → (recordOf r i ≡ some b) ↔ (b ∈ recordsIn r × (idOf b ≡ i))
+OwnRecord r = (i : ℕ) (b : List ℕ) → (recordBearing r i ≡ some b) ↔ (b ∈ recordsIn r × (idOf b ≡ i))
 
-abbrev pub named : List Handed → List ℕ → Bool
-named hs a = any (λ h. eqb (lineId (h .line)) (idOf a)) hs
+abbrev pub touched : List Handed → List ℕ → Bool
+touched hs a = any (λ h. eqb (lineId (h .line)) (idOf a)) hs
 
 unfoldable pub untouched : List (List ℕ) → List Handed → List (List ℕ)
 untouched [] hs = []
-untouched (a ∷ rs) hs = pick (named hs a) (untouched rs hs) (a ∷ untouched rs hs)
+untouched (a ∷ rs) hs = pick (touched hs a) (untouched rs hs) (a ∷ untouched rs hs)
 
 abbrev pub if-any : Option (List ℕ) → List (List ℕ)
 if-any none = []

@@ -12,7 +12,7 @@ use mathlib.Core.Path.{_≡_}
 use mathlib.Core.List.{List}
 use Rattle.ground.specs.Numbers.{Bytes}
 use Rattle.legal.specs.Sheet.{Sheet, Judged}
-use Rattle.differences.specs.Lines.{linesOf, firstAbove, told, lineTold, pairNumber}
+use Rattle.differences.specs.Lines.{linesOf, firstAbove, differenceOf, lineTold, pairNumber}
 use Rattle.differences.specs.Exact.{Exact, NoLine, EveryCall}
 use Rattle.differences.specs.Rebuilt.{Rebuilt, OwnRecord}
 
@@ -29,7 +29,7 @@ pub record Sheets (l r : List ℕ) : Type 0 where
 pub record WhatChanged : Type 0 where
   pub refused : (l r : List ℕ) → JudgedPair l r (pairNumber l r)
   pub one-number : (l r : List ℕ) (n : ℕ) → JudgedPair l r n → pairNumber l r ≡ n
-  pub told-whole : (l r : List ℕ) (a : ℕ) → lineTold (told (firstAbove a (linesOf l r))) ≡ firstAbove a (linesOf l r)
+  pub told-whole : (l r : List ℕ) (a : ℕ) → lineTold (differenceOf (firstAbove a (linesOf l r))) ≡ firstAbove a (linesOf l r)
   pub every-call : (l r : List ℕ) → EveryCall l r
   pub exact : (l r : List ℕ) → Sheets l r → Exact l r
   pub no-line : (l r : List ℕ) → Sheets l r → NoLine l r

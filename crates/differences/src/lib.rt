@@ -4,7 +4,7 @@
 ghost use mathlib.Core.Path.{_≡_};
 ghost use Rattle.ground.specs.Numbers.{byte};
 ghost use Rattle.legal.specs.Sheet.{countIn, recordAt, idAt};
-ghost use Rattle.differences.specs.Lines.{differs, differing, maskOf, linesOf, firstAbove, told, idTold, pairNumber};
+ghost use Rattle.differences.specs.Lines.{differs, differing, bitsSet, linesOf, firstAbove, differenceOf, idTold, pairNumber};
 ghost use Rattle.differences.specs.Mended.{comparedAs};
 ghost use Rattle.differences.specs.Lowest.{Lower, LowestAbove, Standing};
 use records::RECORD;
@@ -116,7 +116,7 @@ fn differs_at(a: &[u8], b: &[u8], n: usize) -> bool
 
 // The bytes in which two records differ, a bit for each.
 fn mask_of(a: &[u8], b: &[u8]) -> u32
-    ensures { λ r. ⌜ r ≡ maskOf (differing (now (a .entry)) (now (b .entry))) ⌝ }
+    ensures { λ r. ⌜ r ≡ bitsSet (differing (now (a .entry)) (now (b .entry))) ⌝ }
 {
     let mut mask: u32 = 0;
     let mut n = RECORD;
@@ -130,7 +130,7 @@ fn mask_of(a: &[u8], b: &[u8]) -> u32
 // The bytes in which the i-th record on the left differs from the j-th on the right.
 fn changes(left: &[u8], i: usize, right: &[u8], j: usize) -> u32
     requires { ⌜ Standing (now left) i (now right) j ⌝ }
-    ensures { λ r. ⌜ r ≡ maskOf (differing (recordAt (now (left .entry)) i) (recordAt (now (right .entry)) j)) ⌝ }
+    ensures { λ r. ⌜ r ≡ bitsSet (differing (recordAt (now (left .entry)) i) (recordAt (now (right .entry)) j)) ⌝ }
 {
     let a = i * RECORD;
     let b = j * RECORD;
@@ -141,7 +141,7 @@ fn changes(left: &[u8], i: usize, right: &[u8], j: usize) -> u32
 
 // The first difference whose ID is above a number.
 pub fn next(left: &[u8], right: &[u8], above: u8) -> Difference
-    ensures { λ r. ⌜ r ≡ told (firstAbove above (linesOf (now (left .entry)) (now (right .entry)))) ⌝ }
+    ensures { λ r. ⌜ r ≡ differenceOf (firstAbove above (linesOf (now (left .entry)) (now (right .entry)))) ⌝ }
 {
     let mut at = above as usize;
     loop {

@@ -13,6 +13,7 @@
 --   givesOut ks d cs   ==  what d gives out where cs enter
 --   third ks           ==  the edition
 --   UnknownCluster ks d  ==  refusal 52: d names a cluster by an ID that none of ks bears
+--   Rule52 ks ds       ==  no descriptor of the run ds is so
 --   WrongClock ds d    ==  refusal 11, for a clock: d is a Terminal whose clock ID is no Clock Source's of ds
 use Prim.Native.Nat.{ℕ, _+_, _*_, _≤_}
 use mathlib.Core.Path.{_≡_}
@@ -33,7 +34,7 @@ use Rattle.layout3.specs.Layout.{entityOf}
 use Rattle.layout3.specs.Facts.{factsOf}
 use Rattle.layout3.specs.LayoutLaws.{sources-within}
 use Rattle.buffer.specs.Clusters.{clusterId, channelsOf, SameContent}
-use Rattle.buffer.specs.Reading.{named, sameContent, reads-content}
+use Rattle.buffer.specs.Reading.{clusterIn, sameContent, reads-content}
 
 abbrev pub saidBy : List ℕ → Facts
 saidBy d = factsOf (entityOf d)
@@ -67,18 +68,18 @@ reads-alike cs = reads-all (λ k. sameContent k (firstOf cs)) (λ k. SameContent
 module _ (ks : List (List ℕ)) where
   unfoldable pub Keeps : Entity → ℕ → List (List ℕ) → Type 0
   Keeps Unknown l cs = Unit {0}
-  Keeps (Input k c) l cs = Few (channelsOf (named ks c))
+  Keeps (Input k c) l cs = Few (channelsOf (clusterIn ks c))
   Keeps (Output s k) l cs = Unit {0}
-  Keeps (Mixer p c) l cs = Few (channelsOf (named ks c)) × (l ≡ mixerLength p (channelsOf (named ks c)) (channelsIn cs))
+  Keeps (Mixer p c) l cs = Few (channelsOf (clusterIn ks c)) × (l ≡ mixerLength p (channelsOf (clusterIn ks c)) (channelsIn cs))
   Keeps (Selector p) l cs = Alike cs
   Keeps (Feature s) l cs = l ≡ featureLength (channelsOf (firstOf cs))
   Keeps Clock l cs = Unit {0}
 
   unfoldable pub keeps : Entity → ℕ → List (List ℕ) → Bool
   keeps Unknown l cs = true
-  keeps (Input k c) l cs = within 1 (channelsOf (named ks c)) mostChannels
+  keeps (Input k c) l cs = within 1 (channelsOf (clusterIn ks c)) mostChannels
   keeps (Output s k) l cs = true
-  keeps (Mixer p c) l cs = within 1 (channelsOf (named ks c)) mostChannels && eqb l (mixerLength p (channelsOf (named ks c)) (channelsIn cs))
+  keeps (Mixer p c) l cs = within 1 (channelsOf (clusterIn ks c)) mostChannels && eqb l (mixerLength p (channelsOf (clusterIn ks c)) (channelsIn cs))
   keeps (Selector p) l cs = alike cs
   keeps (Feature s) l cs = eqb l (featureLength (channelsOf (firstOf cs)))
   keeps Clock l cs = true
@@ -86,15 +87,15 @@ module _ (ks : List (List ℕ)) where
   pub reads-keeps : (e : Entity) (l : ℕ) (cs : List (List ℕ)) → Reads (keeps e l cs) (Keeps e l cs)
   unfolding keeps Keeps
   reads-keeps Unknown l cs = record { says = λ e. tt; denies = λ e. absurd (true≠false e) }
-  reads-keeps (Input k c) l cs = reads-within 1 (channelsOf (named ks c)) mostChannels
+  reads-keeps (Input k c) l cs = reads-within 1 (channelsOf (clusterIn ks c)) mostChannels
   reads-keeps (Output s k) l cs = record { says = λ e. tt; denies = λ e. absurd (true≠false e) }
-  reads-keeps (Mixer p c) l cs = reads-and _ _ (reads-within 1 (channelsOf (named ks c)) mostChannels) (reads-eq l (mixerLength p (channelsOf (named ks c)) (channelsIn cs)))
+  reads-keeps (Mixer p c) l cs = reads-and _ _ (reads-within 1 (channelsOf (clusterIn ks c)) mostChannels) (reads-eq l (mixerLength p (channelsOf (clusterIn ks c)) (channelsIn cs)))
   reads-keeps (Selector p) l cs = reads-alike cs
   reads-keeps (Feature s) l cs = reads-eq l (featureLength (channelsOf (firstOf cs)))
   reads-keeps Clock l cs = record { says = λ e. tt; denies = λ e. absurd (true≠false e) }
 
   unfoldable pub givesOut : List ℕ → List (List ℕ) → List ℕ
-  givesOut d cs = pick (saidBy d .declares) (named ks (saidBy d .cluster)) (firstOf cs)
+  givesOut d cs = pick (saidBy d .declares) (clusterIn ks (saidBy d .cluster)) (firstOf cs)
 
   abbrev pub third : Edition
   third = record {
@@ -114,6 +115,9 @@ module _ (ks : List (List ℕ)) where
 
   abbrev pub UnknownCluster : List ℕ → Type 0
   UnknownCluster d = (saidBy d .declares ≡ true) × ((k : List ℕ) → k ∈ ks → clusterId k ≡ saidBy d .cluster → ⊥)
+
+  abbrev pub Rule52 : List (List ℕ) → Type 0
+  Rule52 ds = (d : List ℕ) → d ∈ ds → UnknownCluster d → ⊥
 
 -- a Clock Source is shown as 0B
 abbrev pub WrongClock : List (List ℕ) → List ℕ → Type 0

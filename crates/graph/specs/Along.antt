@@ -26,7 +26,8 @@ use lib.ListN.{length, getD, take}
 use lib.Seq.{take-suc}
 use borrow.Author.Tests.{eq-eqb, ne-eqb}
 use Rattle.ground.specs.Pick.{pick, yes, no}
-use Rattle.graph.specs.Members.{_∈_, map-same, in-take}
+use Rattle.ground.specs.Lists.{take-in}
+use Rattle.graph.specs.Members.{_∈_, map-same}
 use Rattle.graph.specs.Passes.{borne, orderOf}
 use Rattle.graph.specs.Grown.{with, with-cases, with-last, borne-cases, Grown, none, more, order-grown, grown-source, grown-take, grown-at}
 
@@ -115,7 +116,7 @@ module _ {C : Type 0} (ids : ℕ → ℕ) (sources : ℕ → List ℕ) (rule : �
 
   module _ {n : ℕ} (c : ℕ → C) {o : List ℕ} (g : Grown ids sources n o) (k : ℕ) where
     pub given-stays : (x : ℕ) → x ∈ borne ids (take k o) → given c o x ≡ given c (take k o) x
-    given-stays = grown-one c (given c o) (grown-take k g) (λ i m. grown-made c g i (in-take k m))
+    given-stays = grown-one c (given c o) (grown-take k g) (λ i m. grown-made c g i (take-in k m))
 
     pub enters-early : k < length o → enters sources (given c (take k o)) (getD o k 0) ≡ enters sources (given c o) (getD o k 0)
     enters-early l = map-same (given c (take k o)) (given c o) (sources (getD o k 0)) (λ x s. sym (given-stays x (grown-at g k l .1 .1 x s)))

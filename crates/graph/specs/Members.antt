@@ -16,12 +16,8 @@
 --   mem-in, mem-out  ==  .. so the test is known of a member, and of what is none
 --   mem-append    ==  a member of two lists together is one of either
 --   mem-same      ==  lists with the same members are alike to the test
---   in-take       ==  a member of a list's first elements is one of the list
---   member-index, index-member  ==  a member stands at an index, and what stands at an index is a member
-use Prim.Native.Nat.{ℕ, zero, suc, _<_}
+use Prim.Native.Nat.{ℕ}
 use lib.Dec.{eqb}
-use lib.ListN.{length, getD, take}
-use native.Mathlib.Omega.{arith}
 use mathlib.Core.Logic.{⊎-elim}
 use mathlib.Core.Path.{_≡_, refl, sym, ap, _∙_, subst}
 use mathlib.Core.List.{List, [], _∷_, _++_, map, List·Memᴰ, List·Memᴰ·head, List·Memᴰ·tail, List·Memᴰ·not-nil, List·Memᴰ·cases-cons}
@@ -89,20 +85,6 @@ pub all-map : {A B : Type 0} (p : B → Bool) (f : A → B) (l : List A) → all
 unfolding all
 all-map p f [] = refl
 all-map p f (x ∷ l) = ap (λ (b : Bool). p (f x) && b) (all-map p f l)
-
-pub in-take : {A : Type 0} (k : ℕ) {l : List A} {x : A} → x ∈ take k l → x ∈ l
-in-take zero m = absurd (List·Memᴰ·not-nil m)
-in-take (suc k) {l = []} m = m
-in-take (suc k) {l = y ∷ l} m = ⊎-elim (λ e. List·Memᴰ·head e) (λ r. List·Memᴰ·tail (in-take k r)) (List·Memᴰ·cases-cons m)
-
-pub member-index : {x : ℕ} {l : List ℕ} → x ∈ l → (k : ℕ) × (k < length l) × (getD l k 0 ≡ x)
-member-index (List·Memᴰ·head e) = (0, omega arith, sym e)
-member-index (List·Memᴰ·tail m) = let r = member-index m in let h = r .1 in (suc (r .0), omega arith, r .2)
-
-pub index-member : (l : List ℕ) (k : ℕ) → k < length l → getD l k 0 ∈ l
-index-member [] k h = absurd (omega arith)
-index-member (x ∷ l) zero h = List·Memᴰ·head refl
-index-member (x ∷ l) (suc k) h = List·Memᴰ·tail (index-member l k (omega arith))
 
 unfoldable pub mem : ℕ → List ℕ → Bool
 mem x [] = false

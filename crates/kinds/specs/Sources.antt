@@ -2,7 +2,7 @@
 --   pinsOf e       ==  how many there are: the pins
 --   begins o, sourcesFrom e  ==  the offset of the first of them in the descriptor, as the layout has it; 0 where there is none
 --   sourceIds d    ==  their IDs as a part of the descriptor d: pinsOf of them from sourcesFrom on
---   feedsOf e      ==  it may be a source: every kind but an Output Terminal, which has no output; a wrong layout may not
+--   feedsOf e      ==  it may be a source: every kind but an Output Terminal, which has no output; what has none of the layouts may not
 use Prim.Native.Nat.{ℕ}
 use mathlib.Core.Bool.{Bool, true, false}
 use mathlib.Core.Option.{Option, none, some}

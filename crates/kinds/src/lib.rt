@@ -47,7 +47,7 @@ pub fn pins(entity: Entity) -> u8
     }
 }
 
-// Whether an entity may be a source: it has an output, as all have but an Output Terminal and a wrong layout.
+// Whether an entity may be a source: it has an output, as all have but an Output Terminal and what has none of the layouts.
 pub fn feeds(entity: Entity) -> bool
     ensures { λ r. ⌜ r ≡ feedsOf entity ⌝ }
 {

@@ -9,7 +9,7 @@
 --   inputOf d, outputOf d, mixerOf d, selectorOf d, featureOf d ==  the same by the layouts of the kind in the name
 --   entityOf d               ==  what the reader makes of d: by the layouts whose number is byte 2
 --   idOf e                   ==  the ID that an entity bears
---   isUnknown e              ==  the layout was wrong
+--   isUnknown e              ==  it has none of the five layouts: a wrong layout, or the printed Selector
 use Prim.Native.Nat.{ℕ, _+_}
 use mathlib.Core.Bool.{Bool, true, false}
 use mathlib.Core.Option.{Option, none, some}

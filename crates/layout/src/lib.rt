@@ -1,5 +1,5 @@
 // The layouts of the five kinds of entities (document 01, "Entities"). To the layer above: a descriptor, any slice, becomes an enum case
-// that carries its kind's own numbers, or Unknown where its layout is wrong. What else a case says is crate kinds' to tell. The layouts are
+// that carries its kind's own numbers, or Unknown where it has none of the five layouts. What else a case says is crate kinds' to tell. The layouts are
 // said in specs/Layouts.
 ghost use mathlib.Core.Path.{_≡_};
 ghost use Prim.Native.Nat.{_≤_, _<_};

@@ -5,12 +5,15 @@
 --   input-right, input-wrong, output-right, output-wrong, mixer-right, mixer-wrong, selector-right, selector-wrong, feature-right, feature-wrong,
 --   clock-right, clock-wrong  ==  what a kind's own reader makes of its layout, and of any other
 --   kind-input, kind-output, kind-mixer, kind-selector, kind-feature, kind-clock, kind-other  ==  byte 2 says which kind's reader it is
+--   laid-decided  ==  a descriptor has one of the layouts, or none
 --   pins-few      ==  at most 24 pins
 --   sources-within  ==  the sources of what a descriptor is stand inside it
+--   sources-laid  ==  they are those that the fields of its layout hold
 use Prim.Native.Nat.{ℕ, _+_, _≤_}
 use mathlib.Core.Path.{_≡_, refl, sym, ap, _∙_}
 use mathlib.Core.Bool.{Bool, true, false}
 use mathlib.Core.Option.{Option, none, some}
+use mathlib.Core.Logic.{_⊎_, inl, inr}
 use mathlib.Core.List.{List, _∷_}
 use native.Mathlib.Omega.{arith}
 use lib.ListN.{length, take, drop}
@@ -19,8 +22,8 @@ use borrow.Author.Tests.{ne-eqb, eqb-true}
 use Rattle.ground.specs.Pick.{pick, yes, no, Reads, shows, refutes, true≠false, reads-same, reads-eq, reads-le, reads-and, reads-within}
 use Rattle.ground.specs.Numbers.{byte, word}
 use Rattle.layout.specs.Layouts.{mostPins, Pins}
-use Rattle.layout.specs.Format.{emit, fits, valueAt}
-use Rattle.layout.specs.FormatLaws.{found, again, fits-inside, here-at, after-at, open-at, stretch-length}
+use Rattle.layout.specs.Format.{emit, fits, valueAt, fed}
+use Rattle.layout.specs.FormatLaws.{found, again, fits-inside, here-at, after-at, open-at, stretch-length, fed-part}
 use Rattle.layout.specs.FieldsLaws.{none-some, some-one}
 use Rattle.layout3.specs.declared.Entity.{Entity}
 use Rattle.layout3.specs.declared.Entity.the-variants.{Unknown, Input, Output, Mixer, Selector, Feature, Clock}
@@ -250,6 +253,18 @@ reads-unknown d = of (told d)
     of (feature o k l) = known o
     of (clock o k l) = known o
 
+pub laid-decided : (d : List ℕ) → LaidOut d ⊎ (LaidOut d → ⊥)
+laid-decided d = of (told d)
+  where
+    of : {e : Entity} → Told d e → LaidOut d ⊎ (LaidOut d → ⊥)
+    of (unknown n) = inr n
+    of (input o k l) = inl o
+    of (output o k l) = inl o
+    of (mixer o k q l) = inl o
+    of (selector o k q l) = inl o
+    of (feature o k l) = inl o
+    of (clock o k l) = inl o
+
 pub pins-few : (d : List ℕ) → factsOf (entityOf d) .pins ≤ mostPins
 unfolding factsOf
 pins-few d = of (told d)
@@ -275,3 +290,25 @@ sources-within d = of (told d)
     of (selector o k q l) = omega arith
     of (feature o k l) = omega arith
     of (clock o k l) = omega arith
+
+-- the sources are those that the layout's fields hold
+sources-by : (k : Kind) (d : List ℕ) → fits (formatOf k) d 3 ≡ true
+    → take (factsOf (entityAt k (valueAt (formatOf k) d 3)) .pins) (drop (factsOf (entityAt k (valueAt (formatOf k) d 3)) .first) d) ≡ fed (formatOf k) (valueAt (formatOf k) d 3)
+unfolding factsOf
+sources-by kind.input d e = refl
+sources-by kind.output d e = sym (fed-part (formatOf kind.output) d 3 e)
+sources-by kind.mixer d e = sym (fed-part (formatOf kind.mixer) d 3 e)
+sources-by kind.selector d e = sym (fed-part (formatOf kind.selector) d 3 e)
+sources-by kind.feature d e = sym (fed-part (formatOf kind.feature) d 3 e)
+sources-by kind.clock d e = refl
+
+pub sources-laid : (d : List ℕ) (l : LaidOut d)
+    → take (factsOf (entityOf d) .pins) (drop (factsOf (entityOf d) .first) d) ≡ fed (formatOf (l .kind)) (l .value)
+unfolding entityOf
+sources-laid d l =
+    let f = found (formatOf (l .kind)) d 3 (l .value) (after-at d 2 _ _ (l .same)) (l .kept) in
+    let e : entityIn (kindBy (byte d 2)) d ≡ entityAt (l .kind) (valueAt (formatOf (l .kind)) d 3) =
+    ap (λ (o : Option Kind). entityIn o d) (laid-kind d l) ∙ yes _ _ (f .passes) in
+    ap (λ (x : Entity). take (factsOf x .pins) (drop (factsOf x .first) d)) e
+    ∙ sources-by (l .kind) d (f .passes)
+    ∙ ap (fed (formatOf (l .kind))) (f .same)

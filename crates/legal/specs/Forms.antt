@@ -1,7 +1,7 @@
 -- The two forms of a sheet's records (document 02, No. 7): "The new record is 32 bytes: the first eight as before, then twenty-four source IDs."
---   oldSize     ==  the bytes of a record before: 16
---   sizeOf f    ==  the bytes of a record of the form f
---   size-some, size-most  ==  there are some, and no more than the new form has
+--   oldSize        ==  the bytes of a record before: 16
+--   recordSizeOf f ==  the bytes of a record of the form f
+--   record-size-some, record-size-most  ==  there are some, and no more than the new form has
 use Prim.Native.Nat.{ℕ, _≤_, _<_}
 use native.Mathlib.Omega.{arith}
 use Rattle.records.specs.Records.{recordSize}
@@ -11,16 +11,16 @@ use Rattle.legal.specs.declared.Form.the-variants.{Old, New}
 abbrev pub oldSize : ℕ
 oldSize = 16
 
-unfoldable pub sizeOf : Form → ℕ
-sizeOf Old = oldSize
-sizeOf New = recordSize
+unfoldable pub recordSizeOf : Form → ℕ
+recordSizeOf Old = oldSize
+recordSizeOf New = recordSize
 
-pub size-some : (f : Form) → 0 < sizeOf f
-unfolding sizeOf
-size-some Old = omega arith
-size-some New = omega arith
+pub record-size-some : (f : Form) → 0 < recordSizeOf f
+unfolding recordSizeOf
+record-size-some Old = omega arith
+record-size-some New = omega arith
 
-pub size-most : (f : Form) → sizeOf f ≤ recordSize
-unfolding sizeOf
-size-most Old = omega arith
-size-most New = omega arith
+pub record-size-most : (f : Form) → recordSizeOf f ≤ recordSize
+unfolding recordSizeOf
+record-size-most Old = omega arith
+record-size-most New = omega arith

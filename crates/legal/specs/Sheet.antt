@@ -1,7 +1,8 @@
 -- What a sheet is (document 01, "The sheet": records, "no header"; document 02, No. 4: "42 an ID of zero or one that stands twice"; No. 7: "41
 -- becomes over 1,024 or not a multiple of 32", before it over 512 or not a multiple of 16). Every word here is of any bytes: those behind the last
 -- whole record are in none. Each is said once, of records of k bytes; those without k are of the form that the reader writes.
---   mostBy k, mostBytes          ==  the most bytes of a sheet: 32 records
+--   mostBy k, mostSheet          ==  the most bytes of a sheet: 32 records, so 1,024 bytes of the reader's form and 512 of the old one
+--   new-numbers                  ==  "over 1,024 or not a multiple of 32": so it is
 --   countBy k s, countIn s       ==  how many records stand in s
 --   recordBy k s i, recordAt s i ==  the i-th of them, counted from 0
 --   recordsBy k s, recordsIn s   ==  all of them, one after another
@@ -14,7 +15,7 @@
 --   badLengthBy k s, badIdsBy k s  ==  the tests of the two
 --   numberBy k s, sheetNumber s  ==  the number by which s is refused as a sheet, the lower first; 0 where it is one
 use Prim.Native.Nat.{ℕ, _*_, _/_, _%_, _≤_, _<_}
-use mathlib.Core.Path.{_≡_}
+use mathlib.Core.Path.{_≡_, refl}
 use mathlib.Core.Bool.{Bool, not, _||_}
 use mathlib.Core.Logic.{_⊎_}
 use mathlib.Core.List.{List}
@@ -71,8 +72,11 @@ badIdsBy k s = somewhere (wrongId (idBy k s)) (countBy k s)
 unfoldable pub numberBy : ℕ → List ℕ → ℕ
 numberBy k s = pick (badLengthBy k s) 41 (pick (badIdsBy k s) 42 0)
 
-abbrev pub mostBytes : ℕ
-mostBytes = mostBy recordSize
+abbrev pub mostSheet : ℕ
+mostSheet = mostBy recordSize
+
+pub new-numbers : (mostSheet ≡ 1024) × (recordSize ≡ 32)
+new-numbers = (refl, refl)
 
 abbrev pub countIn : List ℕ → ℕ
 countIn = countBy recordSize

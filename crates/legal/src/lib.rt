@@ -4,7 +4,7 @@
 ghost use mathlib.Core.Path.{_≡_};
 ghost use Prim.Native.Nat.{_%_};
 ghost use lib.ListN.{length};
-ghost use Rattle.legal.specs.Forms.{sizeOf};
+ghost use Rattle.legal.specs.Forms.{recordSizeOf};
 ghost use Rattle.legal.specs.Sheet.{countBy, badIdsBy, numberBy, sheetNumber};
 use entities::MOST_ENTITIES;
 use ground::index_of;
@@ -24,7 +24,7 @@ pub const MOST_BYTES: usize = MOST_ENTITIES * RECORD;
 
 // The bytes of a record.
 pub fn record_size(form: Form) -> usize
-    ensures { λ r. ⌜ r ≡ sizeOf form ⌝ }
+    ensures { λ r. ⌜ r ≡ recordSizeOf form ⌝ }
 {
     match form {
         Form::Old => OLD_RECORD,
@@ -34,7 +34,7 @@ pub fn record_size(form: Form) -> usize
 
 // How many records stand in bytes.
 pub fn count(s: &[u8], form: Form) -> usize
-    ensures { λ r. ⌜ r ≡ countBy (sizeOf form) (now (s .entry)) ⌝ }
+    ensures { λ r. ⌜ r ≡ countBy (recordSizeOf form) (now (s .entry)) ⌝ }
 {
     match form {
         Form::Old => s.len() / OLD_RECORD,
@@ -44,7 +44,7 @@ pub fn count(s: &[u8], form: Form) -> usize
 
 // How many bytes stand behind the last whole record.
 fn rest(s: &[u8], form: Form) -> usize
-    ensures { λ r. ⌜ r ≡ length (now (s .entry)) % sizeOf form ⌝ }
+    ensures { λ r. ⌜ r ≡ length (now (s .entry)) % recordSizeOf form ⌝ }
 {
     match form {
         Form::Old => s.len() % OLD_RECORD,
@@ -75,7 +75,7 @@ fn has_bad_id(s: &[u8], n: usize, size: usize) -> bool
 
 // The refusal of bytes as a sheet of a form: 41 or 42, 0 where they are one.
 pub fn refusal_in(s: &[u8], form: Form) -> u8
-    ensures { λ r. ⌜ r ≡ numberBy (sizeOf form) (now (s .entry)) ⌝ }
+    ensures { λ r. ⌜ r ≡ numberBy (recordSizeOf form) (now (s .entry)) ⌝ }
 {
     let size = record_size(form);
     if MOST_ENTITIES * size < s.len() {

@@ -1,1 +1,3 @@
 pub mod Links
+pub mod Rules
+pub mod RulesLaws

@@ -1,9 +1,9 @@
 -- What the reader computes of clocks and named clusters in the 3.0 edition, from its array.
 --   saidAt s run i       ==  what the layout of the i-th entity says
---   isClockAt s run x i  ==  the i-th entity is a Clock Source that bears the ID x
---   clockBelow s run i x ==  one of the first i entities is a Clock Source that bears the ID x
---   clockMarks s run     ==  by ID, whether a Clock Source of the run bears it
---   wrongClockBy marks f ==  f is a Terminal's, whose clock ID is not marked
+--   isClockAt run x i    ==  the i-th entity is a Clock Source that bears the ID x
+--   clockBelow run i x   ==  one of the first i entities is a Clock Source that bears the ID x
+--   ClockMarks run marks ==  marks, an array by ID, tells of every number whether a Clock Source of the run bears it
+--   wrongClockBy isClock f  ==  f is a Terminal's, whose clock ID is no Clock Source's; isClock tells whose an ID is
 --   breachClock s run    ==  the place of the first such entity
 --   lesser a b           ==  the lesser of two places, of which either may be nowhere
 --   breach11Third s run  ==  where rule 11 is broken first: by a source, or by a clock
@@ -11,6 +11,7 @@
 --   unknownBy b f        ==  f names a cluster by an ID that no descriptor of the buffer b bears
 --   breach52 s b run     ==  the place of the first such entity
 use Prim.Native.Nat.{ℕ}
+use mathlib.Core.Path.{_≡_}
 use mathlib.Core.Bool.{Bool, true, false, not, _&&_}
 use mathlib.Core.List.{List}
 use lib.Dec.{eqb, ltb}
@@ -19,31 +20,32 @@ use Rattle.ground.specs.declared.Place.{Place}
 use Rattle.ground.specs.declared.Place.the-variants.{Nowhere, At}
 use Rattle.ground.specs.Pick.{pick}
 use Rattle.ground.specs.Places.{firstIn, somewhere}
-use Rattle.graph.specs.Tables.{tabulate}
 use Rattle.layout3.specs.declared.Facts.{Facts}
 use Rattle.buffer.specs.Reading.{foundCluster}
 use Rattle.edition3.specs.Third.{saidBy}
 use Rattle.entities.specs.declared.Run.{Run}
-use Rattle.entities.specs.Run.{held, nodeAt, idAt, placeAt, descriptorOf}
+use Rattle.entities.specs.Run.{held, nodeAt, idAt, kindAt, placeAt, descriptorOf}
 use Rattle.sources.specs.Breach.{breach11}
 
 abbrev pub saidAt : List ℕ → Run → ℕ → Facts
 saidAt s run i = saidBy (descriptorOf s (nodeAt run i))
 
-abbrev pub isClockAt : List ℕ → Run → ℕ → ℕ → Bool
-isClockAt s run x i = eqb (idAt run i) x && eqb (saidAt s run i .kind) 0x0B
+-- a Clock Source is shown as 0B
+abbrev pub isClockAt : Run → ℕ → ℕ → Bool
+isClockAt run x i = eqb (idAt run i) x && eqb (kindAt run i) 0x0B
 
-abbrev pub clockBelow : List ℕ → Run → ℕ → ℕ → Bool
-clockBelow s run i x = somewhere (isClockAt s run x) i
+abbrev pub clockBelow : Run → ℕ → ℕ → Bool
+clockBelow run i x = somewhere (isClockAt run x) i
 
-unfoldable pub clockMarks : List ℕ → Run → List Bool
-clockMarks s run = tabulate 256 (clockBelow s run (held run))
+-- an ID is a byte, so that no Clock Source bears any other number
+pub record ClockMarks (run : Run) (marks : List Bool) : Type 0 where
+  pub holds : (x : ℕ) → getD marks x false ≡ clockBelow run (held run) x
 
-unfoldable pub wrongClockBy : List Bool → Facts → Bool
-wrongClockBy marks f = f .clocked && not (getD marks (f .clock) false)
+unfoldable pub wrongClockBy : (ℕ → Bool) → Facts → Bool
+wrongClockBy isClock f = f .clocked && not (isClock (f .clock))
 
 unfoldable pub breachClock : List ℕ → Run → Place
-breachClock s run = firstIn (λ i. wrongClockBy (clockMarks s run) (saidAt s run i)) (λ i. At (placeAt run i)) Nowhere 0 (held run)
+breachClock s run = firstIn (λ i. wrongClockBy (clockBelow run (held run)) (saidAt s run i)) (λ i. At (placeAt run i)) Nowhere 0 (held run)
 
 unfoldable pub lesser : Place → Place → Place
 lesser Nowhere b = b

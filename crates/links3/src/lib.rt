@@ -2,11 +2,11 @@
 // rule 11 covers both"; refusal 52 "at the first entity whose cluster ID is unknown". What this crate promises to the layer above: its public
 // functions answer, for every configuration, buffer and run whatever, as specs/ says.
 ghost use mathlib.Core.Path.{_≡_};
-ghost use mathlib.Core.Bool.{false, _&&_, not};
+ghost use mathlib.Core.Bool.{false};
 ghost use lib.ListN.{getD};
 ghost use Rattle.entities.specs.Run.{descriptorOf};
 ghost use Rattle.edition3.specs.Third.{saidBy};
-ghost use Rattle.links3.specs.Links.{clockMarks, wrongClockBy, breachClock, lesser, breach11Third, unknownBy, breach52};
+ghost use Rattle.links3.specs.Links.{ClockMarks, wrongClockBy, breachClock, lesser, breach11Third, unknownBy, breach52};
 use entities::Node;
 use entities::Run;
 use ground::Place;
@@ -16,16 +16,15 @@ use ground::index_of;
 const CLOCK_SOURCE: u8 = 0x0B;
 
 // By ID: whether a Clock Source of the run bears it.
-fn clocks(config: &[u8], run: Run) -> [bool; 256]
-    ensures { λ r. ⌜ r ≡ clockMarks (now (config .entry)) run ⌝ }
+fn clocks(run: Run) -> [bool; 256]
+    ensures { λ r. ⌜ ClockMarks run r ⌝ }
 {
     let n = entities::count(run);
     let mut marks = [false; 256];
     let mut i: usize = 0;
     while i < n {
         let node = run.nodes[i];
-        let said = run3::facts_at(config, node.place);
-        if said.kind == CLOCK_SOURCE {
+        if node.kind == CLOCK_SOURCE {
             marks[index_of(node.id)] = true;
         }
         i += 1;
@@ -35,7 +34,7 @@ fn clocks(config: &[u8], run: Run) -> [bool; 256]
 
 // Whether an entity is a Terminal whose clock ID is no Clock Source's.
 fn wrong_clock(config: &[u8], node: Node, marks: &[bool; 256]) -> bool
-    ensures { λ r. ⌜ r ≡ wrongClockBy (now (marks .entry)) (saidBy (descriptorOf (now (config .entry)) node)) ⌝ }
+    ensures { λ r. ⌜ r ≡ wrongClockBy (λ x. getD (now (marks .entry)) x false) (saidBy (descriptorOf (now (config .entry)) node)) ⌝ }
 {
     let said = run3::facts_at(config, node.place);
     if !said.clocked {
@@ -49,7 +48,7 @@ fn check_clocks(config: &[u8], run: Run) -> Place
     ensures { λ r. ⌜ r ≡ breachClock (now (config .entry)) run ⌝ }
 {
     let n = entities::count(run);
-    let marks = clocks(config, run);
+    let marks = clocks(run);
     let mut i: usize = 0;
     while i < n {
         let node = run.nodes[i];

@@ -13,7 +13,7 @@ use Rattle.edition.specs.Audio.{audio}
 use Rattle.records.specs.Records.{frontOf, recordFor, recordIn}
 use Rattle.records.specs.Sheet.{recordsFor, recordsOf}
 use Rattle.legal.specs.declared.Form.the-variants.{New}
-use Rattle.legal.specs.Forms.{oldSize, sizeOf}
+use Rattle.legal.specs.Forms.{oldSize, recordSizeOf}
 use Rattle.legal.specs.Sheet.{countBy, idOf, idBy, SheetBy}
 use Rattle.legal.specs.SheetLaws.{record-id}
 use Rattle.mover.specs.Moving.JudgedMove.{moved}
@@ -50,7 +50,7 @@ module _ (cluster : ℕ → Cluster) where
 
   module _ (ds : List (List ℕ)) (run : OldRun ds) where
     moved-now : movedTo New (oldRecordsOf ds cluster) ≡ recordsOf ds cluster
-    unfolding movedTo sizeOf otherOf recordTo
+    unfolding movedTo recordSizeOf otherOf recordTo
     moved-now = ap (λ (rs : List (List ℕ)). flatten (map asNew rs)) (records-joined oldSize (omega arith) (map before ds) (each ds)) ∙ records-now ds (run .few)
 
     long : length (oldRecordsOf ds cluster) ≡ length ds * oldSize
@@ -86,7 +86,7 @@ module _ (cluster : ℕ → Cluster) where
         }
 
     pub as-now : (d : List ℕ) → Lent New (oldRecordsOf ds cluster) d → AsNow ds cluster d
-    unfolding sizeOf otherOf
+    unfolding recordSizeOf otherOf
     as-now d l =
         let e : moveNumber New (oldRecordsOf ds cluster) (length d) ≡ 0 = judged-move New (oldRecordsOf ds cluster) (length d) (moved sheet-before (λ h. h) l) in
         record { accepted = e; same = given-moved New (oldRecordsOf ds cluster) d e ∙ moved-now }

@@ -13,7 +13,7 @@ use borrow.Author.Tests.{ne-eqb}
 use Rattle.ground.specs.Pick.{pick, no, decided}
 use Rattle.legal.specs.declared.Form.{Form}
 use Rattle.legal.specs.declared.Form.the-variants.{Old, New}
-use Rattle.legal.specs.Forms.{oldSize, sizeOf}
+use Rattle.legal.specs.Forms.{oldSize, recordSizeOf}
 use Rattle.legal.specs.Sheet.{countBy, recordBy, SheetBy, Sheet}
 use Rattle.legal.specs.SheetLaws.{record-long, in-records, records-long}
 use Rattle.records.specs.Records.{recordSize}
@@ -38,7 +38,7 @@ stays f s d = go (eqb (moveNumber f s (length d)) 0)
 
 module _ (s : List ℕ) where
   old-new-old : (d e : List ℕ) → SheetBy oldSize s → Lent New s d → length s ≤ length e → ThereAndBack New s d e
-  unfolding otherOf sizeOf recordTo
+  unfolding otherOf recordSizeOf recordTo
   old-new-old d e k l r = trip New s k (λ a m. old-kept a (records-long oldSize s m)) d e (λ h. h) none l r
     where
       none : LosesMore (movedTo New s) → ⊥
@@ -49,11 +49,11 @@ module _ (s : List ℕ) where
 
   module _ (d : List ℕ) (k : Sheet s) (l : Lent Old s d) where
     by-43 : LosesMore s → moveNumber Old s (length d) ≡ 43
-    unfolding otherOf sizeOf
+    unfolding otherOf recordSizeOf
     by-43 m = judged-move Old s (length d) (by-more k m)
 
     by-none : (LosesMore s → ⊥) → moveNumber Old s (length d) ≡ 0
-    unfolding otherOf sizeOf
+    unfolding otherOf recordSizeOf
     by-none n = judged-move Old s (length d) (moved k n l)
 
     lost : NotMoved s d → LosesMore s
@@ -63,16 +63,16 @@ module _ (s : List ℕ) where
     new-old-refused = (lost, λ m z. let e = by-43 m in omega arith)
 
     new-old-new : (e : List ℕ) → (LosesMore s → ⊥) → length s ≤ length e → ThereAndBack Old s d e
-    unfolding otherOf sizeOf recordTo
+    unfolding otherOf recordSizeOf recordTo
     new-old-new e n r =
         trip Old s k (λ a m. let i = in-records recordSize s m in new-kept a (records-long recordSize s m) (λ h. n (i .0, i .1, rw (sym (i .2)) at h))) d e n (λ h. h) l r
 
 twice-as-long : (s : List ℕ) → SheetBy oldSize s → length (movedTo New s) ≡ 2 * length s
-unfolding otherOf sizeOf
+unfolding otherOf recordSizeOf
 twice-as-long s k = let q = div-add-mod' (length s) oldSize in let w = k .whole in let m = moved-long New s in omega arith
 
 half-as-long : (s : List ℕ) → Sheet s → 2 * length (movedTo Old s) ≡ length s
-unfolding otherOf sizeOf
+unfolding otherOf recordSizeOf
 half-as-long s k = let q = div-add-mod' (length s) recordSize in let w = k .whole in let m = moved-long Old s in omega arith
 
 pub moved-back : MovedBack

@@ -18,7 +18,7 @@ use Rattle.entities.specs.Run.{mostEntities}
 use Rattle.records.specs.Records.{recordSize}
 use Rattle.legal.specs.declared.Form.{Form}
 use Rattle.legal.specs.declared.Form.the-variants.{Old, New}
-use Rattle.legal.specs.Forms.{oldSize, sizeOf, size-some}
+use Rattle.legal.specs.Forms.{oldSize, recordSizeOf, record-size-some}
 use Rattle.legal.specs.Sheet.{countBy, recordBy, recordsBy, idBy, SheetBy}
 use Rattle.legal.specs.SheetLaws.{record-long, record-id, records-long}
 use Rattle.mover.specs.Moving.{otherOf, moreBytes, asNew, asOld, recordTo, movedTo, HasMore, LosesTo, moveNumber, writtenBy, roomAfter}
@@ -46,51 +46,51 @@ map-back g h (a ∷ rs) e = rw (e a (List·Memᴰ·head refl)) (ap (λ (l : List
 
 module _ (f : Form) (s : List ℕ) where
   abbrev from : ℕ
-  from = sizeOf (otherOf f)
+  from = recordSizeOf (otherOf f)
 
   abbrev records : List (List ℕ)
   records = map (recordTo f) (recordsBy from s)
 
-  each : Each (sizeOf f) records
+  each : Each (recordSizeOf f) records
   each a m =
       let b = Memᴰ·of-map (recordTo f) (recordsBy from s) m in
-      sym (ap length (b .2)) ∙ ap length (record-padded f (b .0) (records-long from s (b .1))) ∙ pad-length 0 (sizeOf f) (b .0)
+      sym (ap length (b .2)) ∙ ap length (record-padded f (b .0) (records-long from s (b .1))) ∙ pad-length 0 (recordSizeOf f) (b .0)
 
-  pub moved-records : recordsBy (sizeOf f) (movedTo f s) ≡ records
+  pub moved-records : recordsBy (recordSizeOf f) (movedTo f s) ≡ records
   unfolding movedTo
-  moved-records = records-joined (sizeOf f) (size-some f) records each
+  moved-records = records-joined (recordSizeOf f) (record-size-some f) records each
 
-  pub moved-count : countBy (sizeOf f) (movedTo f s) ≡ countBy from s
-  moved-count = ap (λ (n : ℕ). n / sizeOf f) (moved-long f s) ∙ mul-div-cancel (countBy from s) (size-some f)
+  pub moved-count : countBy (recordSizeOf f) (movedTo f s) ≡ countBy from s
+  moved-count = ap (λ (n : ℕ). n / recordSizeOf f) (moved-long f s) ∙ mul-div-cancel (countBy from s) (record-size-some f)
 
   listed : records ≡ tabulate (countBy from s) (λ i. recordTo f (recordBy from s i))
   unfolding recordsBy
   listed = map-tabulate (recordTo f) (countBy from s) (recordBy from s)
 
-  pub moved-at : (i : ℕ) → i < countBy from s → recordBy (sizeOf f) (movedTo f s) i ≡ recordTo f (recordBy from s i)
+  pub moved-at : (i : ℕ) → i < countBy from s → recordBy (recordSizeOf f) (movedTo f s) i ≡ recordTo f (recordBy from s i)
   unfolding movedTo
   moved-at i h =
       let l : length records ≡ countBy from s = ap length listed ∙ length-tabulate (countBy from s) (λ j. recordTo f (recordBy from s j)) in
-      record-in (sizeOf f) records each i (omega arith)
+      record-in (recordSizeOf f) records each i (omega arith)
       ∙ ap (λ (rs : List (List ℕ)). getD rs i []) listed
       ∙ getD-tabulate (countBy from s) (λ j. recordTo f (recordBy from s j)) i [] h
 
-  moved-id : (i : ℕ) → i < countBy from s → idBy (sizeOf f) (movedTo f s) i ≡ idBy from s i
+  moved-id : (i : ℕ) → i < countBy from s → idBy (recordSizeOf f) (movedTo f s) i ≡ idBy from s i
   moved-id i h =
       let c = moved-count in
-      sym (record-id (sizeOf f) (movedTo f s) i (omega arith) (size-some f))
+      sym (record-id (recordSizeOf f) (movedTo f s) i (omega arith) (record-size-some f))
       ∙ ap (λ (a : List ℕ). byte a 0) (moved-at i h ∙ record-padded f (recordBy from s i) (record-long from s i h))
-      ∙ pad-at 0 (sizeOf f) (recordBy from s i) 0 (size-some f)
-      ∙ record-id from s i h (size-some (otherOf f))
+      ∙ pad-at 0 (recordSizeOf f) (recordBy from s i) 0 (record-size-some f)
+      ∙ record-id from s i h (record-size-some (otherOf f))
 
-  sheet-moved : SheetBy from s → SheetBy (sizeOf f) (movedTo f s)
+  sheet-moved : SheetBy from s → SheetBy (recordSizeOf f) (movedTo f s)
   sheet-moved k =
       let l = moved-long f s in
       let c = moved-count in
       let few : countBy from s ≤ mostEntities = div-le-of-le-mul from (let h = k .short in omega arith) in
       record {
-        short = omega (arith, mul-le-mul-right (sizeOf f) few);
-        whole = ap (λ (n : ℕ). n % sizeOf f) l ∙ mul-mod-left (countBy from s) (sizeOf f);
+        short = omega (arith, mul-le-mul-right (recordSizeOf f) few);
+        whole = ap (λ (n : ℕ). n % recordSizeOf f) l ∙ mul-mod-left (countBy from s) (recordSizeOf f);
         own = record {
           named = λ i h e. k .own .named i (omega arith) (sym (moved-id i (omega arith)) ∙ e);
           once = λ i j h m e. k .own .once i j (omega arith) (omega arith) (sym (moved-id i (omega arith)) ∙ e ∙ moved-id j (omega arith));
@@ -101,7 +101,7 @@ module _ (f : Form) (s : List ℕ) where
     moved-back : movedTo (otherOf f) (movedTo f s) ≡ s
     unfolding movedTo
     moved-back =
-        ap (λ (g : Form). flatten (map (recordTo (otherOf f)) (recordsBy (sizeOf g) (movedTo f s)))) (other-twice f)
+        ap (λ (g : Form). flatten (map (recordTo (otherOf f)) (recordsBy (recordSizeOf g) (movedTo f s)))) (other-twice f)
         ∙ ap (λ (rs : List (List ℕ)). flatten (map (recordTo (otherOf f)) rs)) moved-records
         ∙ ap flatten (map-back (recordTo (otherOf f)) (recordTo f) (recordsBy from s) kept)
         ∙ joined-records from s (k .whole)
@@ -111,7 +111,7 @@ module _ (f : Form) (s : List ℕ) where
         let first : moveNumber f s (length d) ≡ 0 = judged-move f s (length d) (moved k n l) in
         let g = given-moved f s d first in
         let b = moved-back in
-        let size : sizeOf f ≡ sizeOf (otherOf (otherOf f)) = ap sizeOf (sym (other-twice f)) in
+        let size : recordSizeOf f ≡ recordSizeOf (otherOf (otherOf f)) = ap recordSizeOf (sym (other-twice f)) in
         let fits : length (movedTo (otherOf f) (movedTo f s)) ≤ length e = rw b r in
         let second : moveNumber (otherOf f) (movedTo f s) (length e) ≡ 0 =
         judged-move (otherOf f) (movedTo f s) (length e) (moved (rw size at (sheet-moved k)) m fits) in

@@ -27,7 +27,7 @@ use Rattle.ground.specs.Places.{somewhere}
 use Rattle.records.specs.Records.{recordSize}
 use Rattle.legal.specs.declared.Form.{Form}
 use Rattle.legal.specs.declared.Form.the-variants.{Old, New}
-use Rattle.legal.specs.Forms.{oldSize, sizeOf}
+use Rattle.legal.specs.Forms.{oldSize, recordSizeOf}
 use Rattle.legal.specs.Sheet.{countIn, recordAt, recordsBy, SheetBy, JudgedBy, numberBy}
 
 unfoldable pub otherOf : Form → Form
@@ -48,7 +48,7 @@ recordTo Old a = asOld a
 recordTo New a = asNew a
 
 unfoldable pub movedTo : Form → List ℕ → List ℕ
-movedTo f s = flatten (map (recordTo f) (recordsBy (sizeOf (otherOf f)) s))
+movedTo f s = flatten (map (recordTo f) (recordsBy (recordSizeOf (otherOf f)) s))
 
 abbrev pub HasMore : List ℕ → Type 0
 HasMore a = (n : ℕ) × (n < moreBytes) × (byte a (oldSize + n) ≡ 0 → ⊥)
@@ -61,10 +61,10 @@ LosesTo Old s = LosesMore s
 LosesTo New s = ⊥
 
 pub data JudgedMove (f : Form) (s : List ℕ) (n : ℕ) : ℕ → Type 0 where
-  by-form : {m : ℕ} → JudgedBy (sizeOf (otherOf f)) s m → (m ≡ 0 → ⊥) → JudgedMove f s n m
-  by-more : SheetBy (sizeOf (otherOf f)) s → LosesTo f s → JudgedMove f s n 43
-  by-room : SheetBy (sizeOf (otherOf f)) s → (LosesTo f s → ⊥) → n < length (movedTo f s) → JudgedMove f s n 44
-  moved : SheetBy (sizeOf (otherOf f)) s → (LosesTo f s → ⊥) → length (movedTo f s) ≤ n → JudgedMove f s n 0
+  by-form : {m : ℕ} → JudgedBy (recordSizeOf (otherOf f)) s m → (m ≡ 0 → ⊥) → JudgedMove f s n m
+  by-more : SheetBy (recordSizeOf (otherOf f)) s → LosesTo f s → JudgedMove f s n 43
+  by-room : SheetBy (recordSizeOf (otherOf f)) s → (LosesTo f s → ⊥) → n < length (movedTo f s) → JudgedMove f s n 44
+  moved : SheetBy (recordSizeOf (otherOf f)) s → (LosesTo f s → ⊥) → length (movedTo f s) ≤ n → JudgedMove f s n 0
 
 unfoldable pub hasMore : List ℕ → Bool
 hasMore a = somewhere (λ n. not (eqb (byte a (oldSize + n)) 0)) moreBytes
@@ -78,7 +78,7 @@ losesTo New s = false
 
 unfoldable pub moveNumber : Form → List ℕ → ℕ → ℕ
 moveNumber f s n =
-    pick (eqb (numberBy (sizeOf (otherOf f)) s) 0) (pick (losesTo f s) 43 (pick (ltb n (length (movedTo f s))) 44 0)) (numberBy (sizeOf (otherOf f)) s)
+    pick (eqb (numberBy (recordSizeOf (otherOf f)) s) 0) (pick (losesTo f s) 43 (pick (ltb n (length (movedTo f s))) 44 0)) (numberBy (recordSizeOf (otherOf f)) s)
 
 unfoldable pub writtenBy : Form → List ℕ → ℕ → ℕ
 writtenBy f s n = pick (eqb (moveNumber f s n) 0) (length (movedTo f s)) 0

@@ -5,8 +5,7 @@ ghost use mathlib.Core.Path.{_≡_};
 ghost use Prim.Native.Nat.{_*_, _≤_};
 ghost use mathlib.Core.List.{_++_};
 ghost use lib.ListN.{length, drop};
-ghost use Rattle.ground.specs.Lists.{pad};
-ghost use Rattle.legal.specs.Sheet.{mostBytes};
+ghost use Rattle.legal.specs.Sheet.{mostSheet};
 ghost use Rattle.mover.specs.Moving.{otherOf, hasMore, losesMore, losesTo, movedTo, moveNumber, Move};
 ghost use Rattle.mover.specs.Laid.{Room, resized};
 use legal::Form;
@@ -76,7 +75,7 @@ fn loses(form: Form, s: &[u8]) -> bool
 
 // The bytes of the moved sheet.
 fn moved_size(form: Form, s: &[u8]) -> usize
-    requires { ⌜ length (now s) ≤ mostBytes ⌝ }
+    requires { ⌜ length (now s) ≤ mostSheet ⌝ }
     ensures { λ r. ⌜ r ≡ length (movedTo form (now (s .entry))) ⌝ }
 {
     legal::count(s, other(form)) * legal::record_size(form)
@@ -100,17 +99,6 @@ fn number_of(form: Form, s: &[u8], room: usize) -> u8
     0
 }
 
-// The whole of a room filled: the bytes, and 00 behind them.
-fn fill(room: &mut [u8], bytes: &[u8])
-    ensures { λ _. ⌜ now (room .exit) ≡ pad 0 (length (now (room .entry))) (now (bytes .entry)) ⌝ }
-{
-    let mut i: usize = 0;
-    while i < room.len() {
-        room[i] = byte_at(bytes, i);
-        i += 1;
-    }
-}
-
 // So many records of one size in the front of the room as records of another.
 fn put_records(s: &[u8], from: usize, room: &mut [u8], to: usize, n: usize)
     requires { ⌜ Room (length (now s)) from (length (now room)) to n ⌝ }
@@ -122,7 +110,7 @@ fn put_records(s: &[u8], from: usize, room: &mut [u8], to: usize, n: usize)
         let put = i * to;
         let taken_end = taken + from;
         let put_end = put + to;
-        fill(&mut room[put..put_end], &s[taken..taken_end]);
+        records::fill(&mut room[put..put_end], &s[taken..taken_end]);
         i += 1;
     }
 }

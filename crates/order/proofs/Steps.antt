@@ -38,8 +38,8 @@ use Rattle.request.specs.Request.{requestOf}
 use Rattle.runs.specs.Runs.{namedBy, addressedBy, Step, stepOf, next, after, Wired}
 use Rattle.runs.specs.Runs.Step.{load, request}
 use Rattle.runs.specs.RequestRows.{Row, given, passed, Names, Along, addressedRows, requestRows, loadRows, stepRows}
-use Rattle.runs.proofs.Taken.{places, LoadTaken, SetTaken, GetTaken, load-taken, set-taken, get-taken, load-not-got}
-use Rattle.runs.proofs.Addressing.{places-apart, places-low, places-inside, names-among, among-names, addressed-found, addressed-one}
+use Rattle.runs.proofs.Taken.{addressedAt, LoadTaken, SetTaken, GetTaken, load-taken, set-taken, get-taken, load-not-got}
+use Rattle.runs.proofs.Addressing.{addressed-apart, addressed-low, addressed-inside, names-among, among-names, addressed-found, addressed-one}
 use Rattle.runs.proofs.Stored.{Pair, front, behind, pair-in, stored-count, stored-other, stored-here, At, stored, kept, stored-at}
 use Rattle.runs.proofs.Shares.{set-long}
 use Rattle.runs.proofs.Refusals.{LoadNumber, load-30, load-20, load-21, RequestNumber, load-numbers, request-numbers}
@@ -194,25 +194,25 @@ stored-same t u same ps qs cs a b only back = record {
 
 -- what a Set and a load store, in the one and in the other
 module _ (t u : Table) (same : SameControls t u) (sound : Sound t) (whole : Sound u) where
-  set-places : (v : Table) (h : Sound v) (s d : List ℕ) → Places v (places v s) (allSet (addressedBy v s) d)
+  set-places : (v : Table) (h : Sound v) (s d : List ℕ) → Places v (addressedAt v s) (allSet (addressedBy v s) d)
   set-places v h s d = record {
-    each-once = places-apart v s;
-    low = places-low v s;
-    inside = places-inside v s h;
-    long = set-long (addressedBy v s) d ∙ length-map (places v s) (at v);
+    each-once = addressed-apart v s;
+    low = addressed-low v s;
+    inside = addressed-inside v s h;
+    long = set-long (addressedBy v s) d ∙ length-map (addressedAt v s) (at v);
   }
 
   -- who is addressed in the one is addressed in the other
-  set-only : (v w : Table) → Sound v → (s : List ℕ) (i j : ℕ) → i < v .count → at w j ≡ at v i → j ∈ places w s → i ∈ places v s
+  set-only : (v w : Table) → Sound v → (s : List ℕ) (i j : ℕ) → i < v .count → at w j ≡ at v i → j ∈ addressedAt w s → i ∈ addressedAt v s
   set-only v w h s i j l e m = names-among v s h i l (subst (Names (namedBy s)) e (among-names w s j m))
 
   set-same : (s d : List ℕ) (v w : Table) → SetTaken t s d v → SetTaken u s d w → SameControls v w
   set-same s d v w a b =
       let new = allSet (addressedBy u s) d in
       let e : allSet (addressedBy t s) d ≡ new = ap (λ (cs : List Control). allSet cs d) (addressed-same t u same sound whole s) in
-      let h = stored-same t u same (places t s) (places u s) new
-      (subst (Places t (places t s)) e (set-places t sound s d)) (set-places u whole s d) (set-only t u sound s) (set-only u t whole s) in
-      subst (λ (x : Table). SameControls x w) (sym (a .table ∙ ap (storedAt t (places t s)) e)) (subst (SameControls (storedAt t (places t s) new)) (sym (b .table)) h)
+      let h = stored-same t u same (addressedAt t s) (addressedAt u s) new
+      (subst (Places t (addressedAt t s)) e (set-places t sound s d)) (set-places u whole s d) (set-only t u sound s) (set-only u t whole s) in
+      subst (λ (x : Table). SameControls x w) (sym (a .table ∙ ap (storedAt t (addressedAt t s)) e)) (subst (SameControls (storedAt t (addressedAt t s) new)) (sym (b .table)) h)
 
   one-place : (v : Table) → Sound v → (p : ℕ) → p < v .count → (c : Control) → Places v (p ∷ []) (c ∷ [])
   one-place v h p l c = record {

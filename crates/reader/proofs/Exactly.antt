@@ -1,11 +1,10 @@
 -- The reader gives exactly the first row of the papers' table that applies, at exactly its place.
 --   shown-rows              ==  the bytes are a configuration, and its records have room: every rule is kept
 --   clusters-on, controls-on  ==  what the reader has at an entity's index is the cluster on its ID; its controls are those of the descriptors
---   reads-room              ==  the test of room decides rule 16
 --   first-by-place          ==  the first offender's place is the lowest of all offenders' places
 --   answers                 ==  the verdict is put together by the table's rows, each by what decides it
 --   accepted-exactly, refused-exactly  ==  THE THEOREMS, for every configuration and every room
-use Prim.Native.Nat.{ℕ, _+_, _*_, _≤_, _<_}
+use Prim.Native.Nat.{ℕ, _+_, _≤_, _<_}
 use mathlib.Core.Path.{_≡_, refl, sym, ap, _∙_}
 use mathlib.Core.List.{List, []}
 use mathlib.Core.Logic.{⊎-elim, _↔_}
@@ -15,7 +14,7 @@ use native.Mathlib.Omega.{arith}
 use Rattle.ground.specs.declared.Refusal.{Refusal}
 use Rattle.ground.specs.Refuse.{none, keptAt}
 use Rattle.ground.specs.Rows.{Rows, end, row, AllKept, FirstBroken, Numbered, Answers, Decides, kept-decides, answers-kept, answers-broken}
-use Rattle.ground.specs.Pick.{Reads, decided, reads-eq, reads-lt, reads-le}
+use Rattle.ground.specs.Pick.{decided, reads-eq, reads-lt}
 use Rattle.ground.specs.Lists.{total}
 use Rattle.ground.specs.First.{Breaks}
 use Rattle.ground.specs.Places.{FirstPlace}
@@ -46,20 +45,17 @@ use Rattle.controls.specs.Controls.{controlsOf, controlsOfRun, breach15}
 use Rattle.controls.specs.Growth.{tableOf}
 use Rattle.controls.specs.Rule15.{rule15-kept, rule15-broken}
 use Rattle.controls.specs.Reader.{controls-same}
-use Rattle.records.specs.Records.{recordSize, roomFor}
+use Rattle.records.specs.Records.{roomFor}
+use Rattle.records.specs.Sheet.{Rule16, reads-room}
 use Rattle.topology.specs.Reading.{clustersAt, tableFor, restJudged, surveyJudged, judgedThen, roomJudged, verdictOf}
 use Rattle.reader.proofs.Surveyed.{entitiesOf, keptSurvey, survey-kept, run-cut, represented}
-use Rattle.reader.specs.Configuration.{runOf, placeOfRun, Streams, FewControls, Rule16}
+use Rattle.reader.specs.Configuration.{runOf, placeOfRun, Streams, FewControls}
 use Rattle.reader.specs.Refusals.{runRows, keptRows, tableOfRows, Refused, Shown}
 
 module _ (s : List ℕ) (k : Kept s) where
   pub clusters-on : (c : Connected audio (runOf k)) (i : ℕ) → i < length (runOf k)
       → getD (clustersAt s (keptSurvey k)) i noCluster ≡ c .cluster (ownId (getD (runOf k) i []))
   clusters-on c = clusters-shown (represented s k) c
-
-  pub reads-room : (room : ℕ) → Reads (roomFor (entitiesOf k) room) (Rule16 (runOf k) room)
-  unfolding roomFor
-  reads-room room = rw (← (represented s k .counted)) (reads-le (held (entitiesOf k) * recordSize) room)
 
   pub controls-on : (c : Connected audio (runOf k)) → controlsOfRun s (entitiesOf k) (clustersAt s (keptSurvey k)) ≡ controlsOf (runOf k) (c .cluster)
   controls-on c = controls-same (represented s k) (clustersAt s (keptSurvey k)) (c .cluster) (clusters-on c)
@@ -93,7 +89,7 @@ module _ (s : List ℕ) (k : Kept s) where
         _,
         refl,
         decides-15,
-        λ b. (keptAt (roomFor (entitiesOf k) room) (headerPlace (k .opened)), none, refl, kept-decides (headerPlace (k .opened)) (reads-room room), λ e. refl),
+        λ b. (keptAt (roomFor (entitiesOf k) room) (headerPlace (k .opened)), none, refl, kept-decides (headerPlace (k .opened)) (reads-room (represented s k) room), λ e. refl),
       ),
     )
 

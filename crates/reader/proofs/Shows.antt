@@ -26,7 +26,7 @@ use Rattle.graph.specs.Members.{_∈_}
 use Rattle.layout.specs.declared.Cluster.{Cluster}
 use Rattle.edition.specs.Edition.{ownId}
 use Rattle.edition.specs.Audio.{audio}
-use Rattle.entities.specs.Run.{runIn, held}
+use Rattle.entities.specs.Run.{runIn}
 use Rattle.cutting.specs.declared.Survey.{Survey}
 use Rattle.cutting.specs.Survey.{surveyOf}
 use Rattle.cutting.specs.Exact.{kept-cutting, kept-run}
@@ -41,14 +41,14 @@ use Rattle.controls.specs.Growth.{tableOf}
 use Rattle.controls.specs.Standing.{Stands}
 use Rattle.controls.specs.Order.{Before}
 use Rattle.controls.specs.Reader.{table-stands, table-ordered}
-use Rattle.records.specs.Records.{recordSize, recordIn, recordsTo, shownIn}
-use Rattle.records.specs.Sheet.{recordsOf, records-same, record-at}
+use Rattle.records.specs.Records.{recordSize, recordIn, shownIn}
+use Rattle.records.specs.Sheet.{recordsOf, Rule16, shown-same, record-at}
 use Rattle.records.specs.Bytes.{RecordBytes, bytes-told}
 use Rattle.topology.specs.declared.Reading.{Reading}
 use Rattle.topology.specs.Reading.{clustersAt, verdictOf, refusedReading, takenReading, readingOf, sheetOf}
 use Rattle.reader.proofs.Surveyed.{entitiesOf, keptSurvey, survey-kept, represented}
-use Rattle.reader.specs.Configuration.{runOf, Configuration, Rule16}
-use Rattle.reader.proofs.Exactly.{accepted-exactly, clusters-on, controls-on, reads-room}
+use Rattle.reader.specs.Configuration.{runOf, Configuration}
+use Rattle.reader.proofs.Exactly.{accepted-exactly, clusters-on, controls-on}
 
 pub number-told : (s : List ℕ) (room : ℕ) → readingOf s room .number ≡ verdictOf s room .number
 unfolding readingOf takenReading refusedReading
@@ -105,23 +105,12 @@ module _ (s : List ℕ) (t : Configuration s) where
   unfolding readingOf
   answer-shows room h = yes _ _ (eq-eqb _ _ (accepted-for room h)) ∙ ap (takenReading s) (survey-kept s (t .kept)) ∙ taken-shows
 
-  shown-is : (d : List ℕ) → Rule16 run (length d)
-      → shownIn s (entitiesOf (t .kept)) (clustersAt s (keptSurvey (t .kept))) d ≡ recordsOf run cluster ++ drop (length run * recordSize) d
-  unfolding shownIn
-  shown-is d h =
-      let r = represented s (t .kept) in
-      let n = held (entitiesOf (t .kept)) in
-      let cs = clustersAt s (keptSurvey (t .kept)) in
-      yes (recordsTo n s (entitiesOf (t .kept)) cs ++ drop (n * recordSize) d) d (shows (reads-room s (t .kept) (length d)) h)
-      ∙ ap (λ (l : List ℕ). l ++ drop (n * recordSize) d) (records-same r cs cluster (clusters-on s (t .kept) (t .connected)))
-      ∙ ap (λ (m : ℕ). recordsOf run cluster ++ drop (m * recordSize) d) (r .counted)
-
   pub sheet-shows : (d : List ℕ) → Rule16 run (length d) → sheetOf s d ≡ recordsOf run cluster ++ drop (length run * recordSize) d
   unfolding sheetOf
   sheet-shows d h =
       yes _ _ (eq-eqb _ _ (accepted-for (length d) h))
       ∙ ap (λ (v : Survey). shownIn s (v .run) (clustersAt s v) d) (survey-kept s (t .kept))
-      ∙ shown-is d h
+      ∙ shown-same (represented s (t .kept)) (clustersAt s (keptSurvey (t .kept))) cluster (clusters-on s (t .kept) (t .connected)) d h
 
   pub record-shows : (d : List ℕ) → Rule16 run (length d) → (i : ℕ) → i < length run
       → take recordSize (drop (i * recordSize) (sheetOf s d)) ≡ recordIn (getD run i []) (cluster (ownId (getD run i [])))

@@ -29,7 +29,8 @@ use Rattle.groups.specs.Reading.{frameOf}
 use Rattle.cutting.specs.declared.Survey.{Survey}
 use Rattle.cutting.specs.Rules1to9.{headerPlace, Kept}
 use Rattle.cutting.specs.Survey.{runOf, surveyed, surveyOf}
-use Rattle.cutting.specs.Context.{cut-told, frame-told, header-place, run-place, run-is}
+use Rattle.cutting.specs.Context.{control-byte, header-place, run-place, run-is}
+use Rattle.cutting.specs.Context as context
 use Rattle.cutting.specs.Exact.{verdict-kept}
 use Rattle.reader.specs.Configuration.{placeOfRun}
 
@@ -43,27 +44,10 @@ abbrev pub keptSurvey : {s : List ℕ} → Kept s → Survey
 keptSurvey k = surveyWith (byte (k .opened .control) 2) (headerPlace (k .opened)) (placeOfRun k) (k .rule6 .run)
 
 module _ (s : List ℕ) (k : Kept s) where
-  control-nine : length (k .opened .control) ≡ 9
-  control-nine =
-      nine s (rw (cut-told s (k .opened)) (k .opened .rule4)) (k .opened .before) (k .opened .control) (k .opened .tail)
-      (cut-told s (k .opened) ∙ k .opened .split) (k .opened .is-control .0)
-
-  flat : s ≡ flatten (k .opened .before) ++ (k .opened .control ++ flatten (k .opened .tail))
-  unfolding flatten
-  flat = sym (k .opened .rule3 .whole) ∙ ap flatten (k .opened .split) ∙ flatten-append (k .opened .before) (k .opened .control ∷ k .opened .tail)
-
-  control-byte : byte s (frameOf s .control + 2) ≡ byte (k .opened .control) 2
-  control-byte =
-      let n = control-nine in
-      ap (λ (i : ℕ). byte s (i + 2)) (frame-told s (k .opened) .control-at ∙ sym (length-flatten (k .opened .before)))
-      ∙ ap (λ (x : List ℕ). byte x (length (flatten (k .opened .before)) + 2)) flat
-      ∙ getD-append-add (flatten (k .opened .before)) (k .opened .control ++ flatten (k .opened .tail)) 2 0
-      ∙ List·getD-append (k .opened .control) (flatten (k .opened .tail)) 0 2 (omega arith)
-
   surveyed-kept : surveyed s (frameOf s) ≡ keptSurvey k
   unfolding surveyed
   surveyed-kept =
-      ap (λ (c : ℕ). surveyWith c (frameOf s .header) (frameOf s .run) (runOf s (frameOf s))) control-byte
+      ap (λ (c : ℕ). surveyWith c (frameOf s .header) (frameOf s .run) (runOf s (frameOf s))) (control-byte s (k .opened) 2 (omega arith))
       ∙ ap (λ (h : ℕ). surveyWith (byte (k .opened .control) 2) h (frameOf s .run) (runOf s (frameOf s))) (header-place s (k .opened))
       ∙ ap (λ (p : ℕ). surveyWith (byte (k .opened .control) 2) (headerPlace (k .opened)) p (runOf s (frameOf s))) (run-place s (k .opened) (k .rule5))
       ∙ ap (surveyWith (byte (k .opened .control) 2) (headerPlace (k .opened)) (placeOfRun k)) (run-is s (k .opened) (k .rule5) (k .rule6))
@@ -72,45 +56,14 @@ module _ (s : List ℕ) (k : Kept s) where
   unfolding surveyOf
   survey-kept = yes _ _ (eq-eqb _ _ (ap (λ (r : Refusal). r .number) (verdict-kept s .1 k))) ∙ surveyed-kept
 
-  -- the cutting, part by part
-  front : List (List ℕ)
-  front = k .opened .before ++ (k .opened .control ∷ k .rule5 .header ∷ [])
-
   abbrev pub behind : List (List ℕ)
   behind = k .rule6 .later ++ k .rule6 .after
 
-  parts : k .opened .descriptors ≡ k .opened .before ++ (k .opened .control ∷ (k .rule5 .header ∷ (k .rule6 .run ++ behind)))
-  parts =
-      k .opened .split
-      ∙ ap (λ (x : List (List ℕ)). k .opened .before ++ k .opened .control ∷ x) (k .rule5 .stands ∙ ap (λ (x : List (List ℕ)). k .rule5 .header ∷ x) (k .rule6 .split))
-
-  front-flat : flatten (k .opened .before ++ (k .opened .control ∷ (k .rule5 .header ∷ (k .rule6 .run ++ behind)))) ≡ flatten front ++ (flatten (k .rule6 .run) ++ flatten behind)
-  unfolding front
-  front-flat =
-      sym (ap flatten (append-two (k .opened .before) (k .opened .control) (k .rule5 .header) (k .rule6 .run ++ behind)))
-      ∙ flatten-append (k .opened .before ++ (k .opened .control ∷ k .rule5 .header ∷ [])) (k .rule6 .run ++ behind)
-      ∙ ap (λ (x : List ℕ). flatten (k .opened .before ++ (k .opened .control ∷ k .rule5 .header ∷ [])) ++ x) (flatten-append (k .rule6 .run) behind)
-    where
-      append-two : (x : List (List ℕ)) (a b : List ℕ) (y : List (List ℕ)) → (x ++ (a ∷ b ∷ [])) ++ y ≡ x ++ (a ∷ (b ∷ y))
-      append-two [] a b y = refl
-      append-two (c ∷ x) a b y = ap (λ (l : List (List ℕ)). c ∷ l) (append-two x a b y)
-
-  front-length : length (flatten front) ≡ placeOfRun k
-  unfolding front total
-  front-length =
-      let n = control-nine in
-      let t : total (k .opened .before ++ (k .opened .control ∷ k .rule5 .header ∷ [])) ≡ total (k .opened .before) + (length (k .opened .control) + (length (k .rule5 .header) + 0)) = total-append (k .opened .before) (k .opened .control ∷ k .rule5 .header ∷ []) in
-      length-flatten (k .opened .before ++ (k .opened .control ∷ k .rule5 .header ∷ [])) ∙ omega arith
-
   pub run-stands : drop (placeOfRun k) s ≡ flatten (k .rule6 .run) ++ flatten behind
-  run-stands =
-      ap (λ (i : ℕ). drop i s) (sym front-length)
-      ∙ ap (drop (length (flatten front))) (sym (k .opened .rule3 .whole) ∙ ap flatten parts ∙ front-flat)
-      ∙ drop-append-seam (flatten front) (flatten (k .rule6 .run) ++ flatten behind)
+  run-stands = context.run-stands s (k .opened) (k .rule5) (k .rule6)
 
   pub run-cut : (d : List ℕ) → List·Memᴰ d (k .rule6 .run) → Descriptor d
-  run-cut d m =
-      k .opened .rule3 .each d (rw parts (Memᴰ·append-right (k .opened .before) (List·Memᴰ·tail (List·Memᴰ·tail (Memᴰ·append-left behind m)))))
+  run-cut = context.run-cut s (k .opened) (k .rule5) (k .rule6)
 
   pub represented : Represents audio s (placeOfRun k) (k .rule6 .run) (entitiesOf k)
   represented = run-represents audio s (placeOfRun k) (k .rule6 .run) (flatten behind) run-stands run-cut (k .rule9) (k .rule8 .1)

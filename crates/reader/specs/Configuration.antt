@@ -7,8 +7,7 @@
 --   Streams k c, FewControls k c  ==  the rules 14 and 15, with the clusters c on IDs
 --   Configuration s     ==  the bytes s are a configuration: a cutting that keeps the rules 1 to 9, and entities that are connected,
 --                           with the rules 14 and 15
---   Rule16 ds room      ==  the sheet of that many bytes has a record's, 32, for each entity
-use Prim.Native.Nat.{ℕ, _+_, _*_, _≤_}
+use Prim.Native.Nat.{ℕ, _+_}
 use mathlib.Core.List.{List}
 use lib.ListN.{length}
 use Rattle.layout.specs.declared.Cluster.{Cluster}
@@ -17,7 +16,6 @@ use Rattle.cutting.specs.Rules1to9.{headerPlace, Kept}
 use Rattle.clusters.specs.Rule13.{Connected}
 use Rattle.streaming.specs.Rule14.{Rule14}
 use Rattle.controls.specs.Rule15.{Rule15}
-use Rattle.records.specs.Records.{recordSize}
 
 abbrev pub runOf : {s : List ℕ} → Kept s → List (List ℕ)
 runOf k = k .rule6 .run
@@ -36,6 +34,3 @@ pub record Configuration (s : List ℕ) : Type 0 where
   pub connected : Connected audio (runOf kept)
   pub rule14 : Streams kept (connected .cluster)
   pub rule15 : FewControls kept (connected .cluster)
-
-abbrev pub Rule16 : List (List ℕ) → ℕ → Type 0
-Rule16 ds room = length ds * recordSize ≤ room

@@ -1,4 +1,4 @@
--- The papers' table of refusals of a configuration (document 01), row by row: number, rule, place.
+-- The papers' table of refusals of a configuration (document 01; row 17 is document 02's, No. 6), row by row: number, rule, place.
 --   runRows k cluster room  ==  the rows 14 to 16, with the clusters on IDs and a sheet of room bytes
 --   keptRows k room         ==  the rows 10 to 16 of a configuration that keeps the rules 1 to 9
 --   tableOfRows s room      ==  THE TABLE: all seventeen rows, 17 between 9 and 10
@@ -11,7 +11,8 @@ use Rattle.layout.specs.declared.Cluster.{Cluster}
 use Rattle.cutting.specs.Rules1to9.{headerPlace, Kept, BrokenAt, cuttingRows}
 use Rattle.connections.specs.JudgementLaws.{connectedRows}
 use Rattle.streaming.specs.Rule14.{Breaks14}
-use Rattle.reader.specs.Configuration.{runOf, placeOfRun, Streams, FewControls, Configuration, Rule16}
+use Rattle.records.specs.Sheet.{Rule16}
+use Rattle.reader.specs.Configuration.{runOf, placeOfRun, Streams, FewControls, Configuration}
 
 module _ {s : List ℕ} (k : Kept s) where
   abbrev pub runRows : (ℕ → Cluster) → ℕ → Rows

@@ -26,16 +26,24 @@ pub fn has_room(run: Run, room: usize) -> bool
     entities::count(run) * RECORD <= room
 }
 
+// The whole of a room filled: the bytes, as many as have a place there, and 00 behind them.
+pub fn fill(room: &mut [u8], bytes: &[u8])
+    ensures { λ _. ⌜ now (room .exit) ≡ pad 0 (length (now (room .entry))) (now (bytes .entry)) ⌝ }
+{
+    let mut i: usize = 0;
+    while i < room.len() {
+        room[i] = byte_at(bytes, i);
+        i += 1;
+    }
+}
+
 // So many places of the sheet filled: the bytes, and 00 behind them.
 fn put_bytes(sheet: &mut [u8], at: usize, bytes: &[u8], places: usize)
     requires { ⌜ at + places ≤ length (now sheet) ⌝ }
     ensures { λ _. ⌜ now (sheet .exit) ≡ paste (now (sheet .entry)) at (pad 0 places (now (bytes .entry))) places ⌝ }
 {
-    let mut i: usize = 0;
-    while i < places {
-        sheet[at + i] = byte_at(bytes, i);
-        i += 1;
-    }
+    let end = at + places;
+    fill(&mut sheet[at..end], bytes);
 }
 
 // The front of a record: ID; kind; c; bitmap (2); name index; pins; 00.

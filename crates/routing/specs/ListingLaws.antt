@@ -14,10 +14,9 @@ use lib.Dec.{eqb}
 use lib.ListN.{length, getD, take, drop, take-append-drop}
 use borrow.Author.Tests.{eq-eqb, ne-eqb, eqb-true, not-true, not-false}
 use Rattle.ground.specs.Pick.{yes, no, Reads, reads-eq, decided, true≠false}
-use Rattle.ground.specs.Lists.{member-at, member-index}
+use Rattle.ground.specs.Lists.{member-at, member-index, take-in}
 use Rattle.ground.specs.Places.{Finding, nothing, first, finding}
-use Rattle.graph.specs.Members.{_∈_, along, in-take}
-use Rattle.graph.specs.Members as members
+use Rattle.graph.specs.Members.{_∈_, along}
 use Rattle.graph.specs.Tables.{getD-tabulate}
 use Rattle.graph.specs.Ranked.{Distinct}
 use Rattle.layout.specs.Layout.{LaidOut}
@@ -105,5 +104,5 @@ pub named-bytes : (s : List ℕ) → ((k : ℕ) → getD s k 0 < 256) → (run :
 unfolding namedIn
 named-bytes s h run x y m =
     let start = bearer run x .first in
-    let k = members.member-index (along (take-append-drop start s) (Memᴰ·append-right (take start s) (in-take (bearer run x .pins) m))) in
+    let k = member-index 0 (along (take-append-drop start s) (Memᴰ·append-right (take start s) (take-in (bearer run x .pins) m))) in
     subst (λ (z : ℕ). z < 256) (k .2) (h (k .0))

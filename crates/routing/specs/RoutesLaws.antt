@@ -13,8 +13,8 @@ use native.Mathlib.Omega.{arith}
 use native.Mathlib.Nat.{zero-add, le-of-suc-le-suc}
 use lib.ListN.{length, getD}
 use Rattle.ground.specs.Pick.{true≠false}
-use Rattle.ground.specs.Lists.{Some}
-use Rattle.graph.specs.Members.{_∈_, index-member}
+use Rattle.ground.specs.Lists.{Some, member-at}
+use Rattle.graph.specs.Members.{_∈_}
 use Rattle.layout.specs.declared.Entity.{Entity}
 use Rattle.layout.specs.Layout.{entityOf, LaidOut}
 use Rattle.layout.specs.LayoutLaws.{Told, told, unknown, input, output, mixer, selector, feature}
@@ -93,7 +93,7 @@ module _ (ds : List (List ℕ)) (laid : (d : List ℕ) → d ∈ ds → LaidOut 
             by : ByPin (λ z. waysUp named n z) (ownId d) 0 (y ∷ ys) w → Route ds d w
             by c =
                 let inside : c .pin < length (sources audio d) = rw q (c .inside) in
-                let e = known d m (getD (sources audio d) (c .pin) 0) (index-member (sources audio d) (c .pin) inside) in
+                let e = known d m (getD (sources audio d) (c .pin) 0) (member-at 0 (sources audio d) (c .pin) inside) in
                 let at : getD (y ∷ ys) (c .pin) 0 ≡ ownId (e .one) = ap (λ (l : List ℕ). getD l (c .pin) 0) (sym q) ∙ sym (e .has) in
                 let rest = h (e .one) (e .among) (c .rest) (subst (λ (z : ℕ). c .rest ∈ waysUp named n z) at (c .among)) in
                 subst (Route ds d) (ap (λ (k : ℕ). via k (ownId d) (c .rest)) (sym (zero-add (c .pin))) ∙ c .is) (routes.up (c .pin) inside (e .among) (e .has) rest)
@@ -128,4 +128,4 @@ route-upstream (routes.up k b c q r) zero e = absurd (one r (omega arith))
     one : {ds : List (List ℕ)} {d : List ℕ} {w : Way} → Route ds d w → length (w .ids) ≡ 0 → ⊥
     one (routes.ends i) z = omega arith
     one (routes.up k b c e r) z = omega arith
-route-upstream {d = d} (routes.up k b c q r) (suc n) e = rules.up c (Memᴰ·cast q (index-member (sources audio d) k b)) (route-upstream r n (omega arith))
+route-upstream {d = d} (routes.up k b c q r) (suc n) e = rules.up c (Memᴰ·cast q (member-at 0 (sources audio d) k b)) (route-upstream r n (omega arith))

@@ -33,7 +33,7 @@ use Rattle.runs.specs.Runs.{Step, next, after, sent, Wired}
 use Rattle.runs.specs.Runs.Step.{load, request}
 use Rattle.runs.specs.Promises.{Alone}
 use Rattle.runs.proofs.Taken.{LoadTaken, SetTaken, load-taken, set-taken}
-use Rattle.runs.proofs.Addressing.{places-low, among-names}
+use Rattle.runs.proofs.Addressing.{addressed-low, among-names}
 use Rattle.runs.proofs.Sets.{set-other, set-keeps, set-pins, set-count, set-room, set-sound-after}
 use Rattle.runs.proofs.Kept.{load-same, index-inside}
 use Rattle.runs.proofs.Moved.{one-step}
@@ -73,7 +73,7 @@ set-stored t s d room v a =
     record {
       count = set-count t s d v h a;
       room = set-room t s d v h a;
-      others = λ q n. set-other t s d v h a q (λ m. n (places-low t s q m) (among-names t s q m));
+      others = λ q n. set-other t s d v h a q (λ m. n (addressed-low t s q m) (among-names t s q m));
       same = set-keeps t s d v h a;
       pins = set-pins t s d v h a;
     }

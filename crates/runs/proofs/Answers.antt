@@ -53,8 +53,8 @@ use Rattle.request.specs.Request.{requestOf}
 use Rattle.runs.specs.Runs.{addressedBy, Step, next, after, lastOf, Wired}
 use Rattle.runs.specs.Promises.{Settles, CurMeans, GetGiven, Turned, SetStored, LoadStored, Moved, Means, keyIn, Answer, Valued, none, more, inBytes, Answers}
 use Rattle.runs.proofs.Shares.{any-front}
-use Rattle.runs.proofs.Taken.{places, GetTaken, SetTaken, LoadTaken, get-taken, set-taken, load-taken, load-not-got}
-use Rattle.runs.proofs.Addressing.{places-low, names-among, among-names, addressed-found}
+use Rattle.runs.proofs.Taken.{addressedAt, GetTaken, SetTaken, LoadTaken, get-taken, set-taken, load-taken, load-not-got}
+use Rattle.runs.proofs.Addressing.{addressed-low, names-among, among-names, addressed-found}
 use Rattle.runs.proofs.Sets.{shared, set-here, set-other, set-count}
 use Rattle.runs.proofs.Kept.{load-same, index-inside, settles-closest}
 use Rattle.runs.proofs.Moved.{stored-means, whole-run, sense-at}
@@ -117,7 +117,7 @@ module _ (st : State) where
     code = a .code;
     controls = addressedBy t s;
     addressed = addressed-found t s (sound-reads t .says (a .sound));
-    some = map-some t (places t s) (a .some);
+    some = map-some t (addressedAt t s) (a .some);
     given = a .given;
   }
 
@@ -147,13 +147,13 @@ module _ (st : State) where
     set-stored s d b v a = record {
       controls = addressedBy t s;
       addressed = addressed-found t s sound;
-      some = map-some t (places t s) (a .some);
+      some = map-some t (addressedAt t s) (a .some);
       each = λ i l n. turned i l (names-among t s sound i l n);
-      others = λ i n. set-other t s d v sound a i (λ m. n (places-low t s i m) (among-names t s i m));
+      others = λ i n. set-other t s d v sound a i (λ m. n (addressed-low t s i m) (among-names t s i m));
       count = set-count t s d v sound a;
     }
       where
-        turned : (i : ℕ) → i < t .count → i ∈ places t s → Turned (addressedBy t s) d (at t i) (at v i)
+        turned : (i : ℕ) → i < t .count → i ∈ addressedAt t s → Turned (addressedBy t s) d (at t i) (at v i)
         turned i l m =
             let h : StandsAt t (keyIn (at t i)) i = record { inside = l; bears = record { unit = refl; channel = refl; selector = refl } } in
             let g = shared t s d v sound a (keyIn (at t i)) i h m in
@@ -233,9 +233,9 @@ part-means Max k c range x e m rs ns b f g = rw (f, ← e)
 part-means Res k c range x e m rs ns b f g = rw (f, ← e)
 
 -- whoever is addressed is addressed after every run
-run-places : (st : State) (run : List Step) (s : List ℕ) → places (after st run .table) s ≡ places (st .table) s
+run-addressed : (st : State) (run : List Step) (s : List ℕ) → addressedAt (after st run .table) s ≡ addressedAt (st .table) s
 unfolding seatsFrom
-run-places st run s = go 0 mostAddressed
+run-addressed st run s = go 0 mostAddressed
   where
     v : Table
     v = after st run .table
@@ -265,11 +265,11 @@ module _ (st : State) (run : List Step) (h : Sound (st .table)) (w : Wired run) 
   abbrev values : List ℕ → List ℕ
   values ps = map (λ p. partOf part (at v0 p)) ps
 
-  module _ (ready : (p : ℕ) → p ∈ places t0 s → unready (heldBy (at v0 p)) (at v0 p) ≡ false) where
-    answer-at : (p : ℕ) → p ∈ places t0 s → Answer st run part (at t0 p) (partOf part (at v0 p))
+  module _ (ready : (p : ℕ) → p ∈ addressedAt t0 s → unready (heldBy (at v0 p)) (at v0 p) ≡ false) where
+    answer-at : (p : ℕ) → p ∈ addressedAt t0 s → Answer st run part (at t0 p) (partOf part (at v0 p))
     answer-at p i =
         let k : Key = keyIn (at t0 p) in
-        let f : StandsAt t0 k p = record { inside = places-low t0 s p i; bears = record { unit = refl; channel = refl; selector = refl } } in
+        let f : StandsAt t0 k p = record { inside = addressed-low t0 s p i; bears = record { unit = refl; channel = refl; selector = refl } } in
         let m = whole-run st k p run h f w in
         let same : senseOf (at v0 p .selector) ≡ senseOf (k .selector) = ap senseOf (m .same .selector) in
         record {
@@ -280,7 +280,7 @@ module _ (st : State) (run : List Step) (h : Sound (st .table)) (w : Wired run) 
           first = λ z. ap (partOf part) (m .unmoved z);
         }
 
-    all-valued : (ps : List ℕ) → ((p : ℕ) → p ∈ ps → p ∈ places t0 s) → Valued st run part (map (at t0) ps) (values ps)
+    all-valued : (ps : List ℕ) → ((p : ℕ) → p ∈ ps → p ∈ addressedAt t0 s) → Valued st run part (map (at t0) ps) (values ps)
     all-valued [] among = none
     all-valued (p ∷ ps) among =
         more (answer-at p (among p (List·Memᴰ·head refl))) (all-valued ps (λ q m. among q (List·Memᴰ·tail m)))
@@ -299,13 +299,13 @@ got-answers st run h w s bytes a = record {
   code = a .code;
   controls = addressedBy (st .table) s;
   addressed = addressed-found (st .table) s h;
-  some = map-some (st .table) (places (st .table) s) (λ e. a .some (run-places st run s ∙ e));
-  values = values st run h w s (a .part) (places (st .table) s);
+  some = map-some (st .table) (addressedAt (st .table) s) (λ e. a .some (run-addressed st run s ∙ e));
+  values = values st run h w s (a .part) (addressedAt (st .table) s);
   given =
       a .given
-      ∙ ap (λ (ps : List ℕ). take (word s 6) (blockOf (a .part) (map (at v) ps))) (run-places st run s)
-      ∙ ap (take (word s 6)) (all-sized st run h w s (a .part) (places (st .table) s) (λ p m. among-names v s p (rw (run-places st run s) m) .selector));
-  means = all-valued st run h w s (a .part) (λ p m. all-ready v (places v s) (a .ready) p (rw (run-places st run s) m)) (places (st .table) s) (λ p m. m);
+      ∙ ap (λ (ps : List ℕ). take (word s 6) (blockOf (a .part) (map (at v) ps))) (run-addressed st run s)
+      ∙ ap (take (word s 6)) (all-sized st run h w s (a .part) (addressedAt (st .table) s) (λ p m. among-names v s p (rw (run-addressed st run s) m) .selector));
+  means = all-valued st run h w s (a .part) (λ p m. all-ready v (addressedAt v s) (a .ready) p (rw (run-addressed st run s) m)) (addressedAt (st .table) s) (λ p m. m);
 }
   where
     v : Table

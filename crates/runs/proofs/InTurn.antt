@@ -50,8 +50,8 @@ use Rattle.runs.specs.Promises.{keyIn}
 use Rattle.runs.specs.InTurn.{singleOf, singlesOf, noneRefused, repliesOf, OfWhole, InTurn}
 use Rattle.request.specs.Stored.{Apart, apart}
 use Rattle.runs.proofs.Shares.{bytes-take, bytes-drop}
-use Rattle.runs.proofs.Taken.{places}
-use Rattle.runs.proofs.Addressing.{places-apart, places-low, names-among, among-names, addressed-found, addressed-one}
+use Rattle.runs.proofs.Taken.{addressedAt}
+use Rattle.runs.proofs.Addressing.{addressed-apart, addressed-low, names-among, among-names, addressed-found, addressed-one}
 use Rattle.runs.proofs.Alone.{step-sound}
 
 -- what a setup that asks something is read as
@@ -86,7 +86,7 @@ module _ (s : List ℕ) (long : length s ≡ 8) where
 -- a request that 30 to 32 let pass is done at the controls that it addresses
 module _ (st : State) (sound : Sound (st .table)) (s d : List ℕ) (room : ℕ) (here : byte s 4 ≡ st .control) where
   abbrev doneBy : (List Control → Doing) → Outcome
-  doneBy act = doneAt (st .table) (byte s 5) (places (st .table) s) act
+  doneBy act = doneAt (st .table) (byte s 5) (addressedAt (st .table) s) act
 
   unbarred : eqb (elsewhereBy (targetOf s) (st .control)) 0 ≡ true
   unfolding elsewhereBy
@@ -129,18 +129,18 @@ module _ (t : Table) (sound : Sound t) (s : List ℕ) (p : ℕ) (inside : p < t 
   abbrev alone : List ℕ
   alone = singleOf s (at t p)
 
-  single-place : places t alone ≡ p ∷ []
+  single-place : addressedAt t alone ≡ p ∷ []
   single-place =
-      only-one p (places t alone) (places-apart t alone) (names-among t alone sound p inside (record { unit = unit; selector = selector; channel = inl refl })) same
+      only-one p (addressedAt t alone) (addressed-apart t alone) (names-among t alone sound p inside (record { unit = unit; selector = selector; channel = inl refl })) same
     where
-      same : (q : ℕ) → q ∈ places t alone → q ≡ p
+      same : (q : ℕ) → q ∈ addressedAt t alone → q ≡ p
       same q m =
           let h = among-names t alone q m in
           let low = sound-channel (senseOf (at t p .selector)) (at t p) (sound .each p inside) in
           ⊎-elim
           (λ (e : at t q .channel ≡ at t p .channel).
           stands-one t sound (keyIn (at t p)) q p
-          (record { inside = places-low t alone q m; bears = record { unit = h .unit ∙ sym unit; channel = e; selector = h .selector ∙ sym selector } })
+          (record { inside = addressed-low t alone q m; bears = record { unit = h .unit ∙ sym unit; channel = e; selector = h .selector ∙ sym selector } })
           (record { inside = inside; bears = record { unit = refl; channel = refl; selector = refl } }))
           (λ (e : (at t p .channel ≡ 255) × (byte s 3 ≡ 0 → ⊥)). let z = e .0 in absurd (omega arith))
           (h .channel)
@@ -244,7 +244,7 @@ module _ (s : List ℕ) (v : State) (p : ℕ) (ps : List ℕ) (h : Standing s v 
   left = placed (v .table) p (setAs c d)
 
   single-at : (act : ℕ → List Control → Doing)
-      → stepOf v ask ≡ doneAt (v .table) (byte s 5) (places (v .table) (singleOf s c)) (act (word (singleOf s c) 6))
+      → stepOf v ask ≡ doneAt (v .table) (byte s 5) (addressedAt (v .table) (singleOf s c)) (act (word (singleOf s c) 6))
       → stepOf v ask ≡ outcomeAt (v .table) (p ∷ []) (act (sizeIn c) (c ∷ []))
   unfolding doneAt
   single-at act e =
@@ -397,12 +397,12 @@ module _ (st : State) (sound : Sound (st .table)) (s d : List ℕ) (room : ℕ) 
   abbrev all : List Control
   all = addressedBy t s
 
-  standing : Standing s st (places t s)
+  standing : Standing s st (addressedAt t s)
   standing = record {
     sound = sound;
     here = here;
-    apart = places-apart t s;
-    inside = places-low t s;
+    apart = addressed-apart t s;
+    inside = addressed-low t s;
     unit = λ p m. among-names t s p m .unit;
     selector = λ p m. among-names t s p m .selector;
   }
@@ -410,18 +410,18 @@ module _ (st : State) (sound : Sound (st .table)) (s d : List ℕ) (room : ℕ) 
   set-turn : AsksSet s → Bytes d → InTurn st s d room all
   unfolding setOf
   set-turn a b =
-      turn st s d room all misfit _ _ _ (done (storedAt t (places t s) (allSet all d)))
+      turn st s d room all misfit _ _ _ (done (storedAt t (addressedAt t s) (allSet all d)))
       (reads-same (misfits-reads all (word s 6) d) (λ x. inl (a, x)) (⊎-elim (λ x. x .1) (λ x. absurd (set-no-get s a (x .0)))))
-      (λ f. set-runs s a (places t s) st standing d b (sized f))
+      (λ f. set-runs s a (addressedAt t s) st standing d b (sized f))
       refl refl (sym (take-nil (word s 6)))
-      (λ f g. e ∙ set-passed t (places t s) (someUnready all) misfit (allTake all d) (allSet all d) f g)
-      (λ x. let n = set-barred t (places t s) (someUnready all) misfit (allTake all d) (allSet all d) x in (n .0, e ∙ n .1))
+      (λ f g. e ∙ set-passed t (addressedAt t s) (someUnready all) misfit (allTake all d) (allSet all d) f g)
+      (λ x. let n = set-barred t (addressedAt t s) (someUnready all) misfit (allTake all d) (allSet all d) x in (n .0, e ∙ n .1))
     where
       misfit : Bool
       misfit = misfits all (word s 6) d
 
-      e : requestOf st s d room ≡ outcomeAt t (places t s) (setOf all (word s 6) d)
-      e = set-done st sound s d room here (set-read s long a) ∙ done-some t (byte s 5) (places t s) _ some
+      e : requestOf st s d room ≡ outcomeAt t (addressedAt t s) (setOf all (word s 6) d)
+      e = set-done st sound s d room here (set-read s long a) ∙ done-some t (byte s 5) (addressedAt t s) _ some
 
       sized : misfit ≡ false → length d ≡ sizesOf all
       sized f =
@@ -434,10 +434,10 @@ module _ (st : State) (sound : Sound (st .table)) (s d : List ℕ) (room : ℕ) 
       turn st s d room all (ltb room (length sent)) _ _ _ (got sent)
       (rw (cut-long (word s 6) part all)
       (reads-same (reads-lt room (bytesSent s all)) (λ l. inr (a, l)) (⊎-elim (λ x. absurd (set-no-get s (x .0) a)) (λ x. x .1))))
-      (λ f. get-runs s part (a .0) code (places t s) st standing d)
+      (λ f. get-runs s part (a .0) code (addressedAt t s) st standing d)
       refl refl refl
-      (λ f g. e ∙ get-passed t (places t s) (someLacking part all) (someUnready all) (ltb room (length sent)) sent f g)
-      (λ x. let n = get-barred t (places t s) (someLacking part all) (someUnready all) (ltb room (length sent)) sent x in (n .0, e ∙ n .1))
+      (λ f g. e ∙ get-passed t (addressedAt t s) (someLacking part all) (someUnready all) (ltb room (length sent)) sent f g)
+      (λ x. let n = get-barred t (addressedAt t s) (someLacking part all) (someUnready all) (ltb room (length sent)) sent x in (n .0, e ∙ n .1))
     where
       part : Part
       part = part-asked s long a .0
@@ -448,8 +448,8 @@ module _ (st : State) (sound : Sound (st .table)) (s d : List ℕ) (room : ℕ) 
       sent : List ℕ
       sent = cutTo (word s 6) part all
 
-      e : requestOf st s d room ≡ outcomeAt t (places t s) (getOf part all (word s 6) room)
-      e = get-done st sound s d room here part (get-read s long part (a .0) code) ∙ done-some t (byte s 5) (places t s) _ some
+      e : requestOf st s d room ≡ outcomeAt t (addressedAt t s) (getOf part all (word s 6) room)
+      e = get-done st sound s d room here part (get-read s long part (a .0) code) ∙ done-some t (byte s 5) (addressedAt t s) _ some
 
 pub in-turn : (st : State) → Sound (st .table) → (s d : List ℕ) (room : ℕ) → WellAsked s → byte s 4 ≡ st .control → (cs : List Control)
     → Addressed (st .table) s cs → (cs ≡ [] → ⊥) → Bytes d → InTurn st s d room cs

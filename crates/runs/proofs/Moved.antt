@@ -45,8 +45,8 @@ use Rattle.runs.specs.Runs.Step.{load, request}
 use Rattle.runs.specs.Promises.{CurMeans, Moved}
 use Rattle.runs.proofs.Stored.{member}
 use Rattle.runs.proofs.Shares.{none-sent}
-use Rattle.runs.proofs.Taken.{places, LoadTaken, SetTaken, load-taken, set-taken, get-taken, load-not-got}
-use Rattle.runs.proofs.Addressing.{places-low}
+use Rattle.runs.proofs.Taken.{addressedAt, LoadTaken, SetTaken, load-taken, set-taken, get-taken, load-not-got}
+use Rattle.runs.proofs.Addressing.{addressed-low}
 use Rattle.runs.proofs.Sets.{shared, set-here, set-other, set-keeps, set-pins, set-count, set-sound-after}
 use Rattle.runs.proofs.Kept.{load-same, load-sound, index-below, index-inside, settles-closest, sent-fits}
 
@@ -230,7 +230,7 @@ module _ (t : Table) (k : Key) (p : ℕ) (s : Sound t) (f : StandsAt t k p) (su 
       let x = f .bears in
       record { inside = rw (set-count t su d v s a) (f .inside); bears = record { unit = h .unit ∙ x .unit; channel = h .channel ∙ x .channel; selector = h .selector ∙ x .selector } }
 
-  told-one : (m : p ∈ places t su) → Moved t k p [] (valueIn (shared t su d v s a k p f m .piece) ∷ []) v
+  told-one : (m : p ∈ addressedAt t su) → Moved t k p [] (valueIn (shared t su d v s a k p f m .piece) ∷ []) v
   unfolding lastOf
   told-one m =
       let g = shared t su d v s a k p f m in
@@ -247,7 +247,7 @@ module _ (t : Table) (k : Key) (p : ℕ) (s : Sound t) (f : StandsAt t k p) (su 
         cur = λ z. rw (i, held) (stored-means (senseOf (at t p .selector)) (at t p) (g .piece) (s .each p (f .inside)) (g .ready) (g .bytes b) (g .sized));
       }
 
-  told-none : (p ∈ places t su → ⊥) → Moved t k p [] [] v
+  told-none : (p ∈ addressedAt t su → ⊥) → Moved t k p [] [] v
   unfolding lastOf
   told-none n =
       let i = set-other t su d v s a p n in
@@ -265,9 +265,9 @@ module _ (t : Table) (k : Key) (p : ℕ) (s : Sound t) (f : StandsAt t k p) (su 
   set-moves : Moved t k p [] (shareOf k (addressedBy t su) d) v
   set-moves =
       ⊎-elim
-      (λ (m : p ∈ places t su). rw (shared t su d v s a k p f m .told) (told-one m))
-      (λ (n : p ∈ places t su → ⊥). rw (none-sent t k p f s (places t su) d (places-low t su) n) (told-none n))
-      (member p (places t su))
+      (λ (m : p ∈ addressedAt t su). rw (shared t su d v s a k p f m .told) (told-one m))
+      (λ (n : p ∈ addressedAt t su → ⊥). rw (none-sent t k p f s (addressedAt t su) d (addressed-low t su) n) (told-none n))
+      (member p (addressedAt t su))
 
 module _ (st : State) (k : Key) (p : ℕ) (s : Sound (st .table)) (f : whereIs (st .table) k ≡ seat p) where
   abbrev t : Table

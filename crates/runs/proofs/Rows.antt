@@ -23,7 +23,7 @@ use Rattle.table.specs.declared.Control.{Control}
 use Rattle.table.specs.declared.Table.{Table}
 use Rattle.table.specs.declared.Sense.{Sense}
 use Rattle.table.specs.declared.Sense.the-variants.{Unknown, YesNo, Ranged, Pin}
-use Rattle.table.specs.First.{Seat, places as counted, entryAt}
+use Rattle.table.specs.First.{Seat, places, entryAt}
 use Rattle.table.specs.First.Seat.{absent, seat}
 use Rattle.table.specs.Controls.{at, senseOf}
 use Rattle.table.specs.Keys.{Key, whereIs, Bears, StandsAt, InTable}
@@ -53,8 +53,8 @@ use Rattle.request.specs.Request.{elsewhereBy, barredBy, doingOf, doneAt, answe
 use Rattle.runs.specs.RequestRows.{Row, given as is-given, passed, NoRow, Owned, Addressed, Along, HasRange, Unloaded, Outside, Beyond, first, later, RangedThere, InRange, bytesSent, lastRows, controlRows, addressedRows, askedRows, requestRows, loadRows, stepRows}
 use Rattle.runs.specs.Runs.{namedBy, Step, stepOf}
 use Rattle.runs.specs.Runs.Step.{load, request}
-use Rattle.runs.proofs.Taken.{places}
-use Rattle.runs.proofs.Addressing.{places-low, among-names, addressed-found, addressed-one}
+use Rattle.runs.proofs.Taken.{addressedAt}
+use Rattle.runs.proofs.Addressing.{addressed-low, among-names, addressed-found, addressed-one}
 
 -- the number of what is done at the controls
 abbrev numberIn : Doing → ℕ
@@ -191,7 +191,7 @@ module _ (t : Table) (sound : Sound t) where
   unfolding unitIn
   owned-reads u =
       let few = sound .few in
-      reads-same (reads-somewhere (λ q. eqb (at t q .unit) u) (λ q. at t q .unit ≡ u) (counted t) (λ q l. reads-eq (at t q .unit) u))
+      reads-same (reads-somewhere (λ q. eqb (at t q .unit) u) (λ q. at t q .unit ≡ u) (places t) (λ q l. reads-eq (at t q .unit) u))
       (λ k. let i = k .1 in record { index = k .0; inside = omega arith; unit = k .2 })
       (λ o. let i = o .inside in (o .index, omega arith, o .unit))
 
@@ -211,12 +211,12 @@ module _ (st : State) (sound : Sound (st .table)) (s d : List ℕ) (room : ℕ) 
   restRows = Row 33 (Owned t (byte s 5) → ⊥) (Along t s (addressedRows s d room))
 
   -- where a control is addressed its unit has one
-  owned-by : (ps : List ℕ) → places t s ≡ ps → (p : ℕ) → p ∈ ps → Owned t (byte s 5)
+  owned-by : (ps : List ℕ) → addressedAt t s ≡ ps → (p : ℕ) → p ∈ ps → Owned t (byte s 5)
   owned-by ps e p m =
-      let i : p ∈ places t s = rw e m in
-      record { index = p; inside = places-low t s p i; unit = among-names t s p i .unit }
+      let i : p ∈ addressedAt t s = rw e m in
+      record { index = p; inside = addressed-low t s p i; unit = among-names t s p i .unit }
 
-  found-rows : (ps : List ℕ) → places t s ≡ ps → Addressed t s (map (at t) ps) → (b : Bool) → Reads b (Owned t (byte s 5)) → unitIn t (byte s 5) ≡ b
+  found-rows : (ps : List ℕ) → addressedAt t s ≡ ps → Addressed t s (map (at t) ps) → (b : Bool) → Reads b (Owned t (byte s 5)) → unitIn t (byte s 5) ≡ b
       → restRows (numberOf (doneAt t (byte s 5) ps act))
   unfolding doneAt
   found-rows (p ∷ ps) e l b r h =
@@ -226,7 +226,7 @@ module _ (st : State) (sound : Sound (st .table)) (s d : List ℕ) (room : ℕ) 
   found-rows [] e l false r h = rw h (is-given (r .denies refl) refl)
 
   here-rows : restRows (numberOf (doneAt t (byte s 5) (addressedIn t (byte s 5) (byte s 2) (byte s 3)) act))
-  here-rows = found-rows (places t s) refl (addressed-found t s sound) (unitIn t (byte s 5)) (owned-reads t sound (byte s 5)) refl
+  here-rows = found-rows (addressedAt t s) refl (addressed-found t s sound) (unitIn t (byte s 5)) (owned-reads t sound (byte s 5)) refl
 
 module _ (st : State) (sound : Sound (st .table)) (s d : List ℕ) (room : ℕ) where
   -- 32 where the interface is another

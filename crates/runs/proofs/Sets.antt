@@ -22,36 +22,36 @@ use Rattle.runs.specs.Runs.{addressedBy}
 use Rattle.runs.specs.Promises.{keyIn}
 use Rattle.runs.proofs.Stored.{Pair, pair-in, stored-count, stored-room, stored-here, stored-other, stored-same, stored-pins, stored-sound}
 use Rattle.runs.proofs.Shares.{Sent, sent-to, set-long}
-use Rattle.runs.proofs.Taken.{places, SetTaken}
-use Rattle.runs.proofs.Addressing.{places-apart, places-low, places-inside}
+use Rattle.runs.proofs.Taken.{addressedAt, SetTaken}
+use Rattle.runs.proofs.Addressing.{addressed-apart, addressed-low, addressed-inside}
 use Rattle.runs.proofs.Kept.{set-same, set-sound}
 
 module _ (t : Table) (s d : List ℕ) (v : Table) (sound : Sound t) (a : SetTaken t s d v) where
   abbrev new : List Control
   new = allSet (addressedBy t s) d
 
-  pub shared : (k : Key) (p : ℕ) (h : StandsAt t k p) → p ∈ places t s → Sent t k p h sound (places t s) d
-  shared k p h m = sent-to t k p h sound (places t s) d (places-apart t s) (places-low t s) (a .ready) (a .taken) (a .sized) m
+  pub shared : (k : Key) (p : ℕ) (h : StandsAt t k p) → p ∈ addressedAt t s → Sent t k p h sound (addressedAt t s) d
+  shared k p h m = sent-to t k p h sound (addressedAt t s) d (addressed-apart t s) (addressed-low t s) (a .ready) (a .taken) (a .sized) m
 
-  long : length new ≡ length (places t s)
-  long = set-long (addressedBy t s) d ∙ length-map (places t s) (at t)
+  long : length new ≡ length (addressedAt t s)
+  long = set-long (addressedBy t s) d ∙ length-map (addressedAt t s) (at t)
 
-  stands-self : (q : ℕ) → q ∈ places t s → StandsAt t (keyIn (at t q)) q
-  stands-self q m = record { inside = places-low t s q m; bears = record { unit = refl; channel = refl; selector = refl } }
+  stands-self : (q : ℕ) → q ∈ addressedAt t s → StandsAt t (keyIn (at t q)) q
+  stands-self q m = record { inside = addressed-low t s q m; bears = record { unit = refl; channel = refl; selector = refl } }
 
-  pair-here : (q : ℕ) (c : Control) → Pair (places t s) new q c → at v q ≡ c
-  pair-here q c h = rw (a .table) (stored-here t (places t s) new (places-apart t s) (places-inside t s sound) q c h)
+  pair-here : (q : ℕ) (c : Control) → Pair (addressedAt t s) new q c → at v q ≡ c
+  pair-here q c h = rw (a .table) (stored-here t (addressedAt t s) new (addressed-apart t s) (addressed-inside t s sound) q c h)
 
-  pub set-here : (k : Key) (p : ℕ) (h : StandsAt t k p) (m : p ∈ places t s)
+  pub set-here : (k : Key) (p : ℕ) (h : StandsAt t k p) (m : p ∈ addressedAt t s)
       → at v p ≡ withCur (storedFor (heldBy (at t p)) (at t p) (valueIn (shared k p h m .piece))) (at t p)
   set-here k p h m = pair-here p _ (shared k p h m .pair)
 
-  pub set-other : (q : ℕ) → (q ∈ places t s → ⊥) → at v q ≡ at t q
-  set-other q n = rw (a .table) (stored-other t (places t s) new q n)
+  pub set-other : (q : ℕ) → (q ∈ addressedAt t s → ⊥) → at v q ≡ at t q
+  set-other q n = rw (a .table) (stored-other t (addressedAt t s) new q n)
 
   -- what is stored at an index is the control of that index
-  module _ (q : ℕ) (c : Control) (h : Pair (places t s) new q c) where
-    own : Sent t (keyIn (at t q)) q (stands-self q (pair-in h)) sound (places t s) d
+  module _ (q : ℕ) (c : Control) (h : Pair (addressedAt t s) new q c) where
+    own : Sent t (keyIn (at t q)) q (stands-self q (pair-in h)) sound (addressedAt t s) d
     own = shared (keyIn (at t q)) q (stands-self q (pair-in h)) (pair-in h)
 
     is : c ≡ withCur (storedFor (heldBy (at t q)) (at t q) (valueIn (own .piece))) (at t q)
@@ -61,19 +61,19 @@ module _ (t : Table) (s d : List ℕ) (v : Table) (sound : Sound t) (a : SetTake
     alike = rw is (set-same _ (at t q), refl)
 
     sound-new : Bytes d → SoundAs (senseOf (c .selector)) c
-    sound-new b = rw is (set-sound (at t q) (own .piece) (sound .each q (places-low t s q (pair-in h))) (own .bytes b) (own .sized) (own .taken))
+    sound-new b = rw is (set-sound (at t q) (own .piece) (sound .each q (addressed-low t s q (pair-in h))) (own .bytes b) (own .sized) (own .taken))
 
   pub set-count : v .count ≡ t .count
-  set-count = rw (a .table) (stored-count t (places t s) new)
+  set-count = rw (a .table) (stored-count t (addressedAt t s) new)
 
   pub set-room : length (v .controls) ≡ length (t .controls)
-  set-room = rw (a .table) (stored-room t (places t s) new)
+  set-room = rw (a .table) (stored-room t (addressedAt t s) new)
 
   pub set-keeps : (q : ℕ) → Same (at v q) (at t q)
-  set-keeps q = rw (a .table) (stored-same t (places t s) new (places-apart t s) (places-inside t s sound) long alike q)
+  set-keeps q = rw (a .table) (stored-same t (addressedAt t s) new (addressed-apart t s) (addressed-inside t s sound) long alike q)
 
   pub set-pins : (q : ℕ) → at v q .pins ≡ at t q .pins
-  set-pins q = rw (a .table) (stored-pins t (places t s) new (places-apart t s) (places-inside t s sound) long alike q)
+  set-pins q = rw (a .table) (stored-pins t (addressedAt t s) new (addressed-apart t s) (addressed-inside t s sound) long alike q)
 
   pub set-sound-after : Bytes d → Sound v
-  set-sound-after b = rw (a .table) (stored-sound t (places t s) new (places-apart t s) (places-inside t s sound) long alike (λ q c h. sound-new q c h b) sound)
+  set-sound-after b = rw (a .table) (stored-sound t (addressedAt t s) new (addressed-apart t s) (addressed-inside t s sound) long alike (λ q c h. sound-new q c h b) sound)

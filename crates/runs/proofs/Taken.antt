@@ -1,6 +1,6 @@
 -- What an accepted step was: each acceptance, taken apart into what the papers ask of it.
 --   LoadTaken  ==  a load that was taken
---   places t s ==  the indices of the controls that the setup addresses
+--   addressedAt t s  ==  the indices of the controls that the setup addresses
 --   SetTaken   ==  a Set that was taken
 --   GetTaken   ==  a Get that was answered
 --   load-taken, set-taken, get-taken  ==  every acceptance is one of these
@@ -138,24 +138,24 @@ load-taken st k range w v e =
 
 -- what is addressed where the setup names it
 module _ (t : Table) (s : List ℕ) where
-  abbrev pub places : List ℕ
-  places = addressedIn t (byte s 5) (byte s 2) (byte s 3)
+  abbrev pub addressedAt : List ℕ
+  addressedAt = addressedIn t (byte s 5) (byte s 2) (byte s 3)
 
   pub record SetTaken (d : List ℕ) (v : Table) : Type 0 where
     pub sound : soundOf t ≡ true
     pub asked : AsksSet s
-    pub some : places ≡ [] → ⊥
+    pub some : addressedAt ≡ [] → ⊥
     pub ready : any (λ c. unready (heldBy c) c) (addressedBy t s) ≡ false
     pub sized : length d ≡ sizesOf (addressedBy t s)
     pub taken : allTake (addressedBy t s) d ≡ true
-    pub table : v ≡ storedAt t places (allSet (addressedBy t s) d)
+    pub table : v ≡ storedAt t addressedAt (allSet (addressedBy t s) d)
 
   pub record GetTaken (bytes : List ℕ) : Type 0 where
     pub sound : soundOf t ≡ true
     pub asked : AsksGet s
     pub part : Part
     pub code : byte s 1 ≡ codeOf part
-    pub some : places ≡ [] → ⊥
+    pub some : addressedAt ≡ [] → ⊥
     pub ready : any (λ c. unready (heldBy c) c) (addressedBy t s) ≡ false
     pub given : bytes ≡ cutTo (word s 6) part (addressedBy t s)
 
@@ -190,8 +190,8 @@ module _ (st : State) (s d : List ℕ) (room : ℕ) (q : soundOf (st .table) ≡
   t = st .table
 
   -- what is done at the addressed controls
-  set-changed : AsksSet s → (places t s ≡ [] → ⊥) → (v : Table) (es : List Control) → setOf (addressedBy t s) (word s 6) d ≡ changed es
-      → v ≡ storedAt t (places t s) es → SetTaken t s d v
+  set-changed : AsksSet s → (addressedAt t s ≡ [] → ⊥) → (v : Table) (es : List Control) → setOf (addressedBy t s) (word s 6) d ≡ changed es
+      → v ≡ storedAt t (addressedAt t s) es → SetTaken t s d v
   unfolding setOf
   set-changed a n v es e i =
       let x = passed-change (any (λ c. unready (heldBy c) c) (addressedBy t s)) 36 _ es e in
@@ -204,10 +204,10 @@ module _ (st : State) (s d : List ℕ) (room : ℕ) (q : soundOf (st .table) ≡
         ready = x .0;
         sized = misfits-not (addressedBy t s) (word s 6) d (y .0);
         taken = z .0;
-        table = i ∙ ap (storedAt t (places t s)) (z .1);
+        table = i ∙ ap (storedAt t (addressedAt t s)) (z .1);
       }
 
-  get-gave : AsksGet s → (places t s ≡ [] → ⊥) → (part : Part) → byte s 1 ≡ codeOf part → (bytes : List ℕ)
+  get-gave : AsksGet s → (addressedAt t s ≡ [] → ⊥) → (part : Part) → byte s 1 ≡ codeOf part → (bytes : List ℕ)
       → getOf part (addressedBy t s) (word s 6) room ≡ given bytes → GetTaken t s bytes
   unfolding getOf
   get-gave a n part c bytes e =
@@ -220,22 +220,22 @@ module _ (st : State) (s d : List ℕ) (room : ℕ) (q : soundOf (st .table) ≡
   cons-some e = let z : _≡_ {A = ℕ} 0 1 = cc in omega arith
 
   -- from what it came to: it is done somewhere
-  some-done : (act : List Control → Doing) (v : Table) → doneAt t (byte s 5) (places t s) act ≡ done v
-      → (places t s ≡ [] → ⊥) × ((es : List Control) × ((act (addressedBy t s) ≡ changed es) × (v ≡ storedAt t (places t s) es)))
+  some-done : (act : List Control → Doing) (v : Table) → doneAt t (byte s 5) (addressedAt t s) act ≡ done v
+      → (addressedAt t s ≡ [] → ⊥) × ((es : List Control) × ((act (addressedBy t s) ≡ changed es) × (v ≡ storedAt t (addressedAt t s) es)))
   unfolding doneAt
-  some-done act v e = go (places t s) refl e
+  some-done act v e = go (addressedAt t s) refl e
     where
-      go : (ps : List ℕ) → places t s ≡ ps → doneAt t (byte s 5) ps act ≡ done v
+      go : (ps : List ℕ) → addressedAt t s ≡ ps → doneAt t (byte s 5) ps act ≡ done v
           → (ps ≡ [] → ⊥) × ((es : List Control) × ((act (map (at t) ps) ≡ changed es) × (v ≡ storedAt t ps es)))
       go [] i h = no-done h
       go (p ∷ ps) i h = (cons-some, done-changed t (p ∷ ps) (act (map (at t) (p ∷ ps))) v h)
 
-  some-got : (act : List Control → Doing) (bytes : List ℕ) → doneAt t (byte s 5) (places t s) act ≡ got bytes
-      → (places t s ≡ [] → ⊥) × (act (addressedBy t s) ≡ given bytes)
+  some-got : (act : List Control → Doing) (bytes : List ℕ) → doneAt t (byte s 5) (addressedAt t s) act ≡ got bytes
+      → (addressedAt t s ≡ [] → ⊥) × (act (addressedBy t s) ≡ given bytes)
   unfolding doneAt
-  some-got act bytes e = go (places t s) refl e
+  some-got act bytes e = go (addressedAt t s) refl e
     where
-      go : (ps : List ℕ) → places t s ≡ ps → doneAt t (byte s 5) ps act ≡ got bytes → (ps ≡ [] → ⊥) × (act (map (at t) ps) ≡ given bytes)
+      go : (ps : List ℕ) → addressedAt t s ≡ ps → doneAt t (byte s 5) ps act ≡ got bytes → (ps ≡ [] → ⊥) × (act (map (at t) ps) ≡ given bytes)
       go [] i h = no-got h
       go (p ∷ ps) i h = (cons-some, got-given t (p ∷ ps) (act (map (at t) (p ∷ ps))) bytes h)
 

@@ -28,7 +28,7 @@ use Rattle.request.specs.Outcome.{Outcome, bytesOf, stateAfter}
 use Rattle.request.specs.Request.{requestOf}
 use Rattle.runs.specs.Runs.{Step, stepOf, accepted, next, after}
 use Rattle.runs.specs.Runs.Step.{request}
-use Rattle.runs.specs.RequestRows.{WrongLength, bytesSent}
+use Rattle.runs.specs.RequestRows.{WrongSetLength, bytesSent}
 
 abbrev pub singleOf : List ℕ → Control → List ℕ
 singleOf s c = byte s 0 ∷ byte s 1 ∷ c .channel ∷ byte s 3 ∷ byte s 4 ∷ byte s 5 ∷ sizeIn c ∷ 0 ∷ []
@@ -46,7 +46,7 @@ repliesOf st [] = []
 repliesOf st (step ∷ run) = bytesOf (stepOf st step) ++ repliesOf (next st step) run
 
 abbrev pub OfWhole : List ℕ → List ℕ → ℕ → List Control → Type 0
-OfWhole s d room cs = (AsksSet s × WrongLength s d cs) ⊎ (AsksGet s × (room < bytesSent s cs))
+OfWhole s d room cs = (AsksSet s × WrongSetLength s d cs) ⊎ (AsksGet s × (room < bytesSent s cs))
 
 pub record Equals (st : State) (s : List ℕ) (run : List Step) (o : Outcome) : Type 0 where
   pub taken : accepted o ≡ true

@@ -15,7 +15,7 @@
 --   Beyond cs d              ==  one of the numbers that the data d send to the controls is outside what its control takes
 --   RangedThere t k          ==  the control of the key k is in the table, and it is ranged
 --   InRange s range w        ==  range is legal for a control with selector s, and no number too wide
---   WrongLength s d cs       ==  wLength is not the size of the controls, or the data d of a Set are not that long
+--   WrongSetLength s d cs    ==  wLength is not the size of the controls, or the data d of a Set are not that long
 --   bytesSent s cs           ==  how many bytes a Get sends: wLength, or all where that is larger
 --   requestRows st s d room  ==  rows 30 to 39, for the setup s, the data d and a reply of room bytes: 30, askedRows (31 to 33), and of the
 --                                addressed controls addressedRows (34), controlRows (35 to 37) and lastRows (38, 39)
@@ -103,8 +103,8 @@ pub record InRange (s : ℕ) (range : Range) (w : ℕ) : Type 0 where
   pub legal : Legal sort range
   pub fits : w < spanOf sort
 
-abbrev pub WrongLength : List ℕ → List ℕ → List Control → Type 0
-WrongLength s d cs = (word s 6 ≡ sizesOf cs → ⊥) ⊎ (length d ≡ sizesOf cs → ⊥)
+abbrev pub WrongSetLength : List ℕ → List ℕ → List Control → Type 0
+WrongSetLength s d cs = (word s 6 ≡ sizesOf cs → ⊥) ⊎ (length d ≡ sizesOf cs → ⊥)
 
 abbrev pub bytesSent : List ℕ → List Control → ℕ
 bytesSent s cs = min (word s 6) (sizesOf cs)
@@ -120,7 +120,7 @@ abbrev pub controlRows : List ℕ → List ℕ → ℕ → List Control → ℕ 
 controlRows s d room cs =
     Row 35 (AsksGet s × ((0x82 ≤ byte s 1) × Some (λ c. HasRange (c .selector) → ⊥) cs))
     (Row 36 (Some Unloaded cs)
-    (Row 37 (AsksSet s × WrongLength s d cs)
+    (Row 37 (AsksSet s × WrongSetLength s d cs)
     (lastRows s d room cs)))
 
 abbrev pub addressedRows : List ℕ → List ℕ → ℕ → List Control → ℕ → Type 0

@@ -6,7 +6,9 @@ use super::build3::{
     basic_headset, basic_microphone, clock3, cluster3, feature3, input3, mixer3, mono, output3,
     selector3, stereo, Basic, Third, SKIPPED,
 };
-use super::configs::{self, desk};
+use super::configs::{
+    self, desk, FEATURE, MICROPHONE, MIXER, PLAYBACK, RECORDING, SELECTOR, SPEAKER,
+};
 use super::rng::Rng;
 use crate::numbers::{CONFIGURATION_MOST, EDITION_3, ENTITIES, PINS, STEP};
 use crate::ways::Way;
@@ -83,14 +85,7 @@ impl Cases {
     }
 }
 
-// The console's entities by index.
-const MICROPHONE: usize = 0;
-const PLAYBACK: usize = 1;
-const MIXER: usize = 2;
-const FEATURE: usize = 3;
-const SELECTOR: usize = 4;
-const RECORDING: usize = 5;
-const SPEAKER: usize = 6;
+// The console's entities by index, behind the seven that it has in common with the desk.
 const CLOCK: usize = 7;
 const SPARE_CLOCK: usize = 8;
 const LINE: usize = 9;

@@ -13,7 +13,7 @@ use super::moves::{self, Moves};
 use super::orders;
 use super::pairs::{self, Pairs};
 use super::random;
-use super::rng::Rng;
+use super::rng::{steps, Rng};
 use super::routes::{self, Routes};
 use super::script::{put_body, step_bytes, Reach, Script};
 use super::tape::Tape;
@@ -56,7 +56,7 @@ pub struct Job {
     pub writer: Vec<String>,
     /// The program `duet` and its arguments.
     pub duet: Vec<String>,
-    /// The program `lend3` and its arguments; empty where there is none to compare with.
+    /// The program `lend3` and its arguments.
     pub lend3: Vec<String>,
     /// One configuration in so many goes through `sheet` too, and as many sheets through `move`;
     /// none if 0.
@@ -90,21 +90,19 @@ pub fn run(job: &Job) -> Result<String, String> {
         let (readings, answers) = twin_scripts(seed, now);
         compare_tape("lend", &job.lend, &readings.tape)?;
         compare_relay(job, &answers)?;
-        let pairs = pair_script(seed, now);
+        let pairs: Pairs = steps(seed.rotate_left(32), now, pairs::random);
         compare_tape("sheets", &job.sheets, &pairs.tape)?;
-        let moves = move_script(seed, now);
+        let moves: Moves = steps(seed.rotate_left(16), now, moves::random);
         compare_tape("sheets", &job.sheets, &moves.tape)?;
         compare_moves(job, seed, now)?;
-        let routes = route_script(seed, now);
+        let routes: Routes = steps(seed.rotate_left(8), now, routes::random);
         compare_tape("routes", &job.routes, &routes.tape)?;
-        let lists = list_script(seed, now);
+        let lists: Lists = steps(seed.rotate_left(24), now, lists::random);
         compare_tape("writer", &job.writer, &lists.tape)?;
         let duets = duet_script(seed, now);
         compare_duet(job, &duets)?;
-        let thirds = third_script(seed, if job.lend3.is_empty() { 0 } else { now });
-        if !job.lend3.is_empty() {
-            compare_tape("lend3", &job.lend3, &thirds.tape)?;
-        }
+        let thirds: Lent3 = steps(seed.rotate_left(40), now, lent3::random);
+        compare_tape("lend3", &job.lend3, &thirds.tape)?;
         reach.add(&script.reach);
         reach.add(&lent.reach);
         twins += (readings.reach.lent + answers.reach.configurations) / 2;
@@ -122,8 +120,8 @@ pub fn run(job: &Job) -> Result<String, String> {
         "no difference: {done} configurations and {done} other steps through `relay`, {sheets} \
          configurations through `sheet` and as many sheets through `move`, {} through `lend`, \
          {twins} with their runs in two orders, {} pairs and {} moves through `sheets`, {} steps \
-         through `routes`, {} through `writer`, {} through `duet`, {} through `lend3`; {ways} of the {all} clauses of \
-         refusals met",
+         through `routes`, {} through `writer`, {} through `duet`, {} through `lend3`; {ways} of \
+         the {all} clauses of refusals met",
         reach.lent, reach.pairs, reach.moves, reach.routes, reach.lists, reach.duets, reach.thirds
     ))
 }
@@ -151,46 +149,6 @@ fn twin_scripts(seed: u64, count: usize) -> (Lent, Script) {
     (lent, script)
 }
 
-/// So many pairs of sheets at random.
-fn pair_script(seed: u64, count: usize) -> Pairs {
-    let mut rng = Rng::new(seed.rotate_left(32));
-    let mut pairs = Pairs::default();
-    for _ in 0..count {
-        pairs::random(&mut rng, &mut pairs);
-    }
-    pairs
-}
-
-/// So many moves at random.
-fn move_script(seed: u64, count: usize) -> Moves {
-    let mut rng = Rng::new(seed.rotate_left(16));
-    let mut moves = Moves::default();
-    for _ in 0..count {
-        moves::random(&mut rng, &mut moves);
-    }
-    moves
-}
-
-/// So many steps of `routes` at random.
-fn route_script(seed: u64, count: usize) -> Routes {
-    let mut rng = Rng::new(seed.rotate_left(8));
-    let mut all = Routes::default();
-    for _ in 0..count {
-        routes::random(&mut rng, &mut all);
-    }
-    all
-}
-
-/// So many lists of entities at random.
-fn list_script(seed: u64, count: usize) -> Lists {
-    let mut rng = Rng::new(seed.rotate_left(24));
-    let mut all = Lists::default();
-    for _ in 0..count {
-        lists::random(&mut rng, &mut all);
-    }
-    all
-}
-
 /// So many steps of `duet` at random, and pairs of runs that agree on one side, which are held to one
 /// another while they are written.
 fn duet_script(seed: u64, count: usize) -> Duets {
@@ -203,16 +161,6 @@ fn duet_script(seed: u64, count: usize) -> Duets {
         isolation::two_runs(&mut rng, &mut duets);
     }
     duets
-}
-
-/// So many configurations of both editions at random, with their cluster buffers.
-fn third_script(seed: u64, count: usize) -> Lent3 {
-    let mut rng = Rng::new(seed.rotate_left(40));
-    let mut all = Lent3::default();
-    for _ in 0..count {
-        lent3::random(&mut rng, &mut all);
-    }
-    all
 }
 
 /// Compares what `move` prints for sheets at random, one for each configuration of `sheet`.

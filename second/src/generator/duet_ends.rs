@@ -1,7 +1,7 @@
 //! Short runs of `duet`: quiet ends, the largest of what still is a step, and each way to be none.
 
 use super::script::step_bytes;
-use super::vectors::Run;
+use super::vectors::{bad_runs, Run};
 use crate::duet::{self, LOAD, PLUG_IN, PUT, REQUEST, SHOW, STRETCH, UNPLUG};
 use crate::numbers::{CONTROLS, STEP};
 use crate::relay::PUT_CONTROL;
@@ -93,15 +93,7 @@ fn bad() -> Vec<Run> {
         ("ends_in_body", zeros(LOAD, 12)[..14].to_vec()),
     ];
     ends.extend(bad_puts());
-    let one = |(name, end): (&str, Vec<u8>)| {
-        let after = if name.starts_with("ends") { vec![] } else { step_bytes(SHOW, &[]) };
-        run(
-            format!("duet_bad_{name}"),
-            [emptied(), end, after].concat(),
-            format!("{EMPTY}bad step\n"),
-        )
-    };
-    ends.into_iter().map(one).collect()
+    bad_runs("duet", duet::program, (&emptied(), EMPTY), &step_bytes(SHOW, &[]), ends)
 }
 
 /// Puts that end too early, too late, or give too much.

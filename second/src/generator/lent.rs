@@ -20,12 +20,62 @@ const EACH_COUNT: usize = 3;
 /// Configurations at random with a length at random.
 const RANDOM: usize = 400;
 /// Lengths for configurations that are refused whatever is lent.
-const ANY_LENGTH: [usize; 6] = [0, SHEET, RECORD - 1, LENT, 1, 47];
+pub const ANY_LENGTH: [usize; 6] = [0, SHEET, RECORD - 1, LENT, 1, 47];
 
 /// One step's bytes.
 pub fn lent_bytes(m: usize, config: &[u8]) -> Vec<u8> {
     let number = |n: usize| (n as u16).to_le_bytes();
     [&number(m)[..], &number(config.len()), config].concat()
+}
+
+/// Clauses met with a sheet that holds no record, and with one that holds 32.
+#[derive(Clone, Debug, Default)]
+pub struct Rooms {
+    none: BTreeSet<Way>,
+    full: BTreeSet<Way>,
+}
+
+impl Rooms {
+    /// Notes what a step with so many lent bytes met.
+    pub fn note(&mut self, m: usize, printed: &Printed) {
+        let Some(way) = printed.way else { return };
+        if m < RECORD {
+            self.none.insert(way);
+        } else if m >= SHEET {
+            self.full.insert(way);
+        }
+    }
+
+    /// Whether a clause was met with both.
+    pub fn both(&self, way: Way) -> bool {
+        self.none.contains(&way) && self.full.contains(&way)
+    }
+
+    /// Those of these clauses that were not met with both.
+    pub fn missing<'a>(&self, ways: impl Iterator<Item = &'a Way>) -> Vec<String> {
+        let mut missing = Vec::new();
+        for way in ways {
+            for (seen, sheet) in [(&self.none, "no record"), (&self.full, "32 records")] {
+                if !seen.contains(way) {
+                    let (number, words) = (way.number(), way.words());
+                    missing.push(format!("{number} {words}, with a sheet of {sheet}"));
+                }
+            }
+        }
+        missing
+    }
+}
+
+/// A length near what the records of an accepted configuration need, or any.
+pub fn near(rng: &mut Rng, entities: Option<usize>) -> usize {
+    let near = match entities {
+        Some(entities) if !rng.one_in(4) => {
+            (RECORD * entities) as i32
+                + *rng.pick(&[-32, -31, -16, -2, -1, 0, 1, 2, 16, 31, 32, 33])
+        }
+        _ => rng.below(LENT + 1) as i32,
+    };
+    near.clamp(0, LENT as i32) as usize
 }
 
 /// The steps while they are being written, with what the second program prints.
@@ -37,9 +87,7 @@ pub struct Lent {
     pub reach: Reach,
     /// What was reached on purpose, before anything at random.
     pub named: Reach,
-    /// Clauses met with a sheet that holds no record, and with one that holds 32.
-    none: BTreeSet<Way>,
-    full: BTreeSet<Way>,
+    rooms: Rooms,
     /// Configurations that were tried on both sides of their length, by their count of entities.
     edges: BTreeMap<usize, usize>,
 }
@@ -50,13 +98,7 @@ impl Lent {
         let printed = lend::step(m, config);
         self.tape.push(&lent_bytes(m, config), &printed.lines);
         self.reach.count_lent(&printed);
-        if let Some(way) = printed.way {
-            if m < RECORD {
-                self.none.insert(way);
-            } else if m >= SHEET {
-                self.full.insert(way);
-            }
-        }
+        self.rooms.note(m, &printed);
         printed
     }
 
@@ -83,15 +125,8 @@ impl Lent {
 
     /// What the papers name and these steps do not reach; empty if all is well.
     pub fn missing(&self) -> Vec<String> {
-        let mut missing = Vec::new();
-        for way in Way::ALL.iter().filter(|way| way.is_of_configuration()) {
-            for (seen, sheet) in [(&self.none, "no record"), (&self.full, "32 records")] {
-                if !seen.contains(way) {
-                    let (number, words) = (way.number(), way.words());
-                    missing.push(format!("{number} {words}, with a sheet of {sheet}"));
-                }
-            }
-        }
+        let own = Way::ALL.iter().filter(|way| way.is_of_configuration());
+        let mut missing = self.rooms.missing(own);
         for count in 1..=ENTITIES {
             if self.edges.get(&count).copied().unwrap_or(0) < EACH_COUNT {
                 missing.push(format!("{EACH_COUNT} sheets just long enough for {count} entities"));
@@ -151,8 +186,8 @@ fn named(lent: &mut Lent) {
             assert!(case.shown(), "{}", case.name);
             continue;
         };
-        let first = !lent.none.contains(&way) || !lent.full.contains(&way);
-        let tried = if first { vec![0, SHEET] } else { vec![*lengths.next().expect("a cycle")] };
+        let both = lent.rooms.both(way);
+        let tried = if both { vec![*lengths.next().expect("a cycle")] } else { vec![0, SHEET] };
         for m in tried {
             lent.refused(m, &case.bytes, way, place);
         }
@@ -181,27 +216,17 @@ pub fn random(rng: &mut Rng, lent: &mut Lent) {
 
 /// Adds this configuration, with a length near what its records need, or any.
 pub fn random_length(rng: &mut Rng, lent: &mut Lent, config: &[u8]) {
-    let near = match entities(config) {
-        Some(entities) if !rng.one_in(4) => {
-            (RECORD * entities) as i32
-                + *rng.pick(&[-32, -31, -16, -2, -1, 0, 1, 2, 16, 31, 32, 33])
-        }
-        _ => rng.below(LENT + 1) as i32,
-    };
-    lent.step(near.clamp(0, LENT as i32) as usize, config);
+    lent.step(near(rng, entities(config)), config);
 }
 
 #[cfg(test)]
 mod tests {
     use super::*;
+    use crate::generator::rng::steps;
 
     #[test]
     fn steps_at_random_are_steps() {
-        let mut rng = Rng::new(3);
-        let mut lent = Lent::default();
-        for _ in 0..300 {
-            random(&mut rng, &mut lent);
-        }
+        let lent: Lent = steps(3, 300, random);
         assert_eq!(lend::program(&lent.tape.bytes), lent.tape.printed);
         assert!(lent.reach.ways.contains_key(&Way::SheetShort));
     }

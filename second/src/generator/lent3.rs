@@ -5,6 +5,7 @@ use std::collections::BTreeSet;
 
 use super::build3::Third;
 use super::cases3::{self, Case3};
+use super::lent::{near, Rooms, ANY_LENGTH};
 use super::random;
 use super::random3;
 use super::rng::Rng;
@@ -19,8 +20,6 @@ use crate::ways::Way;
 
 /// Steps at random.
 const RANDOM: usize = 240;
-/// Lengths for configurations that are refused whatever is lent.
-const ANY_LENGTH: [usize; 6] = [0, SHEET, RECORD - 1, LENT, 1, 47];
 
 /// One step's bytes.
 pub fn step3_bytes(m: usize, config: &[u8], clusters: &[u8]) -> Vec<u8> {
@@ -38,9 +37,7 @@ pub struct Lent3 {
     pub reach: Reach,
     /// What was reached on purpose, before anything at random.
     pub named: Reach,
-    /// Clauses met with a sheet that holds no record, and with one that holds 32.
-    none: BTreeSet<Way>,
-    full: BTreeSet<Way>,
+    rooms: Rooms,
     /// Counts of entities that were tried on both sides of the length that they need.
     counts: BTreeSet<usize>,
 }
@@ -51,13 +48,7 @@ impl Lent3 {
         let printed = lend3::step(m, config, clusters);
         self.tape.push(&step3_bytes(m, config, clusters), &printed.lines);
         self.reach.count_third(&printed);
-        if let Some(way) = printed.way {
-            if m < RECORD {
-                self.none.insert(way);
-            } else if m >= SHEET {
-                self.full.insert(way);
-            }
-        }
+        self.rooms.note(m, &printed);
         printed
     }
 
@@ -76,8 +67,7 @@ impl Lent3 {
             }
             return;
         };
-        let first = !self.none.contains(&way) || !self.full.contains(&way);
-        for m in if first { vec![0, SHEET] } else { vec![any] } {
+        for m in if self.rooms.both(way) { vec![any] } else { vec![0, SHEET] } {
             let printed = self.step(m, &case.config, &case.clusters);
             let lines = format!("refused {} at {place}\nrest {m}\n", way.number());
             assert_eq!((printed.way, printed.lines), (Some(way), lines), "{}", case.name);
@@ -103,24 +93,18 @@ impl Lent3 {
 
     /// What the papers name and these steps do not reach; empty if all is well.
     pub fn missing(&self) -> Vec<String> {
-        let mut missing = Vec::new();
-        let own = |way: &&Way| way.is_of_edition3() || way.is_of_configuration();
-        for way in Way::ALL.iter().filter(own) {
-            // 16 comes with room for no record, and with room for fewer than there are.
-            let full = self.full.contains(way) || *way == Way::SheetShortIn3;
-            for (seen, sheet) in [(self.none.contains(way), "no record"), (full, "32 records")] {
-                if !seen {
-                    let (number, words) = (way.number(), way.words());
-                    missing.push(format!("lend3: {number} {words}, with a sheet of {sheet}"));
-                }
-            }
-        }
+        // 16 never comes with room for 32; that it comes is told by the counts.
+        let own = |way: &&Way| match way {
+            Way::SheetShortIn3 => false,
+            _ => way.is_of_edition3() || way.is_of_configuration(),
+        };
+        let mut missing = self.rooms.missing(Way::ALL.iter().filter(own));
         for count in 1..=ENTITIES {
             if !self.counts.contains(&count) {
-                missing.push(format!("lend3: sheets just long enough for {count} entities"));
+                missing.push(format!("sheets just long enough for {count} entities"));
             }
         }
-        missing
+        missing.into_iter().map(|one| format!("lend3: {one}")).collect()
     }
 }
 
@@ -149,26 +133,18 @@ pub fn random(rng: &mut Rng, lent: &mut Lent3) {
         0 => (random::configuration(rng), random3::configuration(rng).1),
         _ => random3::configuration(rng),
     };
-    let near = match edition3::read(&config, &clusters, &mut [0; LENT]) {
-        Ok(entities) if !rng.one_in(4) => {
-            (RECORD * entities) as i32 + *rng.pick(&[-32, -16, -2, -1, 0, 1, 2, 16, 31, 32, 33])
-        }
-        _ => rng.below(LENT + 1) as i32,
-    };
-    lent.step(near.clamp(0, LENT as i32) as usize, &config, &clusters);
+    let entities = edition3::read(&config, &clusters, &mut [0; LENT]).ok();
+    lent.step(near(rng, entities), &config, &clusters);
 }
 
 #[cfg(test)]
 mod tests {
     use super::*;
+    use crate::generator::rng::steps;
 
     #[test]
     fn steps_at_random_are_steps() {
-        let mut rng = Rng::new(4);
-        let mut lent = Lent3::default();
-        for _ in 0..300 {
-            random(&mut rng, &mut lent);
-        }
+        let lent: Lent3 = steps(4, 300, random);
         assert_eq!(lend3::program(&lent.tape.bytes), lent.tape.printed);
         assert!(lent.reach.ways.contains_key(&Way::SheetShortIn3));
     }

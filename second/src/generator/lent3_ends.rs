@@ -6,7 +6,7 @@ use super::cases3::console;
 use super::lent3::step3_bytes;
 use super::random3;
 use super::rng::Rng;
-use super::vectors::Run;
+use super::vectors::{bad_runs, Run};
 use crate::lend3;
 use crate::numbers::{CONFIGURATION_MOST, LENT, STEP};
 
@@ -61,12 +61,7 @@ fn bad() -> Vec<Run> {
         ("ends_before_clusters", good[..14].to_vec()),
         ("ends_in_clusters", good[..good.len() - 1].to_vec()),
     ];
-    let one = |(name, end): (&str, Vec<u8>)| {
-        let after: &[u8] = if name.starts_with("ends") { &[] } else { &good };
-        let stdin = [&good, &end, after].concat();
-        run(&format!("lend3_bad_{name}"), stdin, "refused 1 at 0\nrest 49\nbad step\n")
-    };
-    ends.into_iter().map(one).collect()
+    bad_runs("lend3", lend3::program, (&good, "refused 1 at 0\nrest 49\n"), &good, ends)
 }
 
 /// A run of `sheet3` over this configuration and this file.

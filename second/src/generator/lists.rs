@@ -576,19 +576,18 @@ fn spoil(rng: &mut Rng, list: &mut List) {
         }
         _ => {}
     }
+    // a step has no longer one, and damage comes on damage
+    list.entities.iter_mut().for_each(|entity| entity.truncate(FIELDS));
 }
 
 #[cfg(test)]
 mod tests {
     use super::*;
+    use crate::generator::rng::steps;
 
     #[test]
     fn steps_at_random_are_steps() {
-        let mut rng = Rng::new(14);
-        let mut lists = Lists::default();
-        for _ in 0..1500 {
-            random(&mut rng, &mut lists);
-        }
+        let lists: Lists = steps(14, 1500, random);
         assert_eq!(writer::program(&lists.tape.bytes), lists.tape.printed);
         for way in OWN {
             assert!(lists.reach.ways.contains_key(&way), "{}", way.words());

@@ -364,15 +364,12 @@ fn spoil(rng: &mut Rng, sheet: &mut Vec<u8>, record: usize) {
 #[cfg(test)]
 mod tests {
     use super::*;
+    use crate::generator::rng::steps;
     use crate::mover::{mover, printed};
 
     #[test]
     fn steps_at_random_are_steps() {
-        let mut rng = Rng::new(6);
-        let mut moves = Moves::default();
-        for _ in 0..1000 {
-            random(&mut rng, &mut moves);
-        }
+        let moves: Moves = steps(6, 1000, random);
         assert_eq!(sheets::program(&moves.tape.bytes), moves.tape.printed);
         let clauses = CLAUSES.iter().flat_map(|(_, clauses)| clauses.iter());
         for way in clauses {

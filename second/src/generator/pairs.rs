@@ -387,14 +387,11 @@ fn spoil(rng: &mut Rng, bytes: &mut Vec<u8>) {
 #[cfg(test)]
 mod tests {
     use super::*;
+    use crate::generator::rng::steps;
 
     #[test]
     fn steps_at_random_are_steps() {
-        let mut rng = Rng::new(4);
-        let mut pairs = Pairs::default();
-        for _ in 0..400 {
-            random(&mut rng, &mut pairs);
-        }
+        let pairs: Pairs = steps(4, 400, random);
         assert_eq!(sheets::program(&pairs.tape.bytes), pairs.tape.printed);
         assert!(CLAUSES.iter().all(|way| pairs.reach.ways.contains_key(way)));
     }

@@ -51,3 +51,13 @@ impl Rng {
         }
     }
 }
+
+/// What so many steps at random make, one behind the other.
+pub fn steps<T: Default>(seed: u64, count: usize, mut step: impl FnMut(&mut Rng, &mut T)) -> T {
+    let mut rng = Rng::new(seed);
+    let mut made = T::default();
+    for _ in 0..count {
+        step(&mut rng, &mut made);
+    }
+    made
+}

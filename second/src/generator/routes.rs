@@ -534,14 +534,11 @@ pub fn way_runs() -> Vec<WayRun> {
 #[cfg(test)]
 mod tests {
     use super::*;
+    use crate::generator::rng::steps;
 
     #[test]
     fn steps_at_random_are_steps() {
-        let mut rng = Rng::new(4);
-        let mut routes = Routes::default();
-        for _ in 0..600 {
-            random(&mut rng, &mut routes);
-        }
+        let routes: Routes = steps(4, 600, random);
         assert_eq!(routes::program(&routes.tape.bytes), routes.tape.printed);
         for way in [Way::RouteUnknown, Way::RouteOther, Way::ManyRoutes, Way::ListShort] {
             assert!(routes.reach.ways.contains_key(&way), "{}", way.words());

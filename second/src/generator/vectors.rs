@@ -321,6 +321,25 @@ fn kept_steps() -> Vec<Run> {
     edges.into_iter().map(run).collect()
 }
 
+/// Runs of a program that end in what is no step: each way of it once, behind good steps, which print
+/// this, and before another that is not read, unless the input ends there.
+pub fn bad_runs(
+    name: &str,
+    program: fn(&[u8]) -> String,
+    (good, says): (&[u8], &str),
+    after: &[u8],
+    ends: impl IntoIterator<Item = (&'static str, Vec<u8>)>,
+) -> Vec<Run> {
+    let run = |(end, bytes): (&str, Vec<u8>)| {
+        let after = if end.starts_with("ends") { &[] } else { after };
+        let stdin = [good, &bytes, after].concat();
+        let stdout = program(&stdin);
+        assert_eq!(stdout, format!("{says}bad step\n"), "{name} {end}");
+        Run::new(format!("{name}_bad_{end}"), stdin, stdout)
+    };
+    ends.into_iter().map(run).collect()
+}
+
 /// Runs of `relay` that end in what is no step: each way of it once, after two good steps.
 fn bad_steps() -> Vec<Run> {
     let whole = |kind, length| step_bytes(kind, &vec![0; length]);
@@ -341,14 +360,8 @@ fn bad_steps() -> Vec<Run> {
         ("ends_in_length", vec![SHOW, 0]),
         ("ends_in_body", whole(LOAD, 11)[..13].to_vec()),
     ];
-    let run = |(name, end): (&str, Vec<u8>)| {
-        let after = if name.starts_with("ends") { vec![] } else { step_bytes(SHOW, &[]) };
-        let stdin = [emptied(), end, after].concat();
-        let stdout = relay::program(&stdin);
-        assert_eq!(stdout, "put\ntable 0\nbad step\n", "{name}");
-        Run::new(format!("relay_bad_{name}"), stdin, stdout)
-    };
-    ends.into_iter().map(run).collect()
+    let good = (&emptied()[..], "put\ntable 0\n");
+    bad_runs("relay", relay::program, good, &step_bytes(SHOW, &[]), ends)
 }
 
 /// Runs of `lend` that end in what is no step: each way of it once, after a good step.
@@ -364,14 +377,7 @@ fn bad_lent_steps() -> Vec<Run> {
         ("ends_before_body", good[..4].to_vec()),
         ("ends_in_body", good[..good.len() - 1].to_vec()),
     ];
-    let run = |(name, end): (&str, Vec<u8>)| {
-        let after: &[u8] = if name.starts_with("ends") { &[] } else { &good };
-        let stdin = [&good, &end, after].concat();
-        let stdout = lend::program(&stdin);
-        assert_eq!(stdout, "refused 1 at 0\nrest 49\nbad step\n", "{name}");
-        Run::new(format!("lend_bad_{name}"), stdin, stdout)
-    };
-    ends.into_iter().map(run).collect()
+    bad_runs("lend", lend::program, (&good, "refused 1 at 0\nrest 49\n"), &good, ends)
 }
 
 /// Runs of `sheets` that end in what is no step: each way of it once, after a good step.
@@ -399,14 +405,7 @@ fn bad_pairs() -> Vec<Run> {
         ("ends_before_body", good[..3].to_vec()),
         ("ends_in_body", good[..good.len() - 1].to_vec()),
     ];
-    let run = |(name, end): (&str, Vec<u8>)| {
-        let after: &[u8] = if name.starts_with("ends") { &[] } else { &good };
-        let stdin = [&good, &end, after].concat();
-        let stdout = sheets::program(&stdin);
-        assert_eq!(stdout, "left 02\nright 03\nend\nbad step\n", "{name}");
-        Run::new(format!("sheets_bad_{name}"), stdin, stdout)
-    };
-    ends.into_iter().map(run).collect()
+    bad_runs("sheets", sheets::program, (&good, "left 02\nright 03\nend\n"), &good, ends)
 }
 
 /// Runs of `compare`: a pair with every kind of line, pairs at the edges, files that are not there.
@@ -511,14 +510,7 @@ fn bad_route_steps() -> Vec<Run> {
         ("ends_before_body", good[..5].to_vec()),
         ("ends_in_body", good[..good.len() - 1].to_vec()),
     ];
-    let run = |(name, end): (&str, Vec<u8>)| {
-        let after: &[u8] = if name.starts_with("ends") { &[] } else { &good };
-        let stdin = [&good, &end, after].concat();
-        let stdout = routes::program(&stdin);
-        assert_eq!(stdout, format!("{ONE_ROUTE}bad step\n"), "{name}");
-        Run::new(format!("routes_bad_{name}"), stdin, stdout)
-    };
-    ends.into_iter().map(run).collect()
+    bad_runs("routes", routes::program, (&good, ONE_ROUTE), &good, ends)
 }
 
 /// Runs of `way`.
@@ -571,14 +563,7 @@ fn bad_lists() -> Vec<Run> {
         ("ends_before_second", two[..good.len()].to_vec()),
         ("ends_in_second", two[..two.len() - 1].to_vec()),
     ];
-    let run = |(name, end): (&str, Vec<u8>)| {
-        let after: &[u8] = if name.starts_with("ends") { &[] } else { &good };
-        let stdin = [&good, &end, after].concat();
-        let stdout = writer::program(&stdin);
-        assert_eq!(stdout, format!("{ONE_ENTITY}bad step\n"), "{name}");
-        Run::new(format!("writer_bad_{name}"), stdin, stdout)
-    };
-    ends.into_iter().map(run).collect()
+    bad_runs("writer", writer::program, (&good, ONE_ENTITY), &good, ends)
 }
 
 impl Vectors {

@@ -8,7 +8,7 @@ use lib.ListN.{take, drop}
 use Rattle.ground.specs.Lists.{part}
 use Rattle.records.specs.Records.{recordSize}
 use Rattle.legal.specs.Sheet.{recordAt}
-use Rattle.differences.specs.Lines.{differing, maskOf}
+use Rattle.differences.specs.Lines.{differing, bitsSet}
 use Rattle.differences.proofs.changes.Statement.{statement}
 use Rattle.differences.proofs.changes.Tie as tie
 
@@ -16,8 +16,8 @@ as-record : (s : List ℕ) (i : ℕ) → part s (i * recordSize) (i * recordSize
 as-record s i = let q : i * recordSize + recordSize - i * recordSize ≡ recordSize = omega arith in ap (λ (n : ℕ). take n (drop (i * recordSize) s)) q
 
 both : (l r : List ℕ) (i j m : ℕ)
-    → m ≡ maskOf (differing (part l (i * recordSize) (i * recordSize + recordSize)) (part r (j * recordSize) (j * recordSize + recordSize)))
-    → m ≡ maskOf (differing (recordAt l i) (recordAt r j))
+    → m ≡ bitsSet (differing (part l (i * recordSize) (i * recordSize + recordSize)) (part r (j * recordSize) (j * recordSize + recordSize)))
+    → m ≡ bitsSet (differing (recordAt l i) (recordAt r j))
 both l r i j m e = e ∙ rw (as-record l i, as-record r j) refl
 
 ruleset laws = (both, needs)

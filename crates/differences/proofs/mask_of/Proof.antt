@@ -9,7 +9,7 @@ use native.Mathlib.Nat.{pow-le-pow-right}
 use mir.Val.{boolByte}
 use Rattle.ground.specs.Pick.{pick}
 use Rattle.records.specs.Records.{recordSize}
-use Rattle.differences.specs.Lines.{differs, differing, maskOf}
+use Rattle.differences.specs.Lines.{differs, differing, bitsSet}
 use Rattle.differences.specs.Masks.{bitsOf, bits-below, mask-bits}
 use Rattle.differences.proofs.mask_of.Statement.{statement}
 use Rattle.differences.proofs.mask_of.Tie as tie
@@ -28,7 +28,7 @@ module _ (a b : List ℕ) where
   start = record { few = omega arith; same = refl }
 
   module _ (mask n : ℕ) (g : Masked mask n) where
-    over : n ≤ 0 → mask ≡ maskOf (differing a b)
+    over : n ≤ 0 → mask ≡ bitsSet (differing a b)
     unfolding differing
     over h = let z : n ≡ 0 = omega arith in g .same ∙ rw z (sym (mask-bits (differs a b) 0 recordSize ∙ (let q : 2 ^ 0 * bitsOf (differs a b) 0 recordSize ≡ bitsOf (differs a b) 0 recordSize = omega arith in q)))
 

@@ -12,7 +12,7 @@ use Rattle.ground.specs.Pick.{decided, reads-lt}
 use Rattle.legal.specs.Sheet.{countIn, recordAt, idAt}
 use Rattle.differences.specs.declared.Difference.{Difference}
 use Rattle.differences.specs.declared.Difference.the-variants as difference
-use Rattle.differences.specs.Lines.{Line, lastId, recordOf, differing, changedLine, lineOf, lineAt, linesOf, firstAbove, maskOf, told}
+use Rattle.differences.specs.Lines.{Line, lastId, recordBearing, differing, changedLine, lineOf, lineAt, linesOf, firstAbove, bitsSet, differenceOf}
 use Rattle.differences.specs.Lines.Line.{leftOnly, rightOnly, changed}
 use Rattle.differences.specs.LinesLaws.{record-first, record-none, lines-none, lines-some}
 use Rattle.differences.specs.Lowest.{noId, LowestAbove, Standing}
@@ -21,14 +21,14 @@ use Rattle.differences.proofs.next.Statement.{statement}
 use Rattle.differences.proofs.next.Tie as tie
 
 module _ (s : List ℕ) (a x k : ℕ) (g : LowestAbove (idAt s) a (countIn s) x k) where
-  absent : (j : ℕ) → a < j → j < x → recordOf s j ≡ none
+  absent : (j : ℕ) → a < j → j < x → recordBearing s j ≡ none
   absent j p q = record-none s j (λ i h e. let n = g .none-lower i h (let z : a < idAt s i = omega arith in z) in omega arith)
 
-  present : x < noId → recordOf s x ≡ some (recordAt s k)
+  present : x < noId → recordBearing s x ≡ some (recordAt s k)
   present p = record-first s x k (g .inside p) (g .stands p) (g .first p)
 
 module _ (l r : List ℕ) where
-  line-by : (i : ℕ) {a b : Option (List ℕ)} → recordOf l i ≡ a → recordOf r i ≡ b → lineAt l r i ≡ lineOf i a b
+  line-by : (i : ℕ) {a b : Option (List ℕ)} → recordBearing l i ≡ a → recordBearing r i ≡ b → lineAt l r i ≡ lineOf i a b
   unfolding lineAt
   line-by i p q = rw (p, q) refl
 
@@ -47,8 +47,8 @@ module _ (l r : List ℕ) where
       before m h j p q = ⊎-elim (λ (o : at < j). h j o q) (λ (n : at < j → ⊥). g .none-passed j p (omega arith)) (decided (ltb at j) (reads-lt at j))
 
       found : (m : ℕ) (x : Line) → at < m → m < noId → lineAt l r m ≡ x ∷ [] → ((j : ℕ) → at < j → j < m → lineAt l r j ≡ [])
-          → told (some x) ≡ told (firstAbove above (linesOf l r))
-      found m x p q e h = let o = g .low in ap told (sym (lines-some l r above m x (omega arith) (omega arith) e (before m h)))
+          → differenceOf (some x) ≡ differenceOf (firstAbove above (linesOf l r))
+      found m x p q e h = let o = g .low in ap differenceOf (sym (lines-some l r above m x (omega arith) (omega arith) e (before m h)))
 
       module _ (x k y m : ℕ) (L : LowestAbove (idAt l) at (countIn l) x k) (R : LowestAbove (idAt r) at (countIn r) y m) where
         neither : (j : ℕ) → at < j → j < x → j < y → lineAt l r j ≡ []
@@ -57,7 +57,7 @@ module _ (l r : List ℕ) where
         left-small : x < y → x < noId
         left-small h = let n = R .low in omega arith
 
-        left-only : x < y → difference.LeftOnly x ≡ told (firstAbove above (linesOf l r))
+        left-only : x < y → difference.LeftOnly x ≡ differenceOf (firstAbove above (linesOf l r))
         left-only h =
             let s = left-small h in
             let p = L .above s in
@@ -67,17 +67,17 @@ module _ (l r : List ℕ) where
           right-small : y < x → y < noId
           right-small h = let n = L .low in omega arith
 
-          right-only : y < x → difference.RightOnly y ≡ told (firstAbove above (linesOf l r))
+          right-only : y < x → difference.RightOnly y ≡ differenceOf (firstAbove above (linesOf l r))
           right-only h =
               let s = right-small h in
               let p = R .above s in
               found y (rightOnly y) p s (line-by y (absent l at x k L y p h) (present r at y m R s)) (λ j o q. neither j o (omega arith) q)
 
           module _ (h : x ≤ y) where
-            over : x ≡ noId → difference.None ≡ told (firstAbove above (linesOf l r))
+            over : x ≡ noId → difference.None ≡ differenceOf (firstAbove above (linesOf l r))
             over e =
                 let b : (j : ℕ) → above < j → j < noId → lineAt l r j ≡ [] = before noId (λ j o q. neither j o (omega arith) (omega arith)) in
-                ap told (sym (lines-none l r above (λ j p q. b j p (omega arith))))
+                ap differenceOf (sym (lines-none l r above (λ j p q. b j p (omega arith))))
 
             module _ (e : x ≡ noId → ⊥) where
               small : x < noId
@@ -89,13 +89,13 @@ module _ (l r : List ℕ) where
               line-both : lineAt l r x ≡ changedLine x (differing (recordAt l k) (recordAt r m))
               line-both =
                   let q : x ≡ y = omega arith in
-                  line-by x (present l at x k L small) (ap (recordOf r) q ∙ present r at y m R (omega (arith, small)))
+                  line-by x (present l at x k L small) (ap (recordBearing r) q ∙ present r at y m R (omega (arith, small)))
 
-              module _ (mask : ℕ) (d : mask ≡ maskOf (differing (recordAt l k) (recordAt r m))) where
-                differ : (mask ≡ 0 → ⊥) → difference.Changed x mask ≡ told (firstAbove above (linesOf l r))
+              module _ (mask : ℕ) (d : mask ≡ bitsSet (differing (recordAt l k) (recordAt r m))) where
+                differ : (mask ≡ 0 → ⊥) → difference.Changed x mask ≡ differenceOf (firstAbove above (linesOf l r))
                 differ n = ap (difference.Changed x) d ∙ go (differing (recordAt l k) (recordAt r m)) (λ z. n (d ∙ mask-zero _ .1 z)) line-both
                   where
-                    go : (ns : List ℕ) → (ns ≡ [] → ⊥) → lineAt l r x ≡ changedLine x ns → difference.Changed x (maskOf ns) ≡ told (firstAbove above (linesOf l r))
+                    go : (ns : List ℕ) → (ns ≡ [] → ⊥) → lineAt l r x ≡ changedLine x ns → difference.Changed x (bitsSet ns) ≡ differenceOf (firstAbove above (linesOf l r))
                     go [] z b = absurd (z refl)
                     go (n ∷ ns) z b = found x (changed x (n ∷ ns)) (L .above small) small b (λ j o q. neither j o q (omega arith))
 

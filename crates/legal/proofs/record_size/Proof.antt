@@ -4,18 +4,18 @@ use mathlib.Core.Path.{_≡_, sym, ap}
 use Rattle.records.specs.Records.{recordSize}
 use Rattle.legal.specs.declared.Form.{Form}
 use Rattle.legal.specs.declared.Form.the-variants.{Old, New}
-use Rattle.legal.specs.Forms.{oldSize, sizeOf}
+use Rattle.legal.specs.Forms.{oldSize, recordSizeOf}
 use Rattle.legal.proofs.record_size.Statement.{statement}
 use Rattle.legal.proofs.record_size.Tie as tie
 
 module _ (f : Form) where
-  old : f ≡ Old → oldSize ≡ sizeOf f
-  unfolding sizeOf
-  old h = sym (ap sizeOf h)
+  old : f ≡ Old → oldSize ≡ recordSizeOf f
+  unfolding recordSizeOf
+  old h = sym (ap recordSizeOf h)
 
-  new : f ≡ New → recordSize ≡ sizeOf f
-  unfolding sizeOf
-  new h = sym (ap sizeOf h)
+  new : f ≡ New → recordSize ≡ recordSizeOf f
+  unfolding recordSizeOf
+  new h = sym (ap recordSizeOf h)
 
 ruleset laws = (old, new, needs)
 

@@ -4,13 +4,13 @@ use Prim.Native.Nat.{ℕ}
 use mathlib.Core.Path.{_≡_}
 use mathlib.Core.List.{List}
 use Rattle.legal.specs.declared.Form.the-variants.{New}
-use Rattle.legal.specs.Forms.{sizeOf}
+use Rattle.legal.specs.Forms.{recordSizeOf}
 use Rattle.legal.specs.Sheet.{numberBy, sheetNumber}
 use Rattle.legal.proofs.refusal.Statement.{statement}
 use Rattle.legal.proofs.refusal.Tie as tie
 
-told : (s : List ℕ) (n : ℕ) → n ≡ numberBy (sizeOf New) s → n ≡ sheetNumber s
-unfolding sizeOf
+told : (s : List ℕ) (n : ℕ) → n ≡ numberBy (recordSizeOf New) s → n ≡ sheetNumber s
+unfolding recordSizeOf
 told s n e = e
 
 ruleset laws = (told, needs)

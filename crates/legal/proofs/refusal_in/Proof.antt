@@ -12,43 +12,43 @@ use mir.Syntax.{w64}
 use Rattle.ground.specs.Pick.{yes, no, shows, refutes}
 use Rattle.entities.specs.Run.{mostEntities}
 use Rattle.legal.specs.declared.Form.{Form}
-use Rattle.legal.specs.Forms.{sizeOf, size-most}
+use Rattle.legal.specs.Forms.{recordSizeOf, record-size-most}
 use Rattle.legal.specs.Sheet.{countBy, WrongLengthBy, badIdsBy, numberBy}
 use Rattle.legal.specs.SheetLaws.{reads-length}
 use Rattle.legal.proofs.refusal_in.Statement.{statement}
 use Rattle.legal.proofs.refusal_in.Tie as tie
 
-module _ (f : Form) (s : List ℕ) (k : ℕ) (q : k ≡ sizeOf f) where
+module _ (f : Form) (s : List ℕ) (k : ℕ) (q : k ≡ recordSizeOf f) where
   most-fits : Fits w64 (mostEntities * k)
-  most-fits = let m = size-most f in record { fits = omega arith }
+  most-fits = let m = record-size-most f in record { fits = omega arith }
 
-  counted : (n : ℕ) → n ≡ countBy (sizeOf f) s → n ≡ countBy k s
+  counted : (n : ℕ) → n ≡ countBy (recordSizeOf f) s → n ≡ countBy k s
   counted n e = rw q e
 
-  too-long : mostEntities * k < length s → 41 ≡ numberBy (sizeOf f) s
+  too-long : mostEntities * k < length s → 41 ≡ numberBy (recordSizeOf f) s
   unfolding numberBy
-  too-long h = sym (yes _ _ (shows (reads-length (sizeOf f) s) (inl (rw q at h))))
+  too-long h = sym (yes _ _ (shows (reads-length (recordSizeOf f) s) (inl (rw q at h))))
 
-  module _ (h : length s ≤ mostEntities * k) (r : ℕ) (t : r ≡ length s % sizeOf f) where
-    broken : (r ≡ 0 → ⊥) → 41 ≡ numberBy (sizeOf f) s
+  module _ (h : length s ≤ mostEntities * k) (r : ℕ) (t : r ≡ length s % recordSizeOf f) where
+    broken : (r ≡ 0 → ⊥) → 41 ≡ numberBy (recordSizeOf f) s
     unfolding numberBy
-    broken n = sym (yes _ _ (shows (reads-length (sizeOf f) s) (inr (λ e. n (t ∙ e)))))
+    broken n = sym (yes _ _ (shows (reads-length (recordSizeOf f) s) (inr (λ e. n (t ∙ e)))))
 
     module _ (e : r ≡ 0) (b : Bool) (g : b ≡ badIdsBy k s) where
-      right : WrongLengthBy (sizeOf f) s → ⊥
+      right : WrongLengthBy (recordSizeOf f) s → ⊥
       right (inl l) = omega arith
       right (inr n) = n (sym t ∙ e)
 
-      told : b ≡ badIdsBy (sizeOf f) s
+      told : b ≡ badIdsBy (recordSizeOf f) s
       told = g ∙ ap (λ (n : ℕ). badIdsBy n s) q
 
-      bad-id : b ≡ true → 42 ≡ numberBy (sizeOf f) s
+      bad-id : b ≡ true → 42 ≡ numberBy (recordSizeOf f) s
       unfolding numberBy
-      bad-id y = sym (no _ _ (refutes (reads-length (sizeOf f) s) right) ∙ yes _ _ (sym told ∙ y))
+      bad-id y = sym (no _ _ (refutes (reads-length (recordSizeOf f) s) right) ∙ yes _ _ (sym told ∙ y))
 
-      accepted : b ≡ false → 0 ≡ numberBy (sizeOf f) s
+      accepted : b ≡ false → 0 ≡ numberBy (recordSizeOf f) s
       unfolding numberBy
-      accepted y = sym (no _ _ (refutes (reads-length (sizeOf f) s) right) ∙ no _ _ (sym told ∙ y))
+      accepted y = sym (no _ _ (refutes (reads-length (recordSizeOf f) s) right) ∙ no _ _ (sym told ∙ y))
 
 ruleset laws = (most-fits, counted, too-long, broken, bad-id, accepted, needs)
 

@@ -2,7 +2,7 @@
 use borrow.Author.Needs.{needs}
 use Prim.Native.Nat.{ℕ, _+_, _-_, _≤_, _<_}
 use mathlib.Core.Path.{_≡_, ap, _∙_}
-use mathlib.Core.Bool.{Bool, true, false}
+use mathlib.Core.Bool.{Bool, true, false, not, _&&_}
 use mathlib.Core.List.{List}
 use native.Mathlib.Omega.{arith}
 use lib.ListN.{getD}
@@ -11,8 +11,8 @@ use Rattle.ground.specs.Places.{Come, come-none, come-here, come-more, come-ove
 use Rattle.edition3.specs.Third.{saidBy}
 use Rattle.entities.specs.declared.Node.{Node}
 use Rattle.entities.specs.declared.Run.{Run}
-use Rattle.entities.specs.Run.{blankNode, held, nodeAt, placeAt, descriptorOf}
-use Rattle.links3.specs.Links.{saidAt, clockMarks, wrongClockBy, breachClock}
+use Rattle.entities.specs.Run.{blankNode, held, placeAt, descriptorOf}
+use Rattle.links3.specs.Links.{saidAt, clockBelow, ClockMarks, wrongClockBy, breachClock}
 use Rattle.links3.proofs.check_clocks.Statement.{statement}
 use Rattle.links3.proofs.check_clocks.Tie as tie
 
@@ -21,7 +21,7 @@ zeros = record { place = 0; first = 0; pins = 0; id = 0; kind = 0; feeds = false
 
 module _ (s : List ℕ) (run : Run) where
   abbrev wrong : ℕ → Bool
-  wrong j = wrongClockBy (clockMarks s run) (saidAt s run j)
+  wrong j = wrongClockBy (clockBelow run (held run)) (saidAt s run j)
 
   abbrev Passed : ℕ → Type 0
   Passed i = Come wrong (λ j. At (placeAt run j)) Nowhere (held run) i
@@ -34,14 +34,18 @@ module _ (s : List ℕ) (run : Run) where
     unfolding breachClock
     over h = come-over wrong (λ j. At (placeAt run j)) Nowhere (held run) i g (omega arith)
 
-    module _ (h : i < n) (marks : List Bool) (o : marks ≡ clockMarks s run) (r : Bool) (f : r ≡ wrongClockBy marks (saidBy (descriptorOf s (getD (run .nodes) i zeros)))) where
+    module _ (h : i < n) (marks : List Bool) (o : ClockMarks run marks) (r : Bool)
+        (f : r ≡ wrongClockBy (λ x. getD marks x false) (saidBy (descriptorOf s (getD (run .nodes) i zeros)))) where
+      asked : r ≡ wrong i
+      unfolding wrongClockBy blankNode
+      asked = f ∙ ap (λ (b : Bool). saidAt s run i .clocked && not b) (o .holds (saidAt s run i .clock))
+
       here : r ≡ true → At (getD (run .nodes) i zeros .place) ≡ breachClock s run
       unfolding breachClock blankNode
-      here y = come-here wrong (λ j. At (placeAt run j)) Nowhere (held run) i g (omega arith) r (f ∙ ap (λ (z : List Bool). wrongClockBy z (saidAt s run i)) o) y
+      here y = come-here wrong (λ j. At (placeAt run j)) Nowhere (held run) i g (omega arith) r asked y
 
       on : r ≡ false → Passed (i + 1)
-      unfolding blankNode
-      on y = come-more wrong (λ j. At (placeAt run j)) Nowhere (held run) i g (omega arith) r (f ∙ ap (λ (z : List Bool). wrongClockBy z (saidAt s run i)) o) y
+      on y = come-more wrong (λ j. At (placeAt run j)) Nowhere (held run) i g (omega arith) r asked y
 
 ruleset laws = (start, over, here, on, needs)
 

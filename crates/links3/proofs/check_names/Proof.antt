@@ -11,7 +11,7 @@ use Rattle.ground.specs.Places.{Come, come-none, come-here, come-more, come-ove
 use Rattle.edition3.specs.Third.{saidBy}
 use Rattle.entities.specs.declared.Node.{Node}
 use Rattle.entities.specs.declared.Run.{Run}
-use Rattle.entities.specs.Run.{blankNode, held, nodeAt, placeAt, descriptorOf}
+use Rattle.entities.specs.Run.{blankNode, held, placeAt, descriptorOf}
 use Rattle.links3.specs.Links.{saidAt, unknownBy, breach52}
 use Rattle.links3.proofs.check_names.Statement.{statement}
 use Rattle.links3.proofs.check_names.Tie as tie

@@ -1,119 +1,89 @@
 -- The marks are those of the Clock Sources among the first i entities.
 use borrow.Author.Needs.{needs}
-use Prim.Native.Nat.{ℕ, zero, suc, _+_, _-_, _≤_, _<_}
-use mathlib.Core.Path.{_≡_, refl, sym, ap, _∙_}
-use mathlib.Core.Bool.{Bool, true, false, _&&_}
+use Prim.Native.Nat.{ℕ, _+_, _-_, _≤_, _<_}
+use mathlib.Core.Path.{_≡_, sym, ap, _∙_}
+use mathlib.Core.Bool.{Bool, true, false}
 use mathlib.Core.Logic.{⊎-elim}
 use mathlib.Core.List.{List}
 use native.Mathlib.Omega.{arith}
 use lib.Dec.{eqb}
-use lib.ListN.{length, getD, set, replicate, length-set, length-replicate, getD-replicate}
+use lib.ListN.{length, getD, set, replicate, length-set, length-replicate}
 use lib.Seq.{getD-set-same, getD-set-other}
-use borrow.Author.Tests.{eq-eqb, ne-eqb}
-use Rattle.ground.specs.Pick.{pick, reads-eq, decided}
-use Rattle.ground.specs.Places.{firstIn, first-more, somewhere}
-use Rattle.graph.specs.Tables.{tabulate, tabulate-same, tabulate-getD}
-use Rattle.layout3.specs.declared.Facts.{Facts}
-use Rattle.edition3.specs.Third.{saidBy}
+use Rattle.ground.specs.Pick.{no, Reads, reads-eq, reads-and, shows, refutes, decided}
+use Rattle.ground.specs.Lists.{replicate-at}
+use Rattle.ground.specs.Places.{firstIn, first-more, somewhere, reads-somewhere}
 use Rattle.entities.specs.declared.Node.{Node}
 use Rattle.entities.specs.declared.Run.{Run}
-use Rattle.entities.specs.Run.{blankNode, held, nodeAt, idAt, descriptorOf}
-use Rattle.links3.specs.Links.{saidAt, isClockAt, clockBelow, clockMarks}
+use Rattle.entities.specs.Run.{blankNode, held, idAt, kindAt}
+use Rattle.links3.specs.Links.{isClockAt, clockBelow, ClockMarks}
 use Rattle.links3.proofs.clocks.Statement.{statement}
 use Rattle.links3.proofs.clocks.Tie as tie
-
-always : (t : ℕ → Bool) (i k : ℕ) → firstIn t (λ j. true) true i k ≡ true
-unfolding firstIn
-always t i zero = refl
-always t i (suc k) = go (t i) (always t (suc i) k)
-  where
-    go : (b : Bool) → firstIn t (λ j. true) true (suc i) k ≡ true → pick b true (firstIn t (λ j. true) true (suc i) k) ≡ true
-    go true e = refl
-    go false e = e
-
-one-more : (t : ℕ → Bool) (n : ℕ) → somewhere t (n + 1) ≡ pick (t n) true (somewhere t n)
-unfolding somewhere
-one-more t n = first-more t (λ j. true) false n ∙ go (t n)
-  where
-    go : (b : Bool) → firstIn t (λ j. true) (pick b true false) 0 n ≡ pick b true (firstIn t (λ j. true) false 0 n)
-    go true = always t 0 n
-    go false = refl
 
 abbrev zeros : Node
 zeros = record { place = 0; first = 0; pins = 0; id = 0; kind = 0; feeds = false }
 
-module _ (s : List ℕ) (run : Run) where
+module _ (run : Run) where
   record Marked (marks : List Bool) (i : ℕ) : Type 0 where
     low : i ≤ held run
     long : length marks ≡ 256
-    mark : (x : ℕ) → x < 256 → getD marks x false ≡ clockBelow s run i x
+    mark : (x : ℕ) → getD marks x false ≡ clockBelow run i x
 
   start : Marked (replicate 256 false) 0
   unfolding somewhere firstIn
-  start = record { low = omega arith; long = length-replicate 256 false; mark = λ x l. getD-replicate 256 x false false l }
+  start = record { low = omega arith; long = length-replicate 256 false; mark = λ x. replicate-at false 256 x }
+
+  reads-clock : (x i : ℕ) → Reads (isClockAt run x i) ((idAt run i ≡ x) × (kindAt run i ≡ 0x0B))
+  reads-clock x i = reads-and _ _ (reads-eq (idAt run i) x) (reads-eq (kindAt run i) 0x0B)
 
   module _ (marks : List Bool) (i : ℕ) (g : Marked marks i) where
-    over : (n : ℕ) → n ≡ held run → n ≤ i → marks ≡ clockMarks s run
-    unfolding clockMarks
+    over : (n : ℕ) → n ≡ held run → n ≤ i → ClockMarks run marks
     over n m h =
         let a = g .low in
         let e : i ≡ held run = omega arith in
-        sym (tabulate-getD marks false) ∙ ap (λ (k : ℕ). tabulate k (λ x. getD marks x false)) (g .long)
-        ∙ tabulate-same 256 (λ x. getD marks x false) (clockBelow s run (held run)) (λ x l. g .mark x l ∙ ap (λ (k : ℕ). clockBelow s run k x) e)
+        record { holds = λ x. g .mark x ∙ ap (λ (j : ℕ). clockBelow run j x) e }
 
     long-marks : length marks ≡ 256
     long-marks = g .long
 
-    module _ (n : ℕ) (m : n ≡ held run) (h : i < n) (f : Facts) (e : f ≡ saidBy (descriptorOf s (getD (run .nodes) i zeros))) where
-      said : f ≡ saidAt s run i
+    -- the i-th entity is no Clock Source with that ID
+    same-as : (x : ℕ) → ((idAt run i ≡ x) × (kindAt run i ≡ 0x0B) → ⊥) → clockBelow run i x ≡ clockBelow run (i + 1) x
+    unfolding somewhere
+    same-as x f =
+        sym (first-more (isClockAt run x) (λ j. true) false i ∙ ap (λ (r : Bool). firstIn (isClockAt run x) (λ j. true) r 0 i) (no _ _ (refutes (reads-clock x i) f)))
+
+    module _ (n : ℕ) (m : n ≡ held run) (h : i < n) where
+      kept : (getD (run .nodes) i zeros .kind ≡ 0x0B → ⊥) → (next : List Bool) → next ≡ marks → Marked next (i + 1)
       unfolding blankNode
-      said = e
+      kept f next o = rw o (record { low = omega arith; long = g .long; mark = λ x. g .mark x ∙ same-as x (λ q. f (q .1)) })
 
-      test : (x : ℕ) (b : Bool) → eqb (f .kind) 0x0B ≡ b → isClockAt s run x i ≡ eqb (idAt run i) x && b
-      test x b q = ap (λ (c : Bool). eqb (idAt run i) x && c) (sym (ap (λ (y : Facts). eqb (y .kind) 0x0B) said) ∙ q)
-
-      same-as : (x : ℕ) → isClockAt s run x i ≡ false → clockBelow s run i x ≡ clockBelow s run (i + 1) x
-      same-as x q = sym (one-more (isClockAt s run x) i ∙ ap (λ (b : Bool). pick b true (clockBelow s run i x)) q)
-
-      no-both : (a : Bool) → a && false ≡ false
-      no-both true = refl
-      no-both false = refl
-
-      kept : (f .kind ≡ 0x0B → ⊥) → (next : List Bool) → next ≡ marks → Marked next (i + 1)
-      kept q next o = rw o (record {
-        low = omega arith;
-        long = g .long;
-        mark = λ x l. g .mark x l ∙ same-as x (test x false (ne-eqb (f .kind) 0x0B q) ∙ no-both (eqb (idAt run i) x));
-      })
-
-      marked : f .kind ≡ 0x0B → (x : ℕ) → (x ≡ getD (run .nodes) i zeros .id) × (x < 256) → (next : List Bool) → next ≡ set marks x true → Marked next (i + 1)
+      marked : getD (run .nodes) i zeros .kind ≡ 0x0B → (x : ℕ) → (x ≡ getD (run .nodes) i zeros .id) × (x < 256)
+          → (next : List Bool) → next ≡ set marks x true → Marked next (i + 1)
       unfolding blankNode
       marked q x w next o = rw o (record {
         low = omega arith;
         long = length-set marks x true ∙ g .long;
-        mark = λ k l. ⊎-elim (same k) (other k l) (decided (eqb k x) (reads-eq k x));
+        mark = λ y. ⊎-elim (here y) (other y) (decided (eqb y x) (reads-eq y x));
       })
         where
-          same : (k : ℕ) → k ≡ x → getD (set marks x true) k false ≡ clockBelow s run (i + 1) k
-          same k z =
+          here : (y : ℕ) → y ≡ x → getD (set marks x true) y false ≡ clockBelow run (i + 1) y
+          here y z =
               let a = g .long in
               let b = w .1 in
-              let is : isClockAt s run k i ≡ true = test k true (eq-eqb (f .kind) 0x0B q) ∙ ap (λ (c : Bool). c && true) (eq-eqb (idAt run i) k (sym (z ∙ w .0))) in
-              ap (λ (y : ℕ). getD (set marks x true) y false) z ∙ getD-set-same marks x true false (omega arith)
-              ∙ sym (one-more (isClockAt s run k) i ∙ ap (λ (c : Bool). pick c true (clockBelow s run i k)) is)
+              let own : idAt run i ≡ y = sym (z ∙ w .0) in
+              ap (λ (j : ℕ). getD (set marks x true) j false) z
+              ∙ getD-set-same marks x true false (omega arith)
+              ∙ sym (shows (reads-somewhere (isClockAt run y) _ (i + 1) (λ j l. reads-clock y j)) (i, omega arith, (own, q)))
 
-          other : (k : ℕ) → k < 256 → (k ≡ x → ⊥) → getD (set marks x true) k false ≡ clockBelow s run (i + 1) k
-          other k l z =
-              let isnt : isClockAt s run k i ≡ false = test k true (eq-eqb (f .kind) 0x0B q) ∙ ap (λ (c : Bool). c && true) (ne-eqb (idAt run i) k (λ y. z (sym y ∙ sym (w .0)))) in
-              getD-set-other marks x k true false z ∙ g .mark k l ∙ same-as k isnt
+          other : (y : ℕ) → (y ≡ x → ⊥) → getD (set marks x true) y false ≡ clockBelow run (i + 1) y
+          other y z = getD-set-other marks x y true false z ∙ g .mark y ∙ same-as y (λ r. z (sym (r .0) ∙ sym (w .0)))
 
 ruleset laws = (start, over, long-marks, kept, marked, needs)
 
 abbrev Inv-loop : tie.InvT-loop
-Inv-loop config run n marks₀ i₀ marks i = Marked config run marks i
+Inv-loop run n marks₀ i₀ marks i = Marked run marks i
 
 abbrev μ-loop : tie.MeasureT-loop
-μ-loop config run n marks₀ i₀ marks i = n - i
+μ-loop run n marks₀ i₀ marks i = n - i
 
 count-requires : tie.Need-count-requires Inv-loop μ-loop
 count-requires c κs = search laws
@@ -126,9 +96,6 @@ mul-node c = search laws
 
 element-copy-out-node : tie.Need-element-copy-out-node Inv-loop μ-loop
 element-copy-out-node c = search laws
-
-facts-at-requires : tie.Need-facts-at-requires Inv-loop μ-loop
-facts-at-requires c κs = search laws
 
 index-of-requires : tie.Need-index-of-requires Inv-loop μ-loop
 index-of-requires c κs = search laws
@@ -158,7 +125,6 @@ clocks-spec =
     loop-holds
     mul-node
     element-copy-out-node
-    facts-at-requires
     index-of-requires
     array-write-marks
     add-i

@@ -11,14 +11,15 @@ use Rattle.links3.specs.Links.{wrongClockBy}
 use Rattle.links3.proofs.wrong_clock.Statement.{statement}
 use Rattle.links3.proofs.wrong_clock.Tie as tie
 
-module _ (marks : List Bool) (g f : Facts) (e : f ≡ g) where
-  no-clock : not (f .clocked) ≡ true → false ≡ wrongClockBy marks g
+module _ (g f : Facts) (e : f ≡ g) where
+  no-clock : (isClock : ℕ → Bool) → not (f .clocked) ≡ true → false ≡ wrongClockBy isClock g
   unfolding wrongClockBy
-  no-clock h = sym (ap (λ (b : Bool). b && not (getD marks (g .clock) false)) (sym (ap (λ (x : Facts). x .clocked) e) ∙ not-true (f .clocked) h))
+  no-clock isClock h = sym (ap (λ (b : Bool). b && not (isClock (g .clock))) (sym (ap (λ (x : Facts). x .clocked) e) ∙ not-true (f .clocked) h))
 
-  by-mark : not (f .clocked) ≡ false → (x : ℕ) → (x ≡ f .clock) × (x < 256) → not (getD marks x false) ≡ wrongClockBy marks g
+  by-mark : (marks : List Bool) → not (f .clocked) ≡ false → (x : ℕ) → (x ≡ f .clock) × (x < 256)
+      → not (getD marks x false) ≡ wrongClockBy (λ y. getD marks y false) g
   unfolding wrongClockBy
-  by-mark h x w =
+  by-mark marks h x w =
       ap (λ (i : ℕ). not (getD marks i false)) (w .0 ∙ ap (λ (y : Facts). y .clock) e)
       ∙ sym (ap (λ (b : Bool). b && not (getD marks (g .clock) false)) (sym (ap (λ (y : Facts). y .clocked) e) ∙ not-false (f .clocked) h))
 

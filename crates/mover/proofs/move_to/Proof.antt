@@ -9,8 +9,8 @@ use lib.ListN.{length, drop}
 use borrow.Author.Tests.{eq-eqb, ne-eqb}
 use Rattle.ground.specs.Pick.{yes, no}
 use Rattle.legal.specs.declared.Form.{Form}
-use Rattle.legal.specs.Forms.{sizeOf}
-use Rattle.legal.specs.Sheet.{mostBytes, countBy}
+use Rattle.legal.specs.Forms.{recordSizeOf}
+use Rattle.legal.specs.Sheet.{mostSheet, countBy}
 use Rattle.mover.specs.Moving.{otherOf, movedTo, moveNumber, writtenBy, roomAfter, Move}
 use Rattle.mover.specs.Laid.{Room, resized}
 use Rattle.mover.specs.MovingLaws.{moved-resized, moved-long, unrefused-short, unrefused-room}
@@ -23,10 +23,10 @@ module _ (f : Form) (s d : List ℕ) (x : ℕ) (e : x ≡ moveNumber f s (length
   refused h = record { number = e; written = sym (no _ _ (ne-eqb _ 0 (λ z. h (e ∙ z)))); room = sym (no _ _ (ne-eqb _ 0 (λ z. h (e ∙ z)))) }
 
   module _ (z : x ≡ 0) where
-    short : length s ≤ mostBytes
+    short : length s ≤ mostSheet
     short = unrefused-short f s (length d) (sym e ∙ z)
 
-    module _ (g : Form) (q : g ≡ otherOf f) (n : ℕ) (c : n ≡ countBy (sizeOf g) s) (k : ℕ) (a : k ≡ sizeOf g) (m : ℕ) (b : m ≡ sizeOf f) where
+    module _ (g : Form) (q : g ≡ otherOf f) (n : ℕ) (c : n ≡ countBy (recordSizeOf g) s) (k : ℕ) (a : k ≡ recordSizeOf g) (m : ℕ) (b : m ≡ recordSizeOf f) where
       long : length (movedTo f s) ≡ n * m
       long = moved-long f s ∙ rw (sym q, sym c, sym b) refl
 
@@ -34,7 +34,7 @@ module _ (f : Form) (s d : List ℕ) (x : ℕ) (e : x ≡ moveNumber f s (length
       room-left =
           let r = unrefused-room f s (length d) (sym e ∙ z) in
           let w = long in
-          record { taken = rw (c, a) (div-mul-le-self (length s) (sizeOf g)); given = omega arith }
+          record { taken = rw (c, a) (div-mul-le-self (length s) (recordSizeOf g)); given = omega arith }
 
       put : (t : List ℕ) → t ≡ resized k m s n ++ drop (n * m) d → (w : ℕ) → w ≡ length (movedTo f s) → Move f s d x w t
       unfolding writtenBy roomAfter

@@ -10,19 +10,19 @@ use mir.Val.{Fits}
 use mir.Syntax.{w64}
 use Rattle.records.specs.Records.{recordSize}
 use Rattle.legal.specs.declared.Form.{Form}
-use Rattle.legal.specs.Forms.{sizeOf, size-most}
-use Rattle.legal.specs.Sheet.{mostBytes, countBy}
+use Rattle.legal.specs.Forms.{recordSizeOf, record-size-most}
+use Rattle.legal.specs.Sheet.{mostSheet, countBy}
 use Rattle.mover.specs.Moving.{otherOf, movedTo}
 use Rattle.mover.specs.MovingLaws.{moved-long}
 use Rattle.mover.proofs.moved_size.Statement.{statement}
 use Rattle.mover.proofs.moved_size.Tie as tie
 
-module _ (f : Form) (s : List ℕ) (g : Form) (q : g ≡ otherOf f) (n m : ℕ) (e : n ≡ countBy (sizeOf g) s) (h : m ≡ sizeOf f) where
-  product-fits : length s ≤ mostBytes → Fits w64 (n * m)
+module _ (f : Form) (s : List ℕ) (g : Form) (q : g ≡ otherOf f) (n m : ℕ) (e : n ≡ countBy (recordSizeOf g) s) (h : m ≡ recordSizeOf f) where
+  product-fits : length s ≤ mostSheet → Fits w64 (n * m)
   product-fits l =
-      let a = div-le-self (length s) (sizeOf g) in
-      let b = size-most f in
-      let few : n ≤ mostBytes = omega arith in
+      let a = div-le-self (length s) (recordSizeOf g) in
+      let b = record-size-most f in
+      let few : n ≤ mostSheet = omega arith in
       let small : m ≤ recordSize = omega arith in
       let c = mul-le-mul few small in
       record { fits = omega arith }

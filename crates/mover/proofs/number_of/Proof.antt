@@ -8,23 +8,23 @@ use lib.ListN.{length}
 use borrow.Author.Tests.{eq-eqb, ne-eqb, lt-ltb, le-ltb}
 use Rattle.ground.specs.Pick.{yes, no}
 use Rattle.legal.specs.declared.Form.{Form}
-use Rattle.legal.specs.Forms.{sizeOf}
-use Rattle.legal.specs.Sheet.{mostBytes, numberBy}
+use Rattle.legal.specs.Forms.{recordSizeOf}
+use Rattle.legal.specs.Sheet.{mostSheet, numberBy}
 use Rattle.mover.specs.Moving.{otherOf, losesTo, movedTo, moveNumber}
 use Rattle.mover.specs.MovingLaws.{moved-short}
 use Rattle.mover.proofs.number_of.Statement.{statement}
 use Rattle.mover.proofs.number_of.Tie as tie
 
-module _ (f : Form) (s : List ℕ) (room : ℕ) (g : Form) (q : g ≡ otherOf f) (n : ℕ) (e : n ≡ numberBy (sizeOf g) s) where
-  known : n ≡ numberBy (sizeOf (otherOf f)) s
-  known = e ∙ ap (λ (h : Form). numberBy (sizeOf h) s) q
+module _ (f : Form) (s : List ℕ) (room : ℕ) (g : Form) (q : g ≡ otherOf f) (n : ℕ) (e : n ≡ numberBy (recordSizeOf g) s) where
+  known : n ≡ numberBy (recordSizeOf (otherOf f)) s
+  known = e ∙ ap (λ (h : Form). numberBy (recordSizeOf h) s) q
 
   by-form : (n ≡ 0 → ⊥) → n ≡ moveNumber f s room
   unfolding moveNumber
   by-form d = known ∙ sym (no _ _ (ne-eqb _ 0 (λ z. d (known ∙ z))))
 
   module _ (z : n ≡ 0) where
-    short : length s ≤ mostBytes
+    short : length s ≤ mostSheet
     short = moved-short f s (sym known ∙ z)
 
     module _ (b : Bool) (l : b ≡ losesTo f s) where

@@ -5,15 +5,15 @@ use mathlib.Core.Path.{_≡_, sym, ap, _∙_}
 use mathlib.Core.List.{List}
 use native.Mathlib.Omega.{arith}
 use Rattle.differences.specs.declared.Difference.{Difference}
-use Rattle.differences.specs.Lines.{lastId, linesOf, firstAbove, told, idTold}
+use Rattle.differences.specs.Lines.{lastId, linesOf, firstAbove, differenceOf, idTold}
 use Rattle.differences.specs.LinesLaws.{told-above}
 use Rattle.report.proofs.say_differences.Statement.{statement}
 use Rattle.report.proofs.say_differences.Tie as tie
 
-falls : (l r : List ℕ) (a : ℕ) (d : Difference) → d ≡ told (firstAbove a (linesOf l r)) → (i : ℕ) → i ≡ idTold d → (i ≡ 0 → ⊥) → i < 256
+falls : (l r : List ℕ) (a : ℕ) (d : Difference) → d ≡ differenceOf (firstAbove a (linesOf l r)) → (i : ℕ) → i ≡ idTold d → (i ≡ 0 → ⊥) → i < 256
     → lastId - i < lastId - a
 falls l r a d e i f n h =
-    let q : i ≡ idTold (told (firstAbove a (linesOf l r))) = f ∙ ap idTold e in
+    let q : i ≡ idTold (differenceOf (firstAbove a (linesOf l r))) = f ∙ ap idTold e in
     let p : a < i = rw (sym q) at (told-above a (linesOf l r) (λ z. n (q ∙ z))) in
     omega arith
 

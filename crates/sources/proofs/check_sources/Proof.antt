@@ -8,9 +8,9 @@ use mathlib.Core.List.{List, Memᴰ·append-right}
 use native.Mathlib.Omega.{arith}
 use lib.ListN.{getD, take, take-append-drop}
 use Rattle.ground.specs.declared.Place.the-variants.{Nowhere, At}
-use Rattle.ground.specs.Lists.{any}
+use Rattle.ground.specs.Lists.{any, member-index, take-in}
 use Rattle.ground.specs.Places.{Come, come-none, come-here, come-more, come-over}
-use Rattle.graph.specs.Members.{_∈_, along, in-take, member-index}
+use Rattle.graph.specs.Members.{_∈_, along}
 use Rattle.entities.specs.declared.Run.{Run}
 use Rattle.entities.specs.Run.{blankNode, held, nodeAt, placeAt, sourcesAt}
 use Rattle.sources.specs.Lookup.{directoryOf}
@@ -43,7 +43,7 @@ module _ (s : List ℕ) (run : Run) where
           byte : (x : ℕ) → x ∈ sourcesAt s run i → x < 256
           byte x a =
               let start = nodeAt run i .first in
-              let k = member-index (along (take-append-drop start s) (Memᴰ·append-right (take start s) (in-take (nodeAt run i .pins) a))) in
+              let k = member-index 0 (along (take-append-drop start s) (Memᴰ·append-right (take start s) (take-in (nodeAt run i .pins) a))) in
               subst (λ (y : ℕ). y < 256) (k .2) (g .bytes (k .0))
 
       here : b ≡ true → At (placeAt run i) ≡ breach11 s run

@@ -4,10 +4,8 @@ use Prim.Native.Nat.{ℕ, _-_}
 use mathlib.Core.Path.{_≡_, refl, sym, ap, _∙_}
 use mathlib.Core.List.{List, []}
 use native.Mathlib.Omega.{arith}
-use borrow.Author.Tests.{eq-eqb, ne-eqb}
 use lib.ListN.{length, take}
 use Rattle.ground.specs.declared.Refusal.{Refusal}
-use Rattle.ground.specs.Pick.{yes, no}
 use Rattle.ground.specs.Lists.{part}
 use Rattle.ground.specs.Refuse.{none}
 use Rattle.scan.specs.Cutting.{rest}
@@ -16,7 +14,8 @@ use Rattle.entities.specs.declared.Run.{Run}
 use Rattle.entities.specs.Run.{runIn}
 use Rattle.groups.specs.declared.Frame.{Frame}
 use Rattle.third.specs.declared.Finding.{Finding}
-use Rattle.third.specs.Judgement.{runFor, runRefused, runJudged, refusedFinding, linkedIn, framedIn}
+use Rattle.third.specs.Judgement.{runFor, runRefused, runJudged, linksJudged, frameJudged, nothingFound, allFound, foundThen, linkedIn, framedIn}
+use Rattle.third.specs.Verdict.{run-chain, found-refused}
 use Rattle.third.proofs.judge_frame.Statement.{statement}
 use Rattle.third.proofs.judge_frame.Tie as tie
 
@@ -38,13 +37,27 @@ module _ (c b : List ℕ) (f : Frame) (s : List ℕ) (e : s ≡ part c 0 (f .end
       unfolding runRefused runJudged
       judged-told = h ∙ rw (count-told, front) refl
 
-      turned-away : (v .number ≡ 0 → ⊥) → (r : Finding) → r ≡ refusedFinding (record { number = v .number; place = v .place }) → r ≡ framedIn c b f
+      verdict-stays : (v .number ≡ 0 → ⊥) → v ≡ frameJudged c b f none
+      unfolding frameJudged
+      verdict-stays n = judged-told ∙ sym (run-chain c b f .stays (λ q. n (ap (λ (x : Refusal). x .number) judged-told ∙ q)) (linksJudged c b (runFor c f) none))
+
+      verdict-on : v .number ≡ 0 → frameJudged c b f none ≡ linksJudged c b (runFor c f) none
+      unfolding frameJudged
+      verdict-on z = run-chain c b f .on (sym (ap (λ (x : Refusal). x .number) judged-told) ∙ z) (linksJudged c b (runFor c f) none)
+
+      turned-away : (v .number ≡ 0 → ⊥) → (r : Finding) → r ≡ nothingFound (record { number = v .number; place = v .place }) → r ≡ framedIn c b f
       unfolding framedIn
-      turned-away n r k = k ∙ ap refusedFinding judged-told ∙ sym (no _ _ (ne-eqb _ _ (λ q. n (ap (λ (x : Refusal). x .number) judged-told ∙ q))))
+      turned-away n r k =
+          k
+          ∙ ap nothingFound (verdict-stays n)
+          ∙ found-refused (frameJudged c b f none) _ (λ q. n (ap (λ (x : Refusal). x .number) (verdict-stays n) ∙ q))
 
       on : v .number ≡ 0 → (r : Finding) → r ≡ linkedIn c b (f .header) run → r ≡ framedIn c b f
-      unfolding framedIn
-      on z r k = k ∙ ap (linkedIn c b (f .header)) run-told ∙ sym (yes _ _ (eq-eqb _ _ (sym (ap (λ (x : Refusal). x .number) judged-told) ∙ z)))
+      unfolding framedIn linkedIn
+      on z r k =
+          k
+          ∙ ap (linkedIn c b (f .header)) run-told
+          ∙ ap (λ (x : Refusal). foundThen x (allFound c b (f .header) (runFor c f))) (sym (verdict-on z))
 
 ruleset laws = (turned-away, on, needs)
 
@@ -57,8 +70,8 @@ read-run-requires c κs = search laws
 judge-run-requires : tie.Need-judge-run-requires
 judge-run-requires c κs = search laws
 
-refused-requires : tie.Need-refused-requires
-refused-requires c κs = search laws
+nothing-found-requires : tie.Need-nothing-found-requires
+nothing-found-requires c κs = search laws
 
 returns : tie.Need-returns
 returns c = search laws
@@ -76,7 +89,7 @@ judge-frame-spec =
     stretch-requires
     read-run-requires
     judge-run-requires
-    refused-requires
+    nothing-found-requires
     returns
     judge-links-requires
     returns-2)

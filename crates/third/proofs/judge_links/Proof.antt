@@ -4,12 +4,9 @@ use Prim.Native.Nat.{ℕ}
 use mathlib.Core.Path.{_≡_, sym, ap, _∙_}
 use mathlib.Core.List.{List}
 use native.Mathlib.Omega.{arith}
-use borrow.Author.Tests.{ne-eqb}
-use lib.Dec.{eqb}
 use Rattle.ground.specs.declared.Place.{Place}
 use Rattle.ground.specs.declared.Place.the-variants.{Nowhere, At}
 use Rattle.ground.specs.declared.Refusal.{Refusal}
-use Rattle.ground.specs.Pick.{pick, no}
 use Rattle.ground.specs.Refuse.{none, refuse-at, refuse-on}
 use Rattle.entities.specs.declared.Run.{Run}
 use Rattle.ids.specs.Breach.{breach10}
@@ -17,23 +14,24 @@ use Rattle.ranks.specs.Order.{ordered}
 use Rattle.ranks.specs.Breach.{breach12}
 use Rattle.links3.specs.Links.{breach11Third}
 use Rattle.third.specs.declared.Finding.{Finding}
-use Rattle.third.specs.Judgement.{linksJudged, clustersJudged, refusedFinding, taken, clusteredIn, linkedIn}
+use Rattle.third.specs.Judgement.{linksJudged, clustersJudged, nothingFound, allFound, foundThen, clusteredIn, linkedIn}
+use Rattle.third.specs.Verdict.{found-refused}
 use Rattle.third.proofs.judge_links.Statement.{statement}
 use Rattle.third.proofs.judge_links.Tie as tie
 
 module _ (s b : List ℕ) (header : ℕ) (run : Run) where
   turned-away : (n p : ℕ) → (n ≡ 0 → ⊥) → linksJudged s b run none ≡ record { number = n; place = p }
-      → (r : Finding) → r ≡ refusedFinding (record { number = n; place = p }) → r ≡ linkedIn s b header run
+      → (r : Finding) → r ≡ nothingFound (record { number = n; place = p }) → r ≡ linkedIn s b header run
   unfolding linkedIn
-  turned-away n p z e r f = f ∙ ap refusedFinding (sym e) ∙ sym (no _ _ (ne-eqb _ 0 (λ q. z (sym (ap (λ (x : Refusal). x .number) e) ∙ q))))
+  turned-away n p z e r f = f ∙ ap nothingFound (sym e) ∙ found-refused (linksJudged s b run none) _ (λ q. z (sym (ap (λ (x : Refusal). x .number) e) ∙ q))
 
 module _ (s b : List ℕ) (header : ℕ) (run : Run) (a : Place) (e : a ≡ breach10 run) where
-  ids : (p : ℕ) → a ≡ At p → (r : Finding) → r ≡ refusedFinding (record { number = 10; place = p }) → r ≡ linkedIn s b header run
+  ids : (p : ℕ) → a ≡ At p → (r : Finding) → r ≡ nothingFound (record { number = 10; place = p }) → r ≡ linkedIn s b header run
   unfolding linksJudged
   ids p h = turned-away s b header run 10 p (λ z. omega arith) (refuse-at 10 p _ (sym e ∙ h))
 
   module _ (h : a ≡ Nowhere) (c : Place) (f : c ≡ breach11Third s run) where
-    sources : (p : ℕ) → c ≡ At p → (r : Finding) → r ≡ refusedFinding (record { number = 11; place = p }) → r ≡ linkedIn s b header run
+    sources : (p : ℕ) → c ≡ At p → (r : Finding) → r ≡ nothingFound (record { number = 11; place = p }) → r ≡ linkedIn s b header run
     unfolding linksJudged
     sources p k = turned-away s b header run 11 p (λ z. omega arith) (refuse-on 10 _ (sym e ∙ h) ∙ refuse-at 11 p _ (sym f ∙ k))
 
@@ -41,14 +39,14 @@ module _ (s b : List ℕ) (header : ℕ) (run : Run) (a : Place) (e : a ≡ brea
       in-order : d ≡ breach12 run (ordered s run)
       in-order = g ∙ ap (breach12 run) w
 
-      ranks : (p : ℕ) → d ≡ At p → (r : Finding) → r ≡ refusedFinding (record { number = 12; place = p }) → r ≡ linkedIn s b header run
+      ranks : (p : ℕ) → d ≡ At p → (r : Finding) → r ≡ nothingFound (record { number = 12; place = p }) → r ≡ linkedIn s b header run
       unfolding linksJudged
       ranks p l = turned-away s b header run 12 p (λ z. omega arith) (refuse-on 10 _ (sym e ∙ h) ∙ refuse-on 11 _ (sym f ∙ k) ∙ refuse-at 12 p _ (sym in-order ∙ l))
 
       on : d ≡ Nowhere → (r : Finding) → r ≡ clusteredIn s b header run → r ≡ linkedIn s b header run
       unfolding linksJudged clusteredIn linkedIn
       on l r q =
-          q ∙ ap (λ (v : Refusal). pick (eqb (v .number) 0) (taken s header run) (refusedFinding v))
+          q ∙ ap (λ (v : Refusal). foundThen v (allFound s b header run))
           (sym (refuse-on 10 _ (sym e ∙ h) ∙ refuse-on 11 _ (sym f ∙ k) ∙ refuse-on 12 _ (sym in-order ∙ l)))
 
 ruleset laws = (ids, sources, ranks, on, needs)
@@ -59,8 +57,8 @@ check-ids-requires c κs = search laws
 enum-known-ids : tie.Need-enum-known-ids
 enum-known-ids c = search laws
 
-refused-requires : tie.Need-refused-requires
-refused-requires c κs = search laws
+nothing-found-requires : tie.Need-nothing-found-requires
+nothing-found-requires c κs = search laws
 
 returns : tie.Need-returns
 returns c = search laws
@@ -74,8 +72,8 @@ check-sources-requires c κs = search laws
 enum-known-wrong : tie.Need-enum-known-wrong
 enum-known-wrong c = search laws
 
-refused-requires-2 : tie.Need-refused-requires-2
-refused-requires-2 c κs = search laws
+nothing-found-requires-2 : tie.Need-nothing-found-requires-2
+nothing-found-requires-2 c κs = search laws
 
 returns-2 : tie.Need-returns-2
 returns-2 c = search laws
@@ -92,8 +90,8 @@ check-ranks-requires c κs = search laws
 enum-known-endless : tie.Need-enum-known-endless
 enum-known-endless c = search laws
 
-refused-requires-3 : tie.Need-refused-requires-3
-refused-requires-3 c κs = search laws
+nothing-found-requires-3 : tie.Need-nothing-found-requires-3
+nothing-found-requires-3 c κs = search laws
 
 returns-3 : tie.Need-returns-3
 returns-3 c = search laws
@@ -113,18 +111,18 @@ judge-links-spec =
     (tie.spec
     check-ids-requires
     enum-known-ids
-    refused-requires
+    nothing-found-requires
     returns
     enum-told
     check-sources-requires
     enum-known-wrong
-    refused-requires-2
+    nothing-found-requires-2
     returns-2
     enum-told-2
     order-of-requires
     check-ranks-requires
     enum-known-endless
-    refused-requires-3
+    nothing-found-requires-3
     returns-3
     enum-told-3
     judge-clusters-requires

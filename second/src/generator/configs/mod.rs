@@ -94,13 +94,20 @@ impl Cases {
 const STEREO: (u8, u16, u8) = (2, 0x0003, 0);
 
 // The parts of the desk by index.
-const MICROPHONE: usize = 0;
-const PLAYBACK: usize = 1;
-const MIXER: usize = 2;
-const FEATURE: usize = 3;
-const SELECTOR: usize = 4;
-const RECORDING: usize = 5;
-const SPEAKER: usize = 6;
+/// The Input Terminal of a microphone.
+pub const MICROPHONE: usize = 0;
+/// The Input Terminal of what is played.
+pub const PLAYBACK: usize = 1;
+/// The Mixer of both.
+pub const MIXER: usize = 2;
+/// The Feature Unit behind the Mixer.
+pub const FEATURE: usize = 3;
+/// The Selector behind it.
+pub const SELECTOR: usize = 4;
+/// The Output Terminal of what is recorded.
+pub const RECORDING: usize = 5;
+/// The Output Terminal of a speaker.
+pub const SPEAKER: usize = 6;
 const SWITCH: usize = 7;
 const TRIM: usize = 8;
 

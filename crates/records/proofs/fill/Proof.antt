@@ -9,8 +9,8 @@ use lib.Seq.{ext-getD}
 use Rattle.ground.specs.Numbers.{byte}
 use Rattle.ground.specs.Lists.{pad, pad-length, pad-at}
 use Rattle.graph.specs.Tables.{Filled, filled-none, filled-more, filled-full, tabulate, getD-tabulate, length-tabulate}
-use Rattle.mover.proofs.fill.Statement.{statement}
-use Rattle.mover.proofs.fill.Tie as tie
+use Rattle.records.proofs.fill.Statement.{statement}
+use Rattle.records.proofs.fill.Tie as tie
 
 module _ (n : ℕ) (b : List ℕ) where
   record Come (t : List ℕ) (i : ℕ) : Type 0 where

@@ -1,0 +1,4 @@
+pub mod Shown
+pub mod Given
+pub mod Rule13Laws
+pub mod InBuffer

@@ -1,0 +1,47 @@
+-- What the reader of the 3.0 edition works with where its rules up to 9 are kept: the run is that of the cutting, and stands for its descriptors.
+--   entitiesThird k  ==  the entities of the run, as the reader hands them on
+--   run-any          ==  what a node holds does not hang on the cluster descriptors
+--   run-kept         ==  the reader's run is those entities
+--   represented      ==  they stand for the run's descriptors
+use Prim.Native.Nat.{ℕ, _+_}
+use mathlib.Core.Path.{_≡_, refl, sym, ap, _∙_}
+use mathlib.Core.List.{List, [], _∷_, _++_, flatten}
+use lib.ListN.{length, take}
+use Rattle.ground.specs.Lists.{pad}
+use Rattle.scan.specs.Cutting.{rest}
+use Rattle.edition3.specs.Third.{third}
+use Rattle.entities.specs.declared.Node.{Node}
+use Rattle.entities.specs.declared.Run.{Run}
+use Rattle.entities.specs.Run.{mostEntities, nodeOf, nodesFrom, blankNode, runIn}
+use Rattle.entities.specs.Represents.{Represents}
+use Rattle.entities.specs.RepresentsLaws.{run-represents}
+use Rattle.groups.specs.Reading.{frameOf}
+use Rattle.cutting.specs.Survey.{runOf}
+use Rattle.cutting.specs.Context.{run-place, run-is, run-stands, run-cut}
+use Rattle.third.specs.Judgement.{runFor}
+use Rattle.reader3.specs.ThirdConfiguration.{KeptThird, runIn3, placeIn3, clustersIn}
+
+nodes-any : (ks : List (List ℕ)) (p : ℕ) (ds : List (List ℕ)) → nodesFrom (third ks) p ds ≡ nodesFrom (third []) p ds
+unfolding nodesFrom nodeOf
+nodes-any ks p [] = refl
+nodes-any ks p (d ∷ ds) = ap (λ (l : List Node). nodeOf (third []) p d ∷ l) (nodes-any ks (p + length d) ds)
+
+pub run-any : (ks : List (List ℕ)) (p : ℕ) (ds : List (List ℕ)) → runIn (third ks) p ds ≡ runIn (third []) p ds
+unfolding runIn
+run-any ks p ds = ap (λ (l : List Node). record { count = length ds; nodes = pad blankNode mostEntities l }) (nodes-any ks p ds)
+
+abbrev pub entitiesThird : {s b : List ℕ} → KeptThird s b → Run
+entitiesThird k = runIn (third []) (placeIn3 k) (runIn3 k)
+
+module _ (s b : List ℕ) (k : KeptThird s b) where
+  pub run-kept : runFor s (frameOf s) ≡ entitiesThird k
+  unfolding runFor runOf
+  run-kept =
+      ap (λ (p : ℕ). runIn (third []) p (rest (take (frameOf s .end) s) (frameOf s .run))) (run-place s (k .opened) (k .rule5))
+      ∙ ap (runIn (third []) (placeIn3 k)) (run-is s (k .opened) (k .rule5) (k .rule6))
+
+  pub represented : Represents (third (clustersIn k)) s (placeIn3 k) (runIn3 k) (entitiesThird k)
+  represented =
+      rw (← (run-any (clustersIn k) (placeIn3 k) (runIn3 k)))
+      (run-represents (third (clustersIn k)) s (placeIn3 k) (runIn3 k) (flatten (k .rule6 .later ++ k .rule6 .after))
+      (run-stands s (k .opened) (k .rule5) (k .rule6)) (run-cut s (k .opened) (k .rule5) (k .rule6)) (k .rule9) (k .rule8 .1))

@@ -1,0 +1,5 @@
+pub mod KeptRun
+pub mod ThirdExactly
+pub mod ThirdShows
+pub mod Choosing
+pub mod Case3

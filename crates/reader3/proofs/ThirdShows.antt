@@ -1,0 +1,304 @@
+-- What the answer and the sheet of the 3.0 edition show of a configuration, and that what keeps the rules is one.
+--   answer-number      ==  number and place in the answer are those of the refusal
+--   third-demand       ==  THE THEOREM, field by field of ThirdDemand
+use Prim.Native.Nat.{ℕ, _+_, _*_, _≤_, _<_}
+use mathlib.Core.Path.{_≡_, refl, sym, ap, _∙_, subst}
+use mathlib.Core.Bool.{Bool, true, false, _&&_}
+use mathlib.Core.List.{List, [], _++_}
+use mathlib.Core.Logic.{_↔_, ⊎-elim}
+use lib.ListN.{length, getD, take, drop, length-take, List·getD-eq-default}
+use lib.Seq.{getD-append-add}
+use lib.Dec.{eqb}
+use native.Mathlib.Omega.{arith}
+use borrow.Author.Tests.{eq-eqb, ne-eqb, eqb-true, eqb-false}
+use Rattle.ground.specs.declared.Refusal.{Refusal}
+use Rattle.ground.specs.Pick.{pick, yes, no, decided, reads-eq, reads-and}
+use Rattle.ground.specs.Numbers.{byte}
+use Rattle.ground.specs.Lists.{member-at, pad, pad-at, reads-any}
+use Rattle.graph.specs.Members.{_∈_}
+use Rattle.layout.specs.declared.Cluster.{Cluster}
+use Rattle.layout.specs.Layouts.{mostPins}
+use Rattle.layout.specs.Layout.{noCluster}
+use Rattle.layout3.specs.declared.Entity.{Entity}
+use Rattle.layout3.specs.Layouts.{LaidOut}
+use Rattle.layout3.specs.Layout.{entityOf}
+use Rattle.layout3.specs.Facts.{factsOf}
+use Rattle.layout3.specs.LayoutLaws.{Told, told, unknown, input, output, mixer, selector, feature, clock, pins-few, sources-laid}
+use Rattle.scan.specs.Cutting.{oneByte}
+use Rattle.scan.specs.PieceLaws.{cut-one}
+use Rattle.buffer.specs.Clusters.{twoBytes, clusterId, channelsOf}
+use Rattle.buffer.specs.Reading as buffer
+use Rattle.buffer.specs.BufferLaws.{buffer-pieces}
+use Rattle.edition.specs.Edition.{ownId, sources}
+use Rattle.edition3.specs.Third.{saidBy, firstOf, channelsIn, Few, mixerLength, Keeps, givesOut, third, Rule52}
+use Rattle.links3.specs.Rules.{ClocksNamed}
+use Rattle.entities.specs.declared.Run.{Run}
+use Rattle.entities.specs.Run.{runIn}
+use Rattle.entities.specs.Represents.{Represents}
+use Rattle.groups.specs.Reading.{frameOf}
+use Rattle.cutting.specs.Context.{run-is}
+use Rattle.ranks.specs.Order.{ordered}
+use Rattle.sweep3.specs.Sweep.{givenIds}
+use Rattle.clusters.specs.Rule13.{entering, Connected}
+use Rattle.clusters.specs.Topology.{clusters-one}
+use Rattle.clusters3.specs.Shown.{shownCluster, clustersBy}
+use Rattle.clusters3.specs.Rule13Laws.{third-shown}
+use Rattle.clusters3.specs.InBuffer.{cluster-named, cluster-in-buffer}
+use Rattle.records.specs.Records.{headSize, recordSize, frontOf, recordFor, shownIn}
+use Rattle.records.specs.Sheet.{recordsFor, Rule16, shown-same, record-long, record-at}
+use Rattle.third.specs.declared.SheetAnswer.{SheetAnswer}
+use Rattle.third.specs.Judgement.{runFor, clustersShown, thirdVerdict, sheetRefused, sheetTaken, thirdAnswer, thirdSheet}
+use Rattle.reader3.specs.ThirdConfiguration.{placeIn3, ThirdConfiguration}
+use Rattle.reader3.specs.ThirdRefusals.{RefusedThird}
+use Rattle.reader3.specs.ThirdRecord.{ShownKind, fedIn, ThirdRecord}
+use Rattle.reader3.specs.ThirdRecord as shown
+use Rattle.reader3.specs.Plainly.{ClockNamed, Plainly}
+use Rattle.reader3.specs.Plainly as plain
+use Rattle.reader3.specs.BothEditions.{thirdRun, thirdCluster, thirdBuffer, RefusedSheet, ThirdDemand}
+use Rattle.reader3.proofs.KeptRun.{entitiesThird, run-kept, represented}
+use Rattle.reader3.proofs.ThirdExactly.{third-accepted, third-refused}
+
+-- the answer's number and place are the verdict's
+module _ (s b : List ℕ) (room : ℕ) where
+  answer-refused : (thirdVerdict s b room .number ≡ 0 → ⊥) → thirdAnswer s b room ≡ sheetRefused (thirdVerdict s b room)
+  unfolding thirdAnswer
+  answer-refused n = no _ _ (ne-eqb _ _ n)
+
+  answer-taken : thirdVerdict s b room .number ≡ 0 → thirdAnswer s b room ≡ sheetTaken s
+  unfolding thirdAnswer
+  answer-taken e = yes _ _ (eq-eqb _ _ e)
+
+  pub answer-number : thirdAnswer s b room .number ≡ thirdVerdict s b room .number
+  unfolding sheetRefused
+  answer-number = go (eqb (thirdVerdict s b room .number) 0) refl
+    where
+      go : (c : Bool) → eqb (thirdVerdict s b room .number) 0 ≡ c → thirdAnswer s b room .number ≡ thirdVerdict s b room .number
+      go true q = let e = eqb-true _ _ q in ap (λ (x : SheetAnswer). x .number) (answer-taken e) ∙ sym e
+      go false q = ap (λ (x : SheetAnswer). x .number) (answer-refused (eqb-false _ _ q))
+
+  verdict-nonzero : (thirdAnswer s b room .number ≡ 0 → ⊥) → thirdVerdict s b room .number ≡ 0 → ⊥
+  verdict-nonzero n e = n (answer-number ∙ e)
+
+  answer-place : (thirdAnswer s b room .number ≡ 0 → ⊥) → thirdAnswer s b room .place ≡ thirdVerdict s b room .place
+  unfolding sheetRefused
+  answer-place n = ap (λ (x : SheetAnswer). x .place) (answer-refused (verdict-nonzero n))
+
+  both : (thirdAnswer s b room .number ≡ 0 → ⊥) → thirdVerdict s b room ≡ record { number = thirdAnswer s b room .number; place = thirdAnswer s b room .place }
+  both n = rw (answer-number, answer-place n) refl
+
+  refused-both : (n p : ℕ) → (n ≡ 0 → ⊥) → ((thirdAnswer s b room .number ≡ n) × (thirdAnswer s b room .place ≡ p)) ↔ RefusedThird s b room n p
+  refused-both n p z = (to, of)
+    where
+      to : (thirdAnswer s b room .number ≡ n) × (thirdAnswer s b room .place ≡ p) → RefusedThird s b room n p
+      to (e, f) = third-refused s b room n p z .0 (both (λ q. z (sym e ∙ q)) ∙ ap (λ (i : ℕ). record { number = i; place = thirdAnswer s b room .place }) e ∙ ap (λ (i : ℕ). record { number = n; place = i }) f)
+
+      of : RefusedThird s b room n p → (thirdAnswer s b room .number ≡ n) × (thirdAnswer s b room .place ≡ p)
+      of r =
+          let v = third-refused s b room n p z .1 r in
+          let m : thirdAnswer s b room .number ≡ n = answer-number ∙ ap (λ (x : Refusal). x .number) v in
+          (m, answer-place (λ q. z (sym m ∙ q)) ∙ ap (λ (x : Refusal). x .place) v)
+
+module _ (s b d : List ℕ) (n : thirdAnswer s b (length d) .number ≡ 0 → ⊥) where
+  refuses : RefusedSheet s b d
+  unfolding thirdSheet sheetRefused
+  refuses = record {
+    row = refused-both s b (length d) (thirdAnswer s b (length d) .number) (thirdAnswer s b (length d) .place) n .0 (refl, refl);
+    no-entities = ap (λ (x : SheetAnswer). x .entities) (answer-refused s b (length d) (verdict-nonzero s b (length d) n));
+    sheet = no _ _ (ne-eqb _ _ (verdict-nonzero s b (length d) n));
+  }
+
+-- what keeps the rules is one
+module _ (s b : List ℕ) (t u : ThirdConfiguration s b) where
+  one-cutting : t .kept .opened .descriptors ≡ u .kept .opened .descriptors
+  one-cutting = cut-one oneByte s _ _ (t .kept .opened .rule3) (u .kept .opened .rule3)
+
+  one-buffer : thirdBuffer t ≡ thirdBuffer u
+  one-buffer = cut-one twoBytes b _ _ (t .kept .rule51 .tiles) (u .kept .rule51 .tiles)
+
+  one-descriptors : thirdRun t ≡ thirdRun u
+  one-descriptors = sym (run-is s (t .kept .opened) (t .kept .rule5) (t .kept .rule6)) ∙ run-is s (u .kept .opened) (u .kept .rule5) (u .kept .rule6)
+
+  one-clusters : (d : List ℕ) → d ∈ thirdRun t → thirdCluster t (ownId d) ≡ thirdCluster u (ownId d)
+  one-clusters =
+      same (thirdBuffer u) one-buffer (thirdRun u) one-descriptors (u .connected)
+    where
+      same : (ks : List (List ℕ)) → thirdBuffer t ≡ ks → (ds : List (List ℕ)) → thirdRun t ≡ ds → (c : Connected (third ks) ds)
+          → (d : List ℕ) → d ∈ thirdRun t → thirdCluster t (ownId d) ≡ c .cluster (ownId d)
+      same ks e ds f =
+          subst (λ (l : List (List ℕ)). (c : Connected (third l) ds) (d : List ℕ) → d ∈ thirdRun t → thirdCluster t (ownId d) ≡ c .cluster (ownId d)) e
+          (subst (λ (x : List (List ℕ)). (c : Connected (third (thirdBuffer t)) x) (d : List ℕ) → d ∈ thirdRun t → thirdCluster t (ownId d) ≡ c .cluster (ownId d)) f
+          (clusters-one (t .connected)))
+
+-- the record, byte by byte, of a descriptor that has its layout
+kind-shown : (d : List ℕ) → LaidOut d → ShownKind (byte d 2) (saidBy d .kind)
+unfolding factsOf
+kind-shown d o = of (told d)
+  where
+    at : {n k : ℕ} → byte d 2 ≡ n → ShownKind n k → ShownKind (byte d 2) k
+    at {k = k} e x = subst (λ (n : ℕ). ShownKind n k) (sym e) x
+
+    of : {e : Entity} → Told d e → ShownKind (byte d 2) (factsOf e .kind)
+    of (unknown n) = absurd (n o)
+    of (input l k i) = at k shown.input
+    of (output l k i) = at k shown.output
+    of (mixer l k q i) = at k shown.mixer
+    of (selector l k q i) = at k shown.selector
+    of (feature l k i) = at k shown.feature
+    of (clock l k i) = at k shown.clock
+
+-- what is shown as 0B is a Clock Source of 001
+clock-kind : (d : List ℕ) → LaidOut d → saidBy d .kind ≡ 0x0B → byte d 2 ≡ 0x0B
+unfolding factsOf
+clock-kind d o = of (told d)
+  where
+    of : {e : Entity} → Told d e → factsOf e .kind ≡ 0x0B → byte d 2 ≡ 0x0B
+    of (unknown n) e = absurd (n o)
+    of (input l k i) e = absurd (omega arith)
+    of (output l k i) e = absurd (omega arith)
+    of (mixer l k q i) e = absurd (omega arith)
+    of (selector l k q i) e = absurd (omega arith)
+    of (feature l k i) e = absurd (omega arith)
+    of (clock l k i) e = k
+
+module _ (ks : List (List ℕ)) (d c : List ℕ) (o : LaidOut d) where
+  fed-is : sources (third ks) d ≡ fedIn o
+  fed-is = sources-laid d o
+
+  source-byte : (j : ℕ) → j < mostPins → byte (recordFor (third ks) d (shownCluster c)) (headSize + j) ≡ byte (fedIn o) j
+  unfolding recordFor
+  source-byte j h =
+      getD-append-add (frontOf (ownId d) (saidBy d .kind) (length (sources (third ks) d)) (shownCluster c)) (pad 0 mostPins (sources (third ks) d)) j 0
+      ∙ pad-at 0 mostPins (sources (third ks) d) j h
+      ∙ ap (λ (l : List ℕ). byte l j) fed-is
+
+  few : length (fedIn o) ≤ mostPins
+  few =
+      let m = pins-few d in
+      let e : length (fedIn o) ≡ length (sources (third ks) d) = ap length (sym fed-is) in
+      let l : length (sources (third ks) d) ≤ saidBy d .pins = simp length-take (omega arith) in
+      omega arith
+
+  bytes-told : ThirdRecord d c (recordFor (third ks) d (shownCluster c))
+  unfolding recordFor
+  bytes-told = record {
+    laid = o;
+    long = record-long (third ks) d (shownCluster c);
+    id = refl;
+    kind = kind-shown d o;
+    channels = refl;
+    no-bitmap = (refl, refl);
+    no-name = refl;
+    pins = ap length fed-is;
+    spare = refl;
+    source = λ j h. source-byte j (let m = few in omega arith);
+    unused = λ j h l. source-byte j l ∙ List·getD-eq-default (fedIn o) 0 h;
+  }
+
+-- what an entity keeps and gives out, in bytes
+module _ {ks ds : List (List ℕ)} (c : Connected (third ks) ds) (clocks : ClocksNamed ds) (known : Rule52 ks ds) (laid : (e : List ℕ) → e ∈ ds → LaidOut e) (d : List ℕ) (m : d ∈ ds) where
+  abbrev cs : List (List ℕ)
+  cs = entering (third ks) (c .cluster) d
+
+  -- what d gives out and keeps, where it is x
+  module _ (x : Entity) (e : entityOf d ≡ x) where
+    own : factsOf x .declares ≡ true → c .cluster (ownId d) ≡ buffer.clusterIn ks (factsOf x .cluster)
+    unfolding givesOut
+    own q = c .given-out d m ∙ ap (λ (y : Entity). pick (factsOf y .declares) (buffer.clusterIn ks (factsOf y .cluster)) (firstOf cs)) e ∙ yes _ _ q
+
+    passed : factsOf x .declares ≡ false → c .cluster (ownId d) ≡ firstOf cs
+    unfolding givesOut
+    passed q = c .given-out d m ∙ ap (λ (y : Entity). pick (factsOf y .declares) (buffer.clusterIn ks (factsOf y .cluster)) (firstOf cs)) e ∙ no _ _ q
+
+    bears : factsOf x .declares ≡ true → clusterId (c .cluster (ownId d)) ≡ factsOf x .cluster
+    bears q = cluster-named ks ds c known d m (ap (λ (y : Entity). factsOf y .declares) e ∙ q) .1 ∙ ap (λ (y : Entity). factsOf y .cluster) e
+
+    keeps : Keeps ks x (length d) cs
+    keeps = subst (λ (y : Entity). Keeps ks y (length d) cs) e (c .fits d m)
+
+    clocked : factsOf x .clocked ≡ true → ClockNamed ds (factsOf x .clock)
+    clocked q = ⊎-elim (λ h. h) (λ n. absurd (clocks d m (ap (λ (y : Entity). factsOf y .clocked) e ∙ q, none n))) (decided _ (reads-any (λ y. eqb (ownId y) k && eqb (byte y 2) 0x0B) (λ y. (ownId y ≡ k) × (byte y 2 ≡ 0x0B)) (λ y. reads-and _ _ (reads-eq (ownId y) k) (reads-eq (byte y 2) 0x0B)) ds))
+      where
+        k : ℕ
+        k = factsOf x .clock
+
+        none : (ClockNamed ds k → ⊥) → (y : List ℕ) → y ∈ ds → ownId y ≡ saidBy d .clock → saidBy y .kind ≡ 0x0B → ⊥
+        none n y i f g = n (record { one = y; among = i; has = (f ∙ ap (λ (z : Entity). factsOf z .clock) e, clock-kind y (laid y i) g) })
+
+  -- with no pin nothing enters
+  no-pin : saidBy d .pins ≡ 0 → firstOf cs ≡ []
+  unfolding firstOf
+  no-pin z = rw z refl
+
+  plainly : Plainly ks ds (c .cluster) d
+  unfolding Keeps factsOf
+  plainly = go (told d) refl
+    where
+      go : {x : Entity} → Told d x → entityOf d ≡ x → Plainly ks ds (c .cluster) d
+      go (unknown n) e = absurd (n (laid d m))
+      go (input o k l) e = plain.input k (bears _ e refl) (subst (λ (y : List ℕ). Few (channelsOf y)) (sym (own _ e refl)) (keeps _ e)) (clocked _ e refl)
+      go (output o k l) e = plain.output k (passed _ e refl) (clocked _ e refl)
+      go (mixer o k q l) e =
+          let h = subst (λ (y : List ℕ). Few (channelsOf y) × (length d ≡ mixerLength (byte d 4) (channelsOf y) (channelsIn cs))) (sym (own _ e refl)) (keeps _ e) in
+          plain.mixer k (bears _ e refl) (h .0) (h .1)
+      go (selector o k q l) e = plain.selector k (passed _ e refl) (keeps _ e)
+      go (feature o k l) e = plain.feature k (passed _ e refl) (keeps _ e)
+      go (clock o k l) e = plain.clock k (passed _ e refl ∙ no-pin (ap (λ (y : Entity). factsOf y .pins) e))
+
+module _ (s b : List ℕ) (t : ThirdConfiguration s b) where
+  laid : (i : ℕ) → i < length (thirdRun t) → LaidOut (getD (thirdRun t) i [])
+  laid i l = t .kept .rule9 (getD (thirdRun t) i []) (member-at [] (thirdRun t) i l)
+
+  accepted-for : (room : ℕ) → Rule16 (thirdRun t) room → thirdVerdict s b room .number ≡ 0
+  accepted-for room h = third-accepted s b room .1 (t, h)
+
+  answer-shows : (room : ℕ) → Rule16 (thirdRun t) room → thirdAnswer s b room ≡ record { number = 0; place = 0; entities = length (thirdRun t) }
+  unfolding runIn
+  answer-shows room h = answer-taken s b room (accepted-for room h) ∙ ap (λ (r : Run). record { number = 0; place = 0; entities = r .count }) (run-kept s b (t .kept))
+
+  clusters-on : (i : ℕ) → i < length (thirdRun t)
+      → getD (clustersShown s b (entitiesThird (t .kept))) i noCluster ≡ shownCluster (thirdCluster t (ownId (getD (thirdRun t) i [])))
+  clusters-on =
+      subst (λ (ks : List (List ℕ)). Represents (third ks) s (placeIn3 (t .kept)) (thirdRun t) (entitiesThird (t .kept)) → (c : Connected (third ks) (thirdRun t)) (i : ℕ) → i < length (thirdRun t)
+      → getD (clustersShown s b (entitiesThird (t .kept))) i noCluster ≡ shownCluster (c .cluster (ownId (getD (thirdRun t) i []))))
+      (buffer-pieces b (t .kept .rule51))
+      (λ r. third-shown r (t .kept .rule51))
+      (represented s b (t .kept)) (t .connected)
+
+  sheet-shows : (d : List ℕ) → Rule16 (thirdRun t) (length d)
+      → thirdSheet s b d ≡ recordsFor (third (thirdBuffer t)) (thirdRun t) (λ x. shownCluster (thirdCluster t x)) ++ drop (length (thirdRun t) * recordSize) d
+  unfolding thirdSheet
+  sheet-shows d h =
+      yes _ _ (eq-eqb _ _ (accepted-for (length d) h))
+      ∙ ap (λ (r : Run). shownIn s r (clustersShown s b r) d) (run-kept s b (t .kept))
+      ∙ shown-same (represented s b (t .kept)) (clustersShown s b (entitiesThird (t .kept))) (λ x. shownCluster (thirdCluster t x)) clusters-on d h
+
+  record-shows : (d : List ℕ) → Rule16 (thirdRun t) (length d) → (i : ℕ) → i < length (thirdRun t)
+      → take recordSize (drop (i * recordSize) (thirdSheet s b d))
+      ≡ recordFor (third (thirdBuffer t)) (getD (thirdRun t) i []) (shownCluster (thirdCluster t (ownId (getD (thirdRun t) i []))))
+  record-shows d h i l =
+      ap (λ (x : List ℕ). take recordSize (drop (i * recordSize) x)) (sheet-shows d h)
+      ∙ record-at (third (thirdBuffer t)) (thirdRun t) (λ x. shownCluster (thirdCluster t x)) i l (drop (length (thirdRun t) * recordSize) d)
+
+  record-bytes : (d : List ℕ) → Rule16 (thirdRun t) (length d) → (i : ℕ) → i < length (thirdRun t)
+      → ThirdRecord (getD (thirdRun t) i []) (thirdCluster t (ownId (getD (thirdRun t) i []))) (take recordSize (drop (i * recordSize) (thirdSheet s b d)))
+  record-bytes d h i l = rw (record-shows d h i l) (bytes-told (thirdBuffer t) (getD (thirdRun t) i []) (thirdCluster t (ownId (getD (thirdRun t) i []))) (laid i l))
+
+  room-enough : (room : ℕ) → 1024 ≤ room → Rule16 (thirdRun t) room
+  room-enough room h = let m = t .kept .rule8 .1 in omega arith
+
+pub third-demand : (s b : List ℕ) → ThirdDemand s b
+third-demand s b = record {
+  accepted = λ d h. (λ e. third-accepted s b (length d) .0 (sym (answer-number s b (length d)) ∙ e) .0, λ t. answer-number s b (length d) ∙ accepted-for s b t (length d) (room-enough s b t (length d) h));
+  refused = refused-both s b;
+  refuses = refuses s b;
+  one-cutting = one-cutting s b;
+  one-buffer = one-buffer s b;
+  one-descriptors = one-descriptors s b;
+  one-clusters = one-clusters s b;
+  from-buffer = λ t d m n. cluster-in-buffer (thirdBuffer t) (thirdRun t) (t .connected) (t .rule52) d m (t .kept .rule9 d m) (λ e. n (clock-kind d (t .kept .rule9 d m) e));
+  plainly = λ t d m. plainly (t .connected) (t .clocks) (t .rule52) (t .kept .rule9) d m;
+  answer-shows = answer-shows s b;
+  sheet-shows = sheet-shows s b;
+  record-shows = record-shows s b;
+  record-bytes = record-bytes s b;
+}

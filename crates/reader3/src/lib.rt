@@ -1,0 +1,1 @@
+// What is proved of the reader of both editions; definitions and laws only.
