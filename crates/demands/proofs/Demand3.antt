@@ -7,11 +7,11 @@ use mathlib.Core.Logic.{_↔_}
 use lib.ListN.{length}
 use native.Mathlib.Omega.{arith}
 use Rattle.topology.specs.Reading.{readingOf}
-use Rattle.records.specs.Sheet.{Rule16}
+use Rattle.records.specs.Sheet.{Rule16, wholeSheet}
 use Rattle.reader.specs.Configuration.{runOf, Configuration}
 use Rattle.reader.proofs.Exactly.{accepted-exactly}
 use Rattle.reader.proofs.Shows.{number-told, one-cutting, one-descriptors, one-clusters, answer-shows, sheet-shows, record-shows, record-bytes, controls-stand, controls-order, controls-counted}
-use Rattle.demands.specs.Demand3.{wholeSheet, Demand3}
+use Rattle.demands.specs.Demand3.{Demand3}
 
 pub room-enough : (s : List ℕ) (room : ℕ) → wholeSheet ≤ room → (t : Configuration s) → Rule16 (runOf (t .kept)) room
 room-enough s room h t = let l = t .kept .rule8 .1 in omega arith

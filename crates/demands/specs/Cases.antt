@@ -24,7 +24,7 @@ use Rattle.table.specs.declared.Control.{Control}
 use Rattle.table.specs.declared.Table.{Table}
 use Rattle.table.specs.Controls.{blankControl}
 use Rattle.topology.specs.Reading.{readingOf, sheetOf}
-use Rattle.demands.specs.Demand3.{wholeSheet}
+use Rattle.records.specs.Sheet.{wholeSheet}
 
 unfoldable pub caseA : List ℕ
 caseA =

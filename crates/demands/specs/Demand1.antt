@@ -3,7 +3,7 @@
 -- they stood. Nothing handed back depends on the descriptor bytes after the call." That each entry point takes every input and ends is
 -- its contract, which has no `requires`; here is what a refusal says and leaves. What is handed back is numbers: it equals a
 -- definition over the inputs at the call, and holds no part of the lent bytes. The one exception is the duet box's stretch (document 02, No. 11), a part of
--- a lent configuration: crate duet, `stretch`.
+-- a lent configuration: crate extent, `stretch`.
 --   RefusedReading s d  ==  what the reader answers and leaves where it refuses: the number and the place are those that the papers
 --                           give, "interface number 0, zero counts and an empty table; the sheet keeps its bytes"
 --   RefusedAnswer Rows st r  ==  what an answer r says where it refuses: the number of the first of the Rows that applies, nothing

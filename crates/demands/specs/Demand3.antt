@@ -1,8 +1,7 @@
 -- Demand 3: "With a sheet of" 1,024 "bytes or more lent, a configuration is accepted exactly when there exist a cutting into descriptors, a
 -- rank on each entity, lower at a source than at its user, and a channel cluster on each entity's output, that keep every rule of
 -- document 01, written without the reader's search. For accepted bytes only one cutting and one set of clusters keep them, and the
--- sheet shows those." What there must be is Configuration (reader/specs).
---   wholeSheet      ==  1,024 bytes (document 02, No. 7)
+-- sheet shows those." What there must be is Configuration (reader/specs); the 1,024 bytes are wholeSheet (records/specs).
 --   run t, cluster t, controls t  ==  of the configuration t: the run's descriptors, the clusters on IDs, the controls
 --   Demand3         ==  accepted: the reader's number is 0 exactly where the bytes are a configuration
 --                       one-cutting, one-descriptors, one-clusters: what keeps the rules is one: the cutting, the run's descriptors byte
@@ -32,14 +31,10 @@ use Rattle.controls.specs.Growth.{tableOf}
 use Rattle.controls.specs.Standing.{Stands}
 use Rattle.controls.specs.Order.{Before}
 use Rattle.records.specs.Records.{recordSize, recordIn}
-use Rattle.records.specs.Sheet.{recordsOf, Rule16}
+use Rattle.records.specs.Sheet.{recordsOf, Rule16, wholeSheet}
 use Rattle.records.specs.Bytes.{RecordBytes}
 use Rattle.topology.specs.Reading.{readingOf, sheetOf}
 use Rattle.reader.specs.Configuration.{runOf, Configuration}
-
--- a sheet that holds 32 records
-abbrev pub wholeSheet : ℕ
-wholeSheet = 1024
 
 module _ {s : List ℕ} (t : Configuration s) where
   abbrev pub run : List (List ℕ)

@@ -1,6 +1,5 @@
 -- A reading into a draft of at most 1,024 bytes, and the sheet written from it.
---   room-enough     ==  a sheet of 1,024 bytes is read as a longer one is
---   draft-reading   ==  so the draft's reading is the sheet's
+--   draft-reading   ==  the draft's reading is the sheet's: a whole sheet is read as a longer one is
 --   records-inside  ==  the records that are read fit in what was lent
 --   records-held    ==  .. and in the draft
 --   records-copied  ==  they stand in the draft's front, and copied to the sheet's they are what the reader would have written
@@ -25,32 +24,20 @@ use Rattle.records.specs.Sheet.{recordsFor, recordsOf, record-long}
 use Rattle.edition.specs.Edition.{ownId}
 use Rattle.edition.specs.Audio.{audio}
 use Rattle.topology.specs.declared.Reading.{Reading}
-use Rattle.topology.specs.Reading.{judgedThen, roomJudged, verdictOf, refusedReading, takenReading, readingOf, sheetOf}
+use Rattle.topology.specs.Reading.{readingOf, sheetOf}
+use Rattle.topology.specs.Verdict.{reading-whole}
 use Rattle.reader.specs.Refusals.{Shown}
 use Rattle.reader.proofs.Exactly.{accepted-exactly}
 use Rattle.reader.proofs.Shows.{number-told, answer-shows, sheet-shows, run, cluster}
-use Rattle.duet.specs.Drafts.{draftSize}
+use Rattle.records.specs.Sheet.{wholeSheet}
 
 module _ (s : List ℕ) where
-  enough : (room : ℕ) → draftSize ≤ room → roomFor (surveyOf s .run) room ≡ true
-  unfolding roomFor
-  enough room h = le-leb (held (surveyOf s .run) * recordSize) room (omega arith)
-
-  verdict-enough : (room : ℕ) → draftSize ≤ room → verdictOf s room ≡ verdictOf s draftSize
-  unfolding verdictOf roomJudged
-  verdict-enough room h =
-      ap (λ (b : Bool). judgedThen s (refuse 16 (keptAt b (surveyOf s .header)) none)) (enough room h ∙ sym (enough draftSize (omega arith)))
-
-  pub room-enough : (room : ℕ) → draftSize ≤ room → readingOf s room ≡ readingOf s draftSize
-  unfolding readingOf
-  room-enough room h = ap (λ (v : Refusal). pick (eqb (v .number) 0) (takenReading s (surveyOf s)) (refusedReading v)) (verdict-enough room h)
-
-  pub draft-reading : (room : ℕ) → readingOf s (min room draftSize) ≡ readingOf s room
+  pub draft-reading : (room : ℕ) → readingOf s (min room wholeSheet) ≡ readingOf s room
   draft-reading room =
       ⊎-elim
-      (λ (h : room < draftSize). let e : min room draftSize ≡ room = omega arith in ap (readingOf s) e)
-      (λ (n : room < draftSize → ⊥). let e : min room draftSize ≡ draftSize = omega arith in ap (readingOf s) e ∙ sym (room-enough room (omega arith)))
-      (decided (ltb room draftSize) (reads-lt room draftSize))
+      (λ (h : room < wholeSheet). let e : min room wholeSheet ≡ room = omega arith in ap (readingOf s) e)
+      (λ (n : room < wholeSheet → ⊥). let e : min room wholeSheet ≡ wholeSheet = omega arith in ap (readingOf s) e ∙ sym (reading-whole s room (omega arith)))
+      (decided (ltb room wholeSheet) (reads-lt room wholeSheet))
 
   shown : (room : ℕ) → readingOf s room .number ≡ 0 → Shown s room
   shown room e = accepted-exactly s room .0 (sym (number-told s room) ∙ e)

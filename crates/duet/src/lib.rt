@@ -7,7 +7,8 @@ ghost use Prim.Native.Nat.{_*_, _≤_, min};
 ghost use lib.ListN.{length, take, drop};
 ghost use Rattle.records.specs.Records.{recordSize};
 ghost use Rattle.topology.specs.Reading.{readingOf};
-ghost use Rattle.duet.specs.Drafts.{draftSize, Drafted};
+ghost use Rattle.records.specs.Sheet.{wholeSheet};
+ghost use Rattle.duet.specs.Drafts.{Drafted};
 ghost use Rattle.duet.specs.Box.{otherSide, socketOf, withSocket, emptySocket, emptyDuet, controlsOn, soundSocket, soundBeside, soundDuet};
 ghost use Rattle.duet.specs.Plugging.{admittedBy, welcomed, Settled, turnedAway, AdmittedIn, PlugsIn, refusal, unplugAnswer};
 ghost use Rattle.duet.specs.Asking.{loadIn, answerIn, answeredBy, HandedDown, AnsweredIn};
@@ -279,7 +280,7 @@ fn turned_away(duet: Duet, number: u8, place: usize) -> Admitted
 
 // How many bytes of a draft a sheet of that many stands for.
 fn draft_room(bytes: usize) -> usize
-    ensures { λ r. ⌜ r ≡ min bytes draftSize ⌝ }
+    ensures { λ r. ⌜ r ≡ min bytes wholeSheet ⌝ }
 {
     if bytes < SHEET { bytes } else { SHEET }
 }
@@ -308,8 +309,8 @@ fn copy_records(draft: &[u8], count: usize, sheet: &mut [u8])
 
 // A microphone read with a draft lent in the place of a sheet of that many bytes.
 fn read_draft(config: &[u8], bytes: usize, draft: &mut [u8]) -> Plugged
-    requires { ⌜ length (now draft) ≡ draftSize ⌝ }
-    ensures { λ r. ⌜ Drafted (now (config .entry)) (min bytes draftSize) (now (draft .entry)) r (now (draft .exit)) ⌝ }
+    requires { ⌜ length (now draft) ≡ wholeSheet ⌝ }
+    ensures { λ r. ⌜ Drafted (now (config .entry)) (min bytes wholeSheet) (now (draft .entry)) r (now (draft .exit)) ⌝ }
 {
     let room = draft_room(bytes);
     request::plug_in(config, &mut draft[..room])
@@ -356,7 +357,7 @@ fn admit(
     draft: &mut [u8],
     sheet: &mut [u8],
 ) -> Admitted
-    requires { ⌜ length (now draft) ≡ draftSize ⌝ }
+    requires { ⌜ length (now draft) ≡ wholeSheet ⌝ }
     ensures { λ r. ⌜ AdmittedIn duet side (admittedBy met (readingOf (now (config .entry)) (length (now (sheet .entry))))) (now (config .entry)) (now (sheet .entry)) r (now (sheet .exit)) ⌝ }
 {
     let plugged = read_draft(config, sheet.len(), draft);

@@ -31,7 +31,7 @@ use Rattle.records.specs.Records.{recordSize, roomFor}
 use Rattle.topology.specs.declared.Finding.{Finding}
 use Rattle.topology.specs.declared.Reading.{Reading}
 use Rattle.topology.specs.Reading.{clustersAt, roomJudged, verdictOf, findingWith, findingOf, refusedReading, readingOf}
-use Rattle.topology.specs.Verdict.{finding-taken, verdict-refused, verdict-room}
+use Rattle.topology.specs.Verdict.{finding-refusal, finding-taken, verdict-refused, verdict-whole}
 use Rattle.reader.specs.Configuration.{runOf, placeOfRun, Configuration}
 use Rattle.reader.proofs.Surveyed.{entitiesOf, survey-kept, represented}
 use Rattle.reader.proofs.Exactly.{accepted-exactly}
@@ -39,7 +39,7 @@ use Rattle.reader.proofs.Shows.{number-told}
 use Rattle.extent.specs.declared.Located.{Located}
 use Rattle.extent.specs.declared.Located.the-variants.{Refused, From}
 use Rattle.extent.specs.Stretch.{entityPlace, known, locatedBy, locatedIn, refusalOf, bytesAt}
-use Rattle.demands.specs.Demand3.{wholeSheet}
+use Rattle.records.specs.Sheet.{wholeSheet}
 use Rattle.duets.specs.Stretches.{StretchShown}
 
 module _ (s : List ℕ) where
@@ -51,10 +51,7 @@ module _ (s : List ℕ) where
   refused-so room n = verdict-refused s found refl room n
 
   roomy : (room : ℕ) → wholeSheet ≤ room → found .refusal .number ≡ 0 → verdictOf s room .number ≡ 0
-  unfolding roomJudged roomFor refuse
-  roomy room h z =
-      let e = le-leb (held (surveyOf s .run) * recordSize) room (omega arith) in
-      ap (λ (r : Refusal). r .number) (verdict-room s found refl room z ∙ ap (λ (b : Bool). refuse 16 (keptAt b (surveyOf s .header)) none) e)
+  roomy room h z = ap (λ (r : Refusal). r .number) (verdict-whole s room h ∙ sym (finding-refusal s found refl)) ∙ z
 
   judged-so : (x room : ℕ) → wholeSheet ≤ room → (readingOf s room .number ≡ 0 → ⊥) → locatedIn s x ≡ Refused (readingOf s room .number) (readingOf s room .place)
   unfolding locatedBy readingOf refusedReading

@@ -13,7 +13,7 @@ use Rattle.topology.specs.Reading.{readingOf}
 use Rattle.reader.specs.Configuration.{runOf, Configuration}
 use Rattle.extent.specs.declared.Located.the-variants.{Refused}
 use Rattle.extent.specs.Stretch.{locatedIn, refusalOf, bytesAt}
-use Rattle.demands.specs.Demand3.{wholeSheet}
+use Rattle.records.specs.Sheet.{wholeSheet}
 
 pub record StretchShown (s : List ℕ) : Type 0 where
   pub shown : (t : Configuration s) (d : List ℕ) → d ∈ runOf (t .kept)

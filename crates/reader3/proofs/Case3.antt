@@ -36,13 +36,14 @@ use Rattle.sweep3.specs.Sweep.{firstId, givenIds}
 use Rattle.keeping3.specs.Keeping.{keepsBy, breach13}
 use Rattle.clusters3.specs.Shown.{clustersBy}
 use Rattle.records.specs.Records.{headOf, recordOf, recordsTo, roomFor, shownIn}
+use Rattle.records.specs.Sheet.{wholeSheet}
 use Rattle.third.specs.Judgement.{runFor, runJudged, clustersJudged, linksJudged, frameJudged, thirdThen, roomRefused, thirdVerdict, sheetRefused, thirdAnswer, thirdSheet}
 use Rattle.protocol.specs.Protocol.{protocolOf, sheetReading, eitherReading, eitherSheet}
 use Rattle.reader3.specs.Case3.{caseC, caseD, monoBuffer, Cases3}
 use Rattle.reader3.proofs.ThirdShows.{third-demand}
 
 abbrev lentWhole : List ℕ
-lentWhole = replicate 1024 0
+lentWhole = replicate wholeSheet 0
 
 pub cases-3 : Cases3
 unfolding caseC caseD monoBuffer refuse placeOr firstFrom total any pad firstIn somewhere all mem joins step passFrom passes put given tabulateFrom wrongId endBy restFromBy restBy reachBy breachBy searched isInterface isClass isAudio isSetting wants foundFrom breach1 breach2 wrongInterface breach4 interfacesJudged runEnd frameFrom frameOf straysFrom isThirdHeader thirdBreach5 thirdBreach6 thirdGroupJudged thirdJudged entityOf isUnknown factsOf foundCluster clusterIn clusterWith isWrongCluster foundOr breach51 firstOf featureLength keeps nodeOf nodesFrom runIn breach10 lookupBelow sourceNumber wrongSource breach11 ordered breach12 wrongClockBy breachClock lesser breach11Third isNowhere unknownBy breach52 firstId givenIds keepsBy breach13 clustersBy headOf recordOf recordsTo roomFor shownIn runFor runJudged clustersJudged linksJudged frameJudged thirdThen roomRefused thirdVerdict sheetRefused thirdAnswer thirdSheet protocolOf sheetReading eitherReading eitherSheet

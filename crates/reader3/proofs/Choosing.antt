@@ -32,6 +32,7 @@ use Rattle.cutting.specs.Rules1to9.{Opened, openingRows}
 use Rattle.cutting.specs.Survey.{verdictThen}
 use Rattle.cutting.specs.Context.{cut-told, frame-told}
 use Rattle.cutting.specs.Exact.{opening-answers, opening-numbered, four-kept}
+use Rattle.records.specs.Sheet.{wholeSheet}
 use Rattle.topology.specs.declared.Reading.{Reading}
 use Rattle.topology.specs.Reading.{judgedThen, verdictOf, refusedReading, readingOf, sheetOf}
 use Rattle.third.specs.declared.SheetAnswer.{SheetAnswer}
@@ -114,7 +115,7 @@ module _ (s : List ℕ) (o : Opened s) where
           ∙ ap (λ (d : List ℕ). byte d 7) control-is
 
 -- demand 3 of both editions together
-module _ (s b d : List ℕ) (h : 1024 ≤ length d) where
+module _ (s b d : List ℕ) (h : wholeSheet ≤ length d) where
   by-third : eqb (protocolOf s) version3 ≡ true → (eitherReading s b (length d) .number ≡ 0) ↔ EitherConfiguration s b
   unfolding sheetReading
   by-third e =

@@ -45,7 +45,7 @@ use Rattle.clusters3.specs.Shown.{shownCluster, clustersBy}
 use Rattle.clusters3.specs.Rule13Laws.{third-shown}
 use Rattle.clusters3.specs.InBuffer.{cluster-named, cluster-in-buffer}
 use Rattle.records.specs.Records.{headSize, recordSize, frontOf, recordFor, shownIn}
-use Rattle.records.specs.Sheet.{recordsFor, Rule16, shown-same, record-long, record-at}
+use Rattle.records.specs.Sheet.{recordsFor, Rule16, wholeSheet, shown-same, record-long, record-at}
 use Rattle.third.specs.declared.SheetAnswer.{SheetAnswer}
 use Rattle.third.specs.Judgement.{runFor, clustersShown, thirdVerdict, sheetRefused, sheetTaken, thirdAnswer, thirdSheet}
 use Rattle.reader3.specs.ThirdConfiguration.{placeIn3, ThirdConfiguration}
@@ -283,7 +283,7 @@ module _ (s b : List ℕ) (t : ThirdConfiguration s b) where
       → ThirdRecord (getD (thirdRun t) i []) (thirdCluster t (ownId (getD (thirdRun t) i []))) (take recordSize (drop (i * recordSize) (thirdSheet s b d)))
   record-bytes d h i l = rw (record-shows d h i l) (bytes-told (thirdBuffer t) (getD (thirdRun t) i []) (thirdCluster t (ownId (getD (thirdRun t) i []))) (laid i l))
 
-  room-enough : (room : ℕ) → 1024 ≤ room → Rule16 (thirdRun t) room
+  room-enough : (room : ℕ) → wholeSheet ≤ room → Rule16 (thirdRun t) room
   room-enough room h = let m = t .kept .rule8 .1 in omega arith
 
 pub third-demand : (s b : List ℕ) → ThirdDemand s b

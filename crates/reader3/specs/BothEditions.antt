@@ -24,7 +24,7 @@ use Rattle.edition3.specs.Third.{third}
 use Rattle.cutting.specs.Rules1to9.{Opened}
 use Rattle.clusters3.specs.Shown.{shownCluster}
 use Rattle.records.specs.Records.{recordSize, recordFor}
-use Rattle.records.specs.Sheet.{recordsFor, Rule16}
+use Rattle.records.specs.Sheet.{recordsFor, Rule16, wholeSheet}
 use Rattle.topology.specs.Reading.{readingOf, sheetOf}
 use Rattle.third.specs.Judgement.{thirdAnswer, thirdSheet}
 use Rattle.protocol.specs.Protocol.{version3, sheetReading, eitherReading, eitherSheet}
@@ -50,7 +50,7 @@ pub record RefusedSheet (s b d : List ℕ) : Type 0 where
   pub sheet : thirdSheet s b d ≡ d
 
 pub record ThirdDemand (s b : List ℕ) : Type 0 where
-  pub accepted : (d : List ℕ) → 1024 ≤ length d → (thirdAnswer s b (length d) .number ≡ 0) ↔ ThirdConfiguration s b
+  pub accepted : (d : List ℕ) → wholeSheet ≤ length d → (thirdAnswer s b (length d) .number ≡ 0) ↔ ThirdConfiguration s b
   pub refused : (room n p : ℕ) → (n ≡ 0 → ⊥)
       → ((thirdAnswer s b room .number ≡ n) × (thirdAnswer s b room .place ≡ p)) ↔ RefusedThird s b room n p
   pub refuses : (d : List ℕ) → (thirdAnswer s b (length d) .number ≡ 0 → ⊥) → RefusedSheet s b d
@@ -79,4 +79,4 @@ pub record Choice (s b : List ℕ) : Type 0 where
   pub others-read : (o : Opened s) → (byte (o .control) 7 ≡ version3 → ⊥) → (d : List ℕ)
       → (eitherReading s b (length d) ≡ readingOf s (length d)) × (eitherSheet s b d ≡ sheetOf s d)
   pub unopened : (Opened s → ⊥) → (d : List ℕ) → (eitherReading s b (length d) ≡ readingOf s (length d)) × (eitherSheet s b d ≡ sheetOf s d)
-  pub either-accepted : (d : List ℕ) → 1024 ≤ length d → (eitherReading s b (length d) .number ≡ 0) ↔ EitherConfiguration s b
+  pub either-accepted : (d : List ℕ) → wholeSheet ≤ length d → (eitherReading s b (length d) .number ≡ 0) ↔ EitherConfiguration s b

@@ -14,6 +14,7 @@ use Prim.Native.Nat.{ℕ}
 use mathlib.Core.Path.{_≡_}
 use mathlib.Core.List.{List, [], _∷_, _++_}
 use lib.ListN.{set, replicate}
+use Rattle.records.specs.Sheet.{wholeSheet}
 use Rattle.protocol.specs.Protocol.{eitherReading, eitherSheet}
 use Rattle.reader3.specs.ThirdConfiguration.{ThirdConfiguration}
 
@@ -45,8 +46,8 @@ abbrev pub lentC : List ℕ
 lentC = replicate 128 0xFF
 
 pub record AnswerC : Type 0 where
-  pub accepted : eitherReading caseC monoBuffer 1024 .number ≡ 0
-  pub entities : eitherReading caseC monoBuffer 1024 .entities ≡ 4
+  pub accepted : eitherReading caseC monoBuffer wholeSheet .number ≡ 0
+  pub entities : eitherReading caseC monoBuffer wholeSheet .entities ≡ 4
   pub sheet : eitherSheet caseC monoBuffer lentC
       ≡ (0x01 ∷ 0x0B ∷ 0x00 ∷ 0x00 ∷ 0x00 ∷ 0x00 ∷ 0x00 ∷ 0x00 ∷ replicate 24 0)
       ++ (0x02 ∷ 0x02 ∷ 0x01 ∷ 0x00 ∷ 0x00 ∷ 0x00 ∷ 0x00 ∷ 0x00 ∷ replicate 24 0)
@@ -56,8 +57,8 @@ pub record AnswerC : Type 0 where
 
 -- "Bytes past the last record stay"
 pub record AnswerD : Type 0 where
-  pub accepted : eitherReading caseD monoBuffer 1024 .number ≡ 0
-  pub entities : eitherReading caseD monoBuffer 1024 .entities ≡ 3
+  pub accepted : eitherReading caseD monoBuffer wholeSheet .number ≡ 0
+  pub entities : eitherReading caseD monoBuffer wholeSheet .entities ≡ 3
   pub sheet : eitherSheet caseD monoBuffer lentC
       ≡ (0x01 ∷ 0x0B ∷ 0x00 ∷ 0x00 ∷ 0x00 ∷ 0x00 ∷ 0x00 ∷ 0x00 ∷ replicate 24 0)
       ++ (0x02 ∷ 0x02 ∷ 0x01 ∷ 0x00 ∷ 0x00 ∷ 0x00 ∷ 0x00 ∷ 0x00 ∷ replicate 24 0)
@@ -66,9 +67,9 @@ pub record AnswerD : Type 0 where
   pub configuration : ThirdConfiguration caseD monoBuffer
 
 pub record Unread (s b : List ℕ) (n p : ℕ) : Type 0 where
-  pub number : eitherReading s b 1024 .number ≡ n
-  pub place : eitherReading s b 1024 .place ≡ p
-  pub no-entities : eitherReading s b 1024 .entities ≡ 0
+  pub number : eitherReading s b wholeSheet .number ≡ n
+  pub place : eitherReading s b wholeSheet .place ≡ p
+  pub no-entities : eitherReading s b wholeSheet .entities ≡ 0
   pub sheet : eitherSheet s b lentC ≡ lentC
 
 -- the ID stands at place 4 of the buffer, the Input Terminal at place 40 of the configuration, its clock ID at 47

@@ -4,6 +4,7 @@
 --   record-long           ==  a record is recordSize bytes long
 --   records-same          ==  what the reader shows of a run that stands for ds
 --   Rule16 ds room        ==  the sheet of room bytes has a record's, 32, for each of the descriptors ds
+--   wholeSheet            ==  room for as many records as a run may have entities; whole-sheet: 1,024 bytes (document 02, No. 7)
 --   reads-room            ==  the test of room decides rule 16, of a run that stands for ds
 --   shown-same            ==  what a sheet with room holds afterwards: the records, then the lent bytes as they stood
 --   record-at             ==  the record of the i-th descriptor stands at i times recordSize
@@ -21,7 +22,7 @@ use Rattle.layout.specs.Layout.{mostPins, noCluster}
 use Rattle.edition.specs.Edition.{Edition, ownId, sources}
 use Rattle.edition.specs.Audio.{audio}
 use Rattle.entities.specs.declared.Run.{Run}
-use Rattle.entities.specs.Run.{held, nodeAt}
+use Rattle.entities.specs.Run.{mostEntities, held, nodeAt}
 use Rattle.entities.specs.Represents.{Represents}
 use Rattle.records.specs.Records.{recordSize, recordFor, recordOf, recordsTo, roomFor, shownIn, record-of}
 
@@ -44,6 +45,12 @@ records-more ed (e ∷ x) d cluster = ap (λ (l : List ℕ). recordFor ed e (clu
 
 abbrev pub Rule16 : List (List ℕ) → ℕ → Type 0
 Rule16 ds room = length ds * recordSize ≤ room
+
+abbrev pub wholeSheet : ℕ
+wholeSheet = mostEntities * recordSize
+
+pub whole-sheet : wholeSheet ≡ 1024
+whole-sheet = refl
 
 pub reads-room : {ed : Edition} {s : List ℕ} {p : ℕ} {ds : List (List ℕ)} {r : Run} → Represents ed s p ds r → (room : ℕ) → Reads (roomFor r room) (Rule16 ds room)
 unfolding roomFor

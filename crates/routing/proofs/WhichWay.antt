@@ -26,11 +26,11 @@ use Rattle.sources.specs.GraphLaws.{known-run}
 use Rattle.ranks.specs.Rule12.{Upstream}
 use Rattle.ranks.specs.Rule12Laws.{chains, ranking-run}
 use Rattle.clusters.specs.Topology.{source-of}
-use Rattle.records.specs.Records.{roomFor}
+use Rattle.records.specs.Sheet.{wholeSheet}
 use Rattle.cutting.specs.declared.Survey.{Survey}
 use Rattle.cutting.specs.Survey.{surveyOf}
 use Rattle.topology.specs.Reading.{judgedThen, roomJudged, verdictOf}
-use Rattle.topology.specs.Verdict.{judged-chain}
+use Rattle.topology.specs.Verdict.{judged-chain, verdict-whole}
 use Rattle.reader.specs.Configuration.{runOf, Configuration}
 use Rattle.reader.specs.Refusals.{Refused}
 use Rattle.reader.proofs.Surveyed.{entitiesOf, survey-kept, represented}
@@ -45,15 +45,12 @@ use Rattle.routing.specs.WaysLaws.{ways-rise}
 use Rattle.routing.specs.RoutesLaws.{ways-only, ways-each, listed-one, route-upstream}
 use Rattle.routing.specs.Listing.{namedIn, isOutput, waysFor, listingIn, listIn, listingOf, listOf}
 use Rattle.routing.specs.ListingLaws.{named-own, reads-output}
-use Rattle.routing.specs.WhichWay.{wholeRoom, FromOutput, RightListing, WhichWay}
+use Rattle.routing.specs.WhichWay.{FromOutput, RightListing, WhichWay}
 use Rattle.routing.specs.WhichWay as statement
 
 -- with that room 16 is never given
-verdict-is : (s : List ℕ) → verdictOf s wholeRoom ≡ judgedThen s none
-unfolding verdictOf roomJudged roomFor
-verdict-is s =
-    let few : held (surveyOf s .run) ≤ mostEntities = min-le-right (surveyOf s .run .count) mostEntities in
-    ap (judgedThen s) (refuse-on 16 none (yes _ _ (le-leb (held (surveyOf s .run) * 32) wholeRoom (omega arith))))
+verdict-is : (s : List ℕ) → verdictOf s wholeSheet ≡ judgedThen s none
+verdict-is s = verdict-whole s wholeSheet (omega arith)
 
 module _ (s : List ℕ) (c : Configuration s) where
   abbrev ds : List (List ℕ)
@@ -65,7 +62,7 @@ module _ (s : List ℕ) (c : Configuration s) where
   accepted : judgedThen s none .number ≡ 0
   accepted =
       let few = c .kept .rule8 .1 in
-      ap (λ (r : Refusal). r .number) (sym (verdict-is s)) ∙ accepted-exactly s wholeRoom .1 (c, omega arith)
+      ap (λ (r : Refusal). r .number) (sym (verdict-is s)) ∙ accepted-exactly s wholeSheet .1 (c, omega arith)
 
   run-is : surveyOf s .run ≡ run
   run-is = ap (λ (v : Survey). v .run) (survey-kept s (c .kept))
@@ -178,15 +175,15 @@ module _ (s : List ℕ) (x room : ℕ) where
   answered = ⊎-elim kept refused (decided (eqb (judgedThen s none .number) 0) (reads-eq (judgedThen s none .number) 0))
     where
       kept : judgedThen s none .number ≡ 0 → RightListing s x room (listingOf s x room)
-      kept e = answer-kept s (accepted-exactly s wholeRoom .0 (ap (λ (r : Refusal). r .number) (verdict-is s) ∙ e) .0) x room
+      kept e = answer-kept s (accepted-exactly s wholeSheet .0 (ap (λ (r : Refusal). r .number) (verdict-is s) ∙ e) .0) x room
 
       refused : (judgedThen s none .number ≡ 0 → ⊥) → RightListing s x room (listingOf s x room)
       refused n =
           subst (RightListing s x room) (sym (reader-refuses (judgedThen s none .number) (judgedThen s none .place) n refl))
-          (statement.by-reader n (refused-exactly s wholeRoom (judgedThen s none .number) (judgedThen s none .place) n .0 (verdict-is s)))
+          (statement.by-reader n (refused-exactly s wholeSheet (judgedThen s none .number) (judgedThen s none .place) n .0 (verdict-is s)))
 
   one-answer : (r : Listing) → RightListing s x room r → listingOf s x room ≡ r
-  one-answer r (statement.by-reader {n} {p} z f) = reader-refuses n p z (sym (verdict-is s) ∙ refused-exactly s wholeRoom n p z .1 f)
+  one-answer r (statement.by-reader {n} {p} z f) = reader-refuses n p z (sym (verdict-is s) ∙ refused-exactly s wholeSheet n p z .1 f)
   one-answer r (statement.by-id c n) = not-output s c x room (λ o. n (o .0) (o .1))
   one-answer r (statement.by-many c f h) = too-many s c x f room h
   one-answer r (statement.by-room c f h b) = too-short s c x f h room b

@@ -6,18 +6,20 @@
 --   survey-refusal   ==  a survey's refusal is the verdict of the rules 1 to 9
 --   finding-refusal, finding-taken  ==  a finding's refusal is the verdict of the rules 1 to 15; where there is none it is the whole of what is found
 --   verdict-refused, verdict-room  ==  with rule 16 behind them
-use Prim.Native.Nat.{ℕ}
+--   verdict-whole    ==  with a whole sheet lent, or more, 16 is never given; reading-whole: so the answer is the same
+use Prim.Native.Nat.{ℕ, _*_, _≤_}
 use mathlib.Core.Path.{_≡_, refl, sym, ap, _∙_}
 use mathlib.Core.Bool.{Bool, true, false}
 use mathlib.Core.List.{List}
 use lib.Dec.{eqb}
 use native.Mathlib.Omega.{arith}
-use borrow.Author.Tests.{eq-eqb, ne-eqb, eqb-true}
+use borrow.Author.Tests.{eq-eqb, ne-eqb, eqb-true, le-leb}
 use Rattle.ground.specs.declared.Refusal.{Refusal}
 use Rattle.ground.specs.Pick.{pick, yes, no}
-use Rattle.ground.specs.Refuse.{none, Chain, chain-end, chain-more, chain-both, chain-none}
+use Rattle.ground.specs.Refuse.{none, refuse-on, Chain, chain-end, chain-more, chain-both, chain-none}
 use Rattle.layout.specs.declared.Cluster.{Cluster}
 use Rattle.entities.specs.declared.Run.{Run}
+use Rattle.entities.specs.Run.{held}
 use Rattle.cutting.specs.declared.Survey.{Survey}
 use Rattle.cutting.specs.Survey.{verdictThen, verdict, refusedSurvey, surveyed, surveyOf}
 use Rattle.cutting.specs.Verdict.{verdict-chain}
@@ -25,8 +27,10 @@ use Rattle.groups.specs.Reading.{frameOf}
 use Rattle.connections.specs.declared.Connected.{Connected}
 use Rattle.connections.specs.Judgement.{judged, clustersFor, refusedBy, connectedIn}
 use Rattle.connections.specs.JudgementLaws.{connected-chain}
+use Rattle.records.specs.Records.{recordSize, roomFor}
+use Rattle.records.specs.Sheet.{wholeSheet}
 use Rattle.topology.specs.declared.Finding.{Finding}
-use Rattle.topology.specs.Reading.{clustersAt, restJudged, surveyJudged, judgedThen, roomJudged, verdictOf, refusedFinding, findingWith, foundBy, findingOf}
+use Rattle.topology.specs.Reading.{clustersAt, restJudged, surveyJudged, judgedThen, roomJudged, verdictOf, refusedFinding, findingWith, foundBy, findingOf, refusedReading, takenReading, readingOf}
 
 numberOf : Refusal → ℕ
 numberOf r = r .number
@@ -102,3 +106,14 @@ module _ (s : List ℕ) (f : Finding) (e : f ≡ findingOf s) where
     pub verdict-room : f .refusal .number ≡ 0 → verdictOf s room ≡ roomJudged (surveyOf s) room none
     unfolding verdictOf
     verdict-room z = judged-chain s .on (sym (ap (λ (x : Refusal). x .number) finding-refusal) ∙ z) (roomJudged (surveyOf s) room none)
+
+module _ (s : List ℕ) where
+  pub verdict-whole : (room : ℕ) → wholeSheet ≤ room → verdictOf s room ≡ judgedThen s none
+  unfolding verdictOf roomJudged roomFor
+  verdict-whole room h = ap (judgedThen s) (refuse-on 16 none (yes _ _ (le-leb (held (surveyOf s .run) * recordSize) room (omega arith))))
+
+  pub reading-whole : (room : ℕ) → wholeSheet ≤ room → readingOf s room ≡ readingOf s wholeSheet
+  unfolding readingOf
+  reading-whole room h =
+      ap (λ (v : Refusal). pick (eqb (v .number) 0) (takenReading s (surveyOf s)) (refusedReading v))
+      (verdict-whole room h ∙ sym (verdict-whole wholeSheet (omega arith)))

@@ -9,18 +9,19 @@ use lib.Seq.{length-take-le}
 use Rattle.topology.specs.Reading.{readingOf}
 use Rattle.request.specs.declared.Plugged.{Plugged}
 use Rattle.request.specs.Plugged.{stateOf, PluggedIn}
-use Rattle.duet.specs.Drafts.{draftSize, Drafted}
+use Rattle.records.specs.Sheet.{wholeSheet}
+use Rattle.duet.specs.Drafts.{Drafted}
 use Rattle.duet.proofs.read_draft.Statement.{statement}
 use Rattle.duet.proofs.read_draft.Tie as tie
 
-module _ (s z : List ℕ) (m n : ℕ) (l : length z ≡ draftSize) (e : m ≡ min n draftSize) where
+module _ (s z : List ℕ) (m n : ℕ) (l : length z ≡ wholeSheet) (e : m ≡ min n wholeSheet) where
   inside : m ≤ length z
   inside = omega arith
 
   front : m ≡ length (take m z)
   front = sym (length-take-le m z inside)
 
-  drafts : (q : Plugged) (y : List ℕ) → PluggedIn s (take m z) q y → Drafted s (min n draftSize) z q (y ++ drop m z)
+  drafts : (q : Plugged) (y : List ℕ) → PluggedIn s (take m z) q y → Drafted s (min n wholeSheet) z q (y ++ drop m z)
   drafts q y p = rw (← e) (record {
     reading = p .reading ∙ ap (readingOf s) (sym front);
     state = p .state ∙ ap (λ (x : ℕ). stateOf (readingOf s x)) (sym front);
