@@ -1,23 +1,21 @@
 -- The rules of the 3.0 edition and what is said plainly of the bytes are one. `third` finds the descriptor of a cluster that an entity names by its ID; in a buffer
 -- whose IDs are distinct that is the one that bears the ID, and where the ID is known there is one.
---   clock-kind        ==  what is shown as 0B is a Clock Source of 001; kind-clock: and the other way round
 --   gives-plainly, plainly-gives  ==  what a descriptor gives out by the edition, it gives out plainly, where its cluster ID is known; and the other way round
 --   keeps-plainly, plainly-keeps  ==  so with the rule that it keeps, by what it gives out
---   clocked-plainly, plainly-clocked  ==  so with its clock
 --   known-plainly     ==  who gives out plainly names a known cluster
+--   all-give, fits-plainly  ==  the same of a run whose descriptors have their layouts
 --   rule13-plainly, broken-plainly  ==  so rule 13, and who breaks it; plainly: all that demand 3 has of a descriptor
---   plain-exactly     ==  THE THEOREM: a configuration of the edition is one in plain words
+--   plain-third, third-plain  ==  so a configuration of the edition is one in plain words, and the other way round
+--   plain-exactly     ==  THE THEOREM
 use Prim.Native.Nat.{ℕ, zero, suc, _+_, _≤_, _<_}
 use mathlib.Core.Path.{_≡_, refl, sym, ap, _∙_, subst}
-use mathlib.Core.Bool.{true, _&&_}
+use mathlib.Core.Bool.{true}
 use mathlib.Core.List.{List, map}
-use mathlib.Core.Logic.{_↔_, ⊎-elim}
+use mathlib.Core.Logic.{_↔_}
 use lib.ListN.{length, take, drop}
-use lib.Dec.{eqb}
 use native.Mathlib.Omega.{arith}
-use Rattle.ground.specs.Pick.{pick, decided, reads-eq, reads-and, true≠false}
+use Rattle.ground.specs.Pick.{pick, true≠false}
 use Rattle.ground.specs.Numbers.{byte, word}
-use Rattle.ground.specs.Lists.{reads-any}
 use Rattle.ground.specs.First.{Sound}
 use Rattle.graph.specs.Members.{_∈_}
 use Rattle.layout.specs.FormatLaws.{open-at}
@@ -28,40 +26,15 @@ use Rattle.layout3.specs.LayoutLaws.{Told, told, unknown, input, output, mixer,
 use Rattle.buffer.specs.Clusters.{clusterId, channelsOf, WrongCluster, SameContent}
 use Rattle.buffer.specs.Reading.{clusterIn}
 use Rattle.edition.specs.Edition.{ownId}
-use Rattle.edition3.specs.Third.{saidBy, firstOf, channelsIn, Few, mixerLength, featureLength, Keeps, givesOut, third, UnknownCluster, Rule52, WrongClock}
+use Rattle.edition3.specs.Third.{firstOf, channelsIn, Few, mixerLength, featureLength, Keeps, givesOut, third, UnknownCluster, Rule52}
 use Rattle.links3.specs.Rules.{ClocksNamed}
 use Rattle.clusters.specs.Rule13.{entering, GivenOut, Fits, Rule13, Broken, Connected}
+use Rattle.clusters.specs.Topology.{source-of}
 use Rattle.clusters3.specs.Rule13Laws.{FoundById, borne, unborne, found-by-id, found-only}
 use Rattle.reader3.specs.ThirdConfiguration.{runIn3, clustersIn, ThirdConfiguration}
-use Rattle.reader3.specs.Plainly.{pinned, GivesPlainly, KeepsPlainly, ClockNamed, ClockedPlainly, Plainly, KeptPlainly, BrokenPlainly}
+use Rattle.reader3.specs.Plainly.{pinIds, SourceNamed, GivesPlainly, KeepsPlainly, Plainly, KeptPlainly, BrokenPlainly}
 use Rattle.reader3.specs.PlainConfiguration.{PlainConfiguration}
-
--- what is shown as 0B is a Clock Source of 001
-pub clock-kind : (d : List ℕ) → LaidOut d → saidBy d .kind ≡ 0x0B → byte d 2 ≡ 0x0B
-unfolding factsOf
-clock-kind d o = of (told d)
-  where
-    of : {e : Entity} → Told d e → factsOf e .kind ≡ 0x0B → byte d 2 ≡ 0x0B
-    of (unknown n) e = absurd (n o)
-    of (input l k i) e = absurd (omega arith)
-    of (output l k i) e = absurd (omega arith)
-    of (mixer l k q i) e = absurd (omega arith)
-    of (selector l k q i) e = absurd (omega arith)
-    of (feature l k i) e = absurd (omega arith)
-    of (clock l k i) e = k
-
-kind-clock : (d : List ℕ) → LaidOut d → byte d 2 ≡ 0x0B → saidBy d .kind ≡ 0x0B
-unfolding factsOf
-kind-clock d o = of (told d)
-  where
-    of : {e : Entity} → Told d e → byte d 2 ≡ 0x0B → factsOf e .kind ≡ 0x0B
-    of (unknown n) e = absurd (n o)
-    of (input l k i) e = absurd (omega arith)
-    of (output l k i) e = absurd (omega arith)
-    of (mixer l k q i) e = absurd (omega arith)
-    of (selector l k q i) e = absurd (omega arith)
-    of (feature l k i) e = absurd (omega arith)
-    of (clock l k i) e = refl
+use Rattle.reader3.proofs.PlainSources.{laid-plainly, plainly-laid, each-plainly, plainly-each, named-plainly, plainly-named, clocked-plainly, plainly-clocked}
 
 module _ (ks : List (List ℕ)) (ids : Sound WrongCluster ks) (cl : ℕ → List ℕ) (d : List ℕ) (o : LaidOut d) where
   abbrev out : List ℕ
@@ -194,14 +167,14 @@ module _ (ks : List (List ℕ)) (ids : Sound WrongCluster ks) (cl : ℕ → List
         }
         go (mixer l k p i) q h = record {
           input = λ z. absurd (omega arith);
-          mixer = λ z. subst (λ (y : List ℕ). Few (channelsOf y) × (length d ≡ mixerLength (byte d 4) (channelsOf y) (channelsIn (pinned cl d)))) (sym q) h;
+          mixer = λ z. subst (λ (y : List ℕ). Few (channelsOf y) × (length d ≡ mixerLength (byte d 4) (channelsOf y) (channelsIn (map cl (pinIds d))))) (sym q) h;
           selector = λ z. absurd (omega arith);
           feature = λ z. absurd (omega arith);
         }
         go (selector l k p i) q h = record {
           input = λ z. absurd (omega arith);
           mixer = λ z. absurd (omega arith);
-          selector = λ z. subst (λ (y : List ℕ). (j : List ℕ) → j ∈ pinned cl d → SameContent j y) (sym q) h;
+          selector = λ z. subst (λ (y : List ℕ). (j : List ℕ) → j ∈ map cl (pinIds d) → SameContent j y) (sym q) h;
           feature = λ z. absurd (omega arith);
         }
         go (feature l k i) q h = record {
@@ -225,54 +198,17 @@ module _ (ks : List (List ℕ)) (ids : Sound WrongCluster ks) (cl : ℕ → List
         go (unknown n) q = absurd (n o)
         go (input l k i) q = subst (λ (y : List ℕ). Few (channelsOf y)) q (h .input k)
         go (output l k i) q = tt
-        go (mixer l k p i) q = subst (λ (y : List ℕ). Few (channelsOf y) × (length d ≡ mixerLength (byte d 4) (channelsOf y) (channelsIn (pinned cl d)))) q (h .mixer k)
-        go (selector l k p i) q = subst (λ (y : List ℕ). (j : List ℕ) → j ∈ pinned cl d → SameContent j y) q (h .selector k)
+        go (mixer l k p i) q = subst (λ (y : List ℕ). Few (channelsOf y) × (length d ≡ mixerLength (byte d 4) (channelsOf y) (channelsIn (map cl (pinIds d))))) q (h .mixer k)
+        go (selector l k p i) q = subst (λ (y : List ℕ). (j : List ℕ) → j ∈ map cl (pinIds d) → SameContent j y) q (h .selector k)
         go (feature l k i) q = subst (λ (y : List ℕ). length d ≡ featureLength (channelsOf y)) q (h .feature k)
         go (clock l k i) q = tt
 
--- clocks, of a run whose descriptors have their layouts
-module _ (ds : List (List ℕ)) (laid : (e : List ℕ) → e ∈ ds → LaidOut e) (d : List ℕ) (o : LaidOut d) where
-  -- there is such a Clock Source, where not none is
-  named : (x : ℕ) → (((e : List ℕ) → e ∈ ds → ownId e ≡ x → saidBy e .kind ≡ 0x0B → ⊥) → ⊥) → ClockNamed ds x
-  named x n =
-      ⊎-elim (λ h. h) (λ none. absurd (n (λ e m q z. none (record { one = e; among = m; has = (q, clock-kind e (laid e m) z) }))))
-      (decided _ (reads-any (λ e. eqb (ownId e) x && eqb (byte e 2) 0x0B) (λ e. (ownId e ≡ x) × (byte e 2 ≡ 0x0B)) (λ e. reads-and _ _ (reads-eq (ownId e) x) (reads-eq (byte e 2) 0x0B)) ds))
-
-  unnamed : (x : ℕ) → ClockNamed ds x → ((e : List ℕ) → e ∈ ds → ownId e ≡ x → saidBy e .kind ≡ 0x0B → ⊥) → ⊥
-  unnamed x h n = n (h .one) (h .among) (h .has .0) (kind-clock (h .one) (laid (h .one) (h .among)) (h .has .1))
-
-  pub clocked-plainly : (WrongClock ds d → ⊥) → ClockedPlainly ds d
-  unfolding factsOf
-  clocked-plainly = go (told d)
-    where
-      go : {x : Entity} → Told d x → ((factsOf x .clocked ≡ true) × ((e : List ℕ) → e ∈ ds → ownId e ≡ factsOf x .clock → saidBy e .kind ≡ 0x0B → ⊥) → ⊥) → ClockedPlainly ds d
-      go (unknown n) w = absurd (n o)
-      go (input l k i) w = record { input = λ q. named (byte d 7) (λ n. w (refl, n)); output = λ q. absurd (omega arith) }
-      go (output l k i) w = record { input = λ q. absurd (omega arith); output = λ q. named (byte d 8) (λ n. w (refl, n)) }
-      go (mixer l k p i) w = record { input = λ q. absurd (omega arith); output = λ q. absurd (omega arith) }
-      go (selector l k p i) w = record { input = λ q. absurd (omega arith); output = λ q. absurd (omega arith) }
-      go (feature l k i) w = record { input = λ q. absurd (omega arith); output = λ q. absurd (omega arith) }
-      go (clock l k i) w = record { input = λ q. absurd (omega arith); output = λ q. absurd (omega arith) }
-
-  pub plainly-clocked : ClockedPlainly ds d → WrongClock ds d → ⊥
-  unfolding factsOf
-  plainly-clocked h = go (told d)
-    where
-      go : {x : Entity} → Told d x → (factsOf x .clocked ≡ true) × ((e : List ℕ) → e ∈ ds → ownId e ≡ factsOf x .clock → saidBy e .kind ≡ 0x0B → ⊥) → ⊥
-      go (unknown n) w = n o
-      go (input l k i) w = unnamed (byte d 7) (h .input k) (w .1)
-      go (output l k i) w = unnamed (byte d 8) (h .output k) (w .1)
-      go (mixer l k p i) w = true≠false (sym (w .0))
-      go (selector l k p i) w = true≠false (sym (w .0))
-      go (feature l k i) w = true≠false (sym (w .0))
-      go (clock l k i) w = true≠false (sym (w .0))
-
 -- the rules 11, 52 and 13 of a run whose descriptors have their layouts, with a cluster buffer that keeps 51
 module _ (ks ds : List (List ℕ)) (ids : Sound WrongCluster ks) (laid : (e : List ℕ) → e ∈ ds → LaidOut e) where
-  all-give : (cl : ℕ → List ℕ) → Rule52 ks ds → GivenOut (third ks) ds cl ↔ ((e : List ℕ) → e ∈ ds → GivesPlainly ks cl e)
+  pub all-give : (cl : ℕ → List ℕ) → Rule52 ks ds → GivenOut (third ks) ds cl ↔ ((e : List ℕ) → e ∈ ds → GivesPlainly ks cl e)
   all-give cl known = (λ g e m. gives-plainly ks ids cl e (laid e m) (known e m) (g e m), λ g e m. plainly-gives ks ids cl e (laid e m) (g e m))
 
-  fits-plainly : (cl : ℕ → List ℕ) → GivenOut (third ks) ds cl → (d : List ℕ) → d ∈ ds → Fits (third ks) cl d ↔ KeepsPlainly cl d
+  pub fits-plainly : (cl : ℕ → List ℕ) → GivenOut (third ks) ds cl → (d : List ℕ) → d ∈ ds → Fits (third ks) cl d ↔ KeepsPlainly cl d
   fits-plainly cl g d m = (keeps-plainly ks ids cl d (laid d m) (g d m), plainly-keeps ks ids cl d (laid d m) (g d m))
 
   pub rule13-plainly : Rule52 ks ds → Rule13 (third ks) ds ↔ KeptPlainly ks ds
@@ -289,45 +225,52 @@ module _ (ks ds : List (List ℕ)) (ids : Sound WrongCluster ks) (laid : (e : Li
 
   pub plainly : (c : Connected (third ks) ds) → ClocksNamed ds → Rule52 ks ds → (d : List ℕ) → d ∈ ds → Plainly ks ds (c .cluster) d
   plainly c clocks known d m = record {
+    laid = laid-plainly d (laid d m);
     gives = all-give (c .cluster) known .0 (c .given-out) d m;
     keeps = fits-plainly (c .cluster) (c .given-out) d m .0 (c .fits d m);
     clocked = clocked-plainly ds laid d (laid d m) (clocks d m);
   }
 
+pub plain-third : {s b : List ℕ} → ThirdConfiguration s b → PlainConfiguration s b
+plain-third t =
+    let k = t .kept in
+    let c = t .connected in
+    record {
+      opened = k .opened;
+      rule5 = k .rule5;
+      rule6 = k .rule6;
+      rule8 = k .rule8;
+      rule51 = k .rule51;
+      rule10 = c .rule10;
+      rule11 = λ d m. each-plainly (SourceNamed (runIn3 k)) d (k .rule9 d m) (λ x i. named-plainly (clustersIn k) (runIn3 k) (k .rule9) x (source-of (c .rule11) d m x i) (λ w. c .rule11 d m (record { one = x; among = i; has = w })));
+      rank = c .rank;
+      ranked = λ d m. each-plainly (λ x. c .rank x < c .rank (ownId d)) d (k .rule9 d m) (c .ranked d m);
+      cluster = c .cluster;
+      plainly = plainly (clustersIn k) (runIn3 k) (k .rule51 .ids) (k .rule9) c (t .clocks) (t .rule52);
+    }
+
+unfoldable pub third-plain : {s b : List ℕ} → PlainConfiguration s b → ThirdConfiguration s b
+third-plain t =
+    let ds = t .rule6 .run in
+    let ks = t .rule51 .pieces in
+    let laid : (d : List ℕ) → d ∈ ds → LaidOut d = λ d m. plainly-laid d (t .plainly d m .laid) in
+    let known : Rule52 ks ds = λ d m. known-plainly ks (t .rule51 .ids) (t .cluster) d (laid d m) (t .plainly d m .gives) in
+    let given : GivenOut (third ks) ds (t .cluster) = all-give ks ds (t .rule51 .ids) laid (t .cluster) known .1 (λ d m. t .plainly d m .gives) in
+    record {
+      kept = record { opened = t .opened; rule5 = t .rule5; rule6 = t .rule6; rule8 = t .rule8; rule51 = t .rule51; rule9 = laid };
+      connected = record {
+        rule10 = t .rule10;
+        rule11 = λ d m w. plainly-named ks ds laid (w .one) (t .rule10) (plainly-each (SourceNamed ds) d (laid d m) (t .rule11 d m) (w .one) (w .among)) (w .has);
+        rank = t .rank;
+        ranked = λ d m. plainly-each (λ x. t .rank x < t .rank (ownId d)) d (laid d m) (t .ranked d m);
+        cluster = t .cluster;
+        given-out = given;
+        fits = λ d m. fits-plainly ks ds (t .rule51 .ids) laid (t .cluster) given d m .1 (t .plainly d m .keeps);
+      };
+      clocks = λ d m. plainly-clocked ds laid d (laid d m) (t .plainly d m .clocked);
+      rule52 = known;
+    }
+
 -- THE THEOREM
 pub plain-exactly : (s b : List ℕ) → ThirdConfiguration s b ↔ PlainConfiguration s b
-plain-exactly s b = (to, of)
-  where
-    to : ThirdConfiguration s b → PlainConfiguration s b
-    to t =
-        let k = t .kept in
-        let c = t .connected in
-        record {
-          kept = k;
-          rule10 = c .rule10;
-          rule11 = c .rule11;
-          rank = c .rank;
-          ranked = c .ranked;
-          cluster = c .cluster;
-          each = plainly (clustersIn k) (runIn3 k) (k .rule51 .ids) (k .rule9) c (t .clocks) (t .rule52);
-        }
-
-    of : PlainConfiguration s b → ThirdConfiguration s b
-    of t =
-        let k = t .kept in
-        let known : Rule52 (clustersIn k) (runIn3 k) = λ d m. known-plainly (clustersIn k) (k .rule51 .ids) (t .cluster) d (k .rule9 d m) (t .each d m .gives) in
-        let g = all-give (clustersIn k) (runIn3 k) (k .rule51 .ids) (k .rule9) (t .cluster) known .1 (λ d m. t .each d m .gives) in
-        record {
-          kept = k;
-          connected = record {
-            rule10 = t .rule10;
-            rule11 = t .rule11;
-            rank = t .rank;
-            ranked = t .ranked;
-            cluster = t .cluster;
-            given-out = g;
-            fits = λ d m. fits-plainly (clustersIn k) (runIn3 k) (k .rule51 .ids) (k .rule9) (t .cluster) g d m .1 (t .each d m .keeps);
-          };
-          clocks = λ d m. plainly-clocked (runIn3 k) (k .rule9) d (k .rule9 d m) (t .each d m .clocked);
-          rule52 = known;
-        }
+plain-exactly s b = (plain-third, third-plain)

@@ -50,10 +50,11 @@ use Rattle.reader3.specs.ThirdRefusals.{RefusedThird}
 use Rattle.reader3.specs.ThirdRecord.{ShownKind, fedIn, ThirdRecord}
 use Rattle.reader3.specs.ThirdRecord as shown
 use Rattle.reader3.specs.PlainConfiguration.{PlainConfiguration}
-use Rattle.reader3.specs.BothEditions.{thirdRun, thirdCluster, thirdBuffer, RefusedSheet, ThirdDemand}
+use Rattle.reader3.specs.BothEditions.{thirdRun, thirdCluster, thirdBuffer, RefusedSheet, PlainAlike, ThirdDemand}
 use Rattle.reader3.proofs.KeptRun.{entitiesThird, run-kept, represented}
 use Rattle.reader3.proofs.ThirdExactly.{third-accepted, third-refused}
-use Rattle.reader3.proofs.InPlainWords.{clock-kind, plainly, rule13-plainly, broken-plainly, plain-exactly}
+use Rattle.reader3.proofs.PlainSources.{clock-kind}
+use Rattle.reader3.proofs.InPlainWords.{plainly, rule13-plainly, broken-plainly, third-plain, plain-exactly}
 
 -- the answer's number and place are the verdict's
 module _ (s b : List ℕ) (room : ℕ) where
@@ -229,6 +230,16 @@ module _ (s b d : List ℕ) (h : wholeSheet ≤ length d) where
   accepted-plainly : (thirdAnswer s b (length d) .number ≡ 0) ↔ PlainConfiguration s b
   accepted-plainly = (λ e. plain-exactly s b .0 (accepted .0 e), λ t. accepted .1 (plain-exactly s b .1 t))
 
+module _ (s b : List ℕ) (t : ThirdConfiguration s b) (p : PlainConfiguration s b) where
+  one-plainly : PlainAlike t p
+  unfolding third-plain
+  one-plainly = let u = third-plain p in record {
+    cutting = one-cutting s b t u;
+    buffer = one-buffer s b t u;
+    descriptors = one-descriptors s b t u;
+    clusters = one-clusters s b t u;
+  }
+
 pub third-demand : (s b : List ℕ) → ThirdDemand s b
 third-demand s b = record {
   accepted = accepted s b;
@@ -239,6 +250,7 @@ third-demand s b = record {
   one-buffer = one-buffer s b;
   one-descriptors = one-descriptors s b;
   one-clusters = one-clusters s b;
+  one-plainly = one-plainly s b;
   from-buffer = λ t d m n. cluster-in-buffer (thirdBuffer t) (thirdRun t) (t .connected) (t .rule52) d m (t .kept .rule9 d m) (λ e. n (clock-kind d (t .kept .rule9 d m) e));
   plainly = λ t. plainly (thirdBuffer t) (thirdRun t) (t .kept .rule51 .ids) (t .kept .rule9) (t .connected) (t .clocks) (t .rule52);
   rule13-plainly = λ k. rule13-plainly (clustersIn k) (runIn3 k) (k .rule51 .ids) (k .rule9);

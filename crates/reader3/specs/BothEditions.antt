@@ -2,11 +2,12 @@
 -- for Audio 1.0.
 --   thirdRun t, thirdCluster t, thirdBuffer t  ==  of the configuration t: the run's descriptors, the clusters on IDs, the cluster descriptors of the buffer
 --   RefusedSheet s b d  ==  what the reader answers and leaves where it refuses: number and place are those of the table, no entity, the sheet as it stood
+--   PlainAlike t p      ==  the plain configuration p has the cuttings, the run's descriptors and the clusters of t
 --   ThirdDemand s b     ==  accepted: with 1,024 bytes or more lent the number is 0 exactly where the bytes are a configuration and a cluster buffer of the edition
 --                           accepted-plainly: .. exactly where they are such in plain words, with no search
 --                           refused: number and place are exactly those of the table; refuses: and what a refusal leaves
 --                           one-cutting, one-buffer, one-descriptors, one-clusters: what keeps the rules is one: the cutting of the configuration, that of the buffer,
---                           the run's descriptors byte by byte, the cluster on each ID
+--                           the run's descriptors byte by byte, the cluster on each ID; one-plainly: and what keeps them in plain words is the same
 --                           from-buffer: the cluster on the output of each entity but a Clock Source is one of the buffer's descriptors
 --                           plainly: what each entity gives out and keeps, in bytes; rule13-plainly, broken-plainly: so the row 13 of the table, which stands
 --                           behind 52: the rule, and who breaks it
@@ -53,6 +54,12 @@ pub record RefusedSheet (s b d : List ℕ) : Type 0 where
   pub no-entities : thirdAnswer s b (length d) .entities ≡ 0
   pub sheet : thirdSheet s b d ≡ d
 
+pub record PlainAlike {s b : List ℕ} (t : ThirdConfiguration s b) (p : PlainConfiguration s b) : Type 0 where
+  pub cutting : t .kept .opened .descriptors ≡ p .opened .descriptors
+  pub buffer : thirdBuffer t ≡ p .rule51 .pieces
+  pub descriptors : thirdRun t ≡ p .rule6 .run
+  pub clusters : (d : List ℕ) → d ∈ thirdRun t → thirdCluster t (ownId d) ≡ p .cluster (ownId d)
+
 pub record ThirdDemand (s b : List ℕ) : Type 0 where
   pub accepted : (d : List ℕ) → wholeSheet ≤ length d → (thirdAnswer s b (length d) .number ≡ 0) ↔ ThirdConfiguration s b
   pub accepted-plainly : (d : List ℕ) → wholeSheet ≤ length d → (thirdAnswer s b (length d) .number ≡ 0) ↔ PlainConfiguration s b
@@ -63,6 +70,7 @@ pub record ThirdDemand (s b : List ℕ) : Type 0 where
   pub one-buffer : (t u : ThirdConfiguration s b) → thirdBuffer t ≡ thirdBuffer u
   pub one-descriptors : (t u : ThirdConfiguration s b) → thirdRun t ≡ thirdRun u
   pub one-clusters : (t u : ThirdConfiguration s b) (d : List ℕ) → d ∈ thirdRun t → thirdCluster t (ownId d) ≡ thirdCluster u (ownId d)
+  pub one-plainly : (t : ThirdConfiguration s b) (p : PlainConfiguration s b) → PlainAlike t p
   pub from-buffer : (t : ThirdConfiguration s b) (d : List ℕ) → d ∈ thirdRun t → (byte d 2 ≡ 0x0B → ⊥) → thirdCluster t (ownId d) ∈ thirdBuffer t
   pub plainly : (t : ThirdConfiguration s b) (d : List ℕ) → d ∈ thirdRun t → Plainly (thirdBuffer t) (thirdRun t) (thirdCluster t) d
   pub rule13-plainly : (k : KeptThird s b) → Rule52 (clustersIn k) (runIn3 k) → Rule13 (third (clustersIn k)) (runIn3 k) ↔ KeptPlainly (clustersIn k) (runIn3 k)
