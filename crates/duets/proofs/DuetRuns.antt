@@ -51,7 +51,7 @@ use Rattle.duets.specs.DuetRuns.Life.{none, since}
 use Rattle.duets.specs.Steps.{Step, isFor, isOf, boxNext, boxAfterRun, sentBy, Carried}
 use Rattle.duets.specs.Steps.Step.{plug, unplug, load, request}
 use Rattle.duets.specs.DuetRuns.{Life, lifePlug, lifeMore, lifeAsk, ownLife, lifeNext, lifeOf, ReadState, Lives, Lived, DuetRuns}
-use Rattle.duets.proofs.Sound.{Fit, fit-empty, fit-next, same-side, other-next, TakenIn, taken-in, load-came, request-came}
+use Rattle.duets.proofs.Sound.{Fit, fit-empty, fit-next, fit-run, same-side, other-next, TakenIn, taken-in, load-came, request-came}
 
 record Living (x : Socket) (st : State) (run : List runs.Step) : Type 0 where
   plugged : x .plugged ≡ true
@@ -161,11 +161,6 @@ lived x (since st run) a = record {
   state = a .state;
   every = runs-so st (read-sound st (a .read)) run (a .wired);
 }
-
-fit-run : (run : List Step) (b : Duet) → Fit b → Carried run → Fit (boxAfterRun b run)
-unfolding boxAfterRun
-fit-run [] b h c = h
-fit-run (x ∷ run) b h c = fit-run run (boxNext b x) (fit-next b x h (c x (List·Memᴰ·head refl))) (λ y m. c y (List·Memᴰ·tail m))
 
 -- a request that is for a side asks something, and asks the same with another number
 side-asks : (s : List ℕ) (k : Side) {v : Asked} → Asking s v → addresseeOf v ≡ At k → WellAsked s

@@ -1,13 +1,13 @@
 -- From an empty box 30 never comes: what each step puts in a socket has nothing against it, and both sides stay within 192.
 --   Fit b          ==  30 has nothing against the box
 --   put-fit        ==  .. nor against the one with such a socket put in
---   fit-empty, fit-next  ==  the empty box is so, and each step keeps it
+--   fit-empty, fit-next, fit-run  ==  the empty box is so, each step keeps it, and so does every run
 --   other-put, other-next  ==  a step of another side, or of none, leaves a side's socket as it was
 --   same-side      ==  what the test of two sides says
 use Prim.Native.Nat.{ℕ, _+_, _≤_}
 use mathlib.Core.Path.{_≡_, refl, sym, ap, _∙_, subst}
 use mathlib.Core.Bool.{Bool, true, false, _&&_}
-use mathlib.Core.List.{List, []}
+use mathlib.Core.List.{List, [], _∷_, List·Memᴰ·head, List·Memᴰ·tail}
 use lib.Dec.{eqb, leb}
 use lib.ListN.{length}
 use native.Mathlib.Omega.{arith}
@@ -45,7 +45,7 @@ use Rattle.duet.specs.BoxLaws.{sound-split, kept-socket}
 use Rattle.duet.specs.Plugging.{Plugging, admittedBy, plugOf, duetAfter, refusal, unplugAnswer}
 use Rattle.duet.specs.Plugging.Plugging.{refused, taken}
 use Rattle.duet.specs.Asking.{handedTo, askedOn, requestIn, loadedOn, loadIn, socketAfter, boxAfter, answerIn, answerFor}
-use Rattle.duets.specs.Steps.{Step, sameSide, isFor, isOf, boxNext, sentBy}
+use Rattle.duets.specs.Steps.{Step, sameSide, isFor, isOf, boxNext, boxAfterRun, sentBy, Carried}
 use Rattle.duets.specs.Steps.Step.{plug, unplug, load, request}
 
 abbrev pub Fit : Duet → Type 0
@@ -234,3 +234,8 @@ fit-next b (unplug k) h w = unplug-fit b k h
 fit-next b (load k key range w) h bytes =
     outcome-fit b k h (single-load key range w) (λ i. omega arith) (loadIn b k (key .unit) (key .channel) (key .selector) range w) (load-came b k h key range w)
 fit-next b (request s d y) h bytes = answered-fit b h s d y bytes (addresseeOf (askedOf s)) refl
+
+pub fit-run : (run : List Step) (b : Duet) → Fit b → Carried run → Fit (boxAfterRun b run)
+unfolding boxAfterRun
+fit-run [] b h c = h
+fit-run (x ∷ run) b h c = fit-run run (boxNext b x) (fit-next b x h (c x (List·Memᴰ·head refl))) (λ y m. c y (List·Memᴰ·tail m))
