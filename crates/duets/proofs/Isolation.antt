@@ -35,6 +35,7 @@ use Rattle.duets.specs.Steps.{Step, sameSide, isFor, isOf, Seen, seenPlu
 use Rattle.duets.specs.Steps.Step.{plug, unplug, load, request}
 use Rattle.duets.specs.Isolation.{AgreeAt, Isolated}
 use Rattle.duets.proofs.Sound.{Fit, fit-empty, fit-next, fit-run, same-side, other-next}
+use Rattle.duets.proofs.Named.{is-at}
 
 abbrev plugAlone : Socket → ℕ → List ℕ → ℕ → Plugging
 plugAlone x n s room = pick (x .plugged) (refused 61 0) (admittedBy n (readingOf s room))
@@ -134,15 +135,11 @@ own-request b k h s d y e n = record {
     put : (o : Outcome) → socketOf (answerIn b k o .duet) k ≡ socketAfter (socketOf b k) o
     put o = own-socket b k _
 
-named : (k : Side) (a : Addressee) → isFor k a ≡ true → a ≡ At k
-named k (Nobody n) e = absurd (true≠false (sym e))
-named k (At j) e = ap At (same-side k j e)
-
 own-step : (b : Duet) (k : Side) (x : Step) → Fit b → isOf k x ≡ true → (ns : List ℕ) → OwnStep b k x (firstMet (metAt b k x ++ ns))
 own-step b k (plug j s d) h e ns = rw (same-side k j e) (own-plug b k h s d)
 own-step b k (unplug j) h e ns = rw (same-side k j e) (own-unplug b k h (firstMet ns))
 own-step b k (load j key range w) h e ns = rw (same-side k j e) (own-load b k h key range w (firstMet ns))
-own-step b k (request s d y) h e ns = own-request b k h s d y (named k (addresseeOf (askedOf s)) e) (firstMet ns)
+own-step b k (request s d y) h e ns = own-request b k h s d y (is-at k (addresseeOf (askedOf s)) e) (firstMet ns)
 
 later-met : (b : Duet) (k : Side) (x : Step) (ns : List ℕ) → laterMet x (metAt b k x ++ ns) ≡ ns
 later-met b k (plug j s d) ns = refl

@@ -5,7 +5,7 @@ use mathlib.Core.Path.{_≡_, refl, sym, ap, _∙_}
 use mathlib.Core.Bool.{Bool, true, false}
 use mathlib.Core.List.{List, []}
 use lib.ListN.{length}
-use Rattle.ground.specs.Pick.{pick}
+use Rattle.ground.specs.Pick.{pick, shows}
 use Rattle.setting.specs.declared.Range.{Range}
 use Rattle.table.specs.Keys.{Key}
 use Rattle.deed.specs.Reply.{laid}
@@ -25,6 +25,7 @@ use Rattle.duet.specs.Asking.{loadIn, requestIn, boxAfter, answerIn, answerFor,
 use Rattle.duets.specs.Steps.{Seen, seenPlug, seenNumber, seenOutcome, seenIn, boxNext}
 use Rattle.duets.specs.Steps.Step.{plug, unplug, load, request}
 use Rattle.duets.specs.StepsTold.{admittedSeen, answerSeen, StepsTold}
+use Rattle.duets.proofs.Named.{reads-side}
 
 plug-seen : (b : Duet) (k : Side) (s d : List ℕ) (o : Plugging)
     → (seenPlug s d o ≡ admittedSeen (plugAnswer b k o) (sheetAfter s d o)) × (duetAfter b k o ≡ plugAnswer b k o .duet)
@@ -75,4 +76,10 @@ request-told b s d h r a t = (
 
 -- THE THEOREM
 pub steps-told : StepsTold
-steps-told = record { plugs = plug-told; unplugs = unplug-told; loads = load-told; requests = request-told }
+steps-told = record {
+  plugs = plug-told;
+  unplugs = unplug-told;
+  loads = load-told;
+  requests = request-told;
+  named = λ k s d h. (reads-side s k .says, shows (reads-side s k));
+}
