@@ -5,7 +5,7 @@ use Prim.Native.Nat.{ℕ, _+_, _≤_, _<_}
 use mathlib.Core.Path.{_≡_, refl, sym, ap, _∙_, subst}
 use mathlib.Core.Bool.{Bool, true, false, _&&_}
 use mathlib.Core.List.{List, []}
-use mathlib.Core.Logic.{_⊎_, inl, inr}
+use mathlib.Core.Logic.{inl, inr}
 use native.Mathlib.Omega.{arith}
 use lib.Dec.{eqb, leb}
 use lib.ListN.{length}
@@ -25,7 +25,7 @@ use Rattle.request.specs.Outcome.{Outcome, numberOf, bytesOf}
 use Rattle.request.specs.Outcome.Outcome.{refused as refuses, got, done}
 use Rattle.request.specs.Load.{loadOf}
 use Rattle.request.specs.Request.{requestOf}
-use Rattle.runs.specs.RequestRows.{Row, given, passed, NoRow, loadRows, requestRows}
+use Rattle.runs.specs.RequestRows.{Row, given, passed, NoRow, requestRows}
 use Rattle.runs.proofs.Rows.{request-rows, load-rows, request-row-one, load-row-one}
 use Rattle.sides.specs.declared.Side.{Side}
 use Rattle.sides.specs.declared.Side.the-variants.{Left, Right}
@@ -36,8 +36,9 @@ use Rattle.duet.specs.declared.Socket.{Socket}
 use Rattle.duet.specs.declared.Duet.{Duet}
 use Rattle.duet.specs.Box.{otherSide, socketOf, withSocket, emptySocket, controlsOn, together, soundSocket, soundDuet}
 use Rattle.duet.specs.BoxLaws.{kept-socket}
-use Rattle.duet.specs.Plugging.{Plugging, admittedBy, plugOf, duetAfter, refusal, unplugAnswer}
-use Rattle.duet.specs.Plugging.Plugging.{refused, taken}
+use Rattle.duet.specs.PluggingLaws.{plug-cases}
+use Rattle.duet.specs.Plugging.{Plugging, plugOf, duetAfter, refusal, unplugAnswer}
+use Rattle.duet.specs.Plugging.Plugging.{refused, let-in}
 use Rattle.duet.specs.Asking.{handedTo, askedOn, requestIn, loadedOn, loadIn, boxAfter, answerIn, answerFor}
 use Rattle.duets.specs.Steps.{Step, presentedFor, seenPlug, seenIn, boxNext}
 use Rattle.duets.specs.Steps.Step.{plug, unplug, load, request}
@@ -65,16 +66,16 @@ reads-box b =
     both l r Right = r
 
 plug-rows : (b : Duet) (k : Side) (s : List ℕ) (room : ℕ) → plugRows b k s room (numberIn (plugOf b k s room))
-unfolding plugOf admittedBy
 plug-rows b k s room =
-    go (soundDuet b) (reads-box b) (socketOf b k .plugged) refl (eqb (readingOf s room .number) 0) (reads-eq (readingOf s room .number) 0) (leb (met + readingOf s room .controls) mostTogether) (reads-le (met + readingOf s room .controls) mostTogether)
+    rw (plug-cases b k s room)
+    (go (soundDuet b) (reads-box b) (socketOf b k .plugged) refl (eqb (readingOf s room .number) 0) (reads-eq (readingOf s room .number) 0) (leb (met + readingOf s room .controls) mostTogether) (reads-le (met + readingOf s room .controls) mostTogether))
   where
     met : ℕ
     met = controlsOn (socketOf b (otherSide k))
 
     go : (x : Bool) → Reads x (SoundBox b) → (y : Bool) → socketOf b k .plugged ≡ y → (z : Bool) → Reads z (readingOf s room .number ≡ 0)
         → (v : Bool) → Reads v (controlsOn (socketOf b (otherSide k)) + readingOf s room .controls ≤ mostTogether)
-        → plugRows b k s room (numberIn (pick x (pick y (refused 61 0) (pick z (pick v (taken (readingOf s room)) (refused 62 0)) (refused (readingOf s room .number) (readingOf s room .place)))) (refused 30 0)))
+        → plugRows b k s room (numberIn (pick x (pick y (refused 61 0) (pick z (pick v (let-in (readingOf s room)) (refused 62 0)) (refused (readingOf s room .number) (readingOf s room .place)))) (refused 30 0)))
     go false f y e z g v h = given (f .denies refl) refl
     go true f true e z g v h = passed (λ n. n (f .says refl)) (given e refl)
     go true f false e false g v h = passed (λ n. n (f .says refl)) (passed (λ t. true≠false (sym t ∙ e)) (given (g .denies refl) refl))
@@ -178,12 +179,12 @@ on-side-one b s d room i j x y =
 
 -- the reader's place, or none
 plug-places : (b : Duet) (k : Side) (s : List ℕ) (room n p : ℕ) → plugOf b k s room ≡ refused n p → PlugPlace s room n p
-unfolding plugOf admittedBy
-plug-places b k s room n p =
+plug-places b k s room n p e =
     go (soundDuet b) (socketOf b k .plugged) (eqb (readingOf s room .number) 0) (leb (controlsOn (socketOf b (otherSide k)) + readingOf s room .controls) mostTogether)
+    (sym (plug-cases b k s room) ∙ e)
   where
     go : (x y z v : Bool)
-        → pick x (pick y (refused 61 0) (pick z (pick v (taken (readingOf s room)) (refused 62 0)) (refused (readingOf s room .number) (readingOf s room .place)))) (refused 30 0) ≡ refused n p
+        → pick x (pick y (refused 61 0) (pick z (pick v (let-in (readingOf s room)) (refused 62 0)) (refused (readingOf s room .number) (readingOf s room .place)))) (refused 30 0) ≡ refused n p
         → PlugPlace s room n p
     go false y z v e = let i : 30 ≡ n = cc in let j : 0 ≡ p = cc in inl (inl (sym i), sym j)
     go true true z v e = let i : 61 ≡ n = cc in let j : 0 ≡ p = cc in inl (inr (inl (sym i)), sym j)
@@ -210,7 +211,7 @@ room-given-back b k = go (soundDuet b) (socketOf b k .plugged)
 -- a refused step leaves all as it stood
 plug-keeps : (b : Duet) (k : Side) (s d : List ℕ) (o : Plugging) → (seenPlug s d o .number ≡ 0 → ⊥) → (duetAfter b k o ≡ b) × (seenPlug s d o .lent ≡ d)
 plug-keeps b k s d (refused n p) h = (refl, refl)
-plug-keeps b k s d (taken r) h = absurd (h refl)
+plug-keeps b k s d (let-in r) h = absurd (h refl)
 
 unplug-keeps : (b : Duet) (k : Side) → (unplugAnswer b k .number ≡ 0 → ⊥) → unplugAnswer b k .duet ≡ b
 unfolding unplugAnswer

@@ -9,21 +9,18 @@ use mathlib.Core.Logic.{⊎-elim}
 use native.Mathlib.Omega.{arith}
 use lib.Dec.{eqb}
 use lib.ListN.{length}
-use Rattle.ground.specs.Pick.{pick, yes, no, shows, true≠false}
+use Rattle.ground.specs.Pick.{pick, yes, shows, true≠false}
 use Rattle.ground.specs.Numbers.{Bytes}
 use Rattle.setting.specs.declared.Range.{Range}
 use Rattle.table.specs.Keys.{Key}
 use Rattle.sound.specs.Meaning.{Sound}
 use Rattle.sound.specs.Fresh.{fresh-sound}
 use Rattle.setup.specs.Setup.{askedOf}
-use Rattle.topology.specs.declared.Reading.{Reading}
 use Rattle.topology.specs.Reading.{readingOf}
 use Rattle.reader.proofs.Tables.{reader-table}
 use Rattle.request.specs.declared.State.{State}
 use Rattle.request.specs.Outcome.{Outcome}
-use Rattle.request.specs.Outcome.Outcome.{refused as refuses}
 use Rattle.request.specs.Plugged.{stateOf}
-use Rattle.request.specs.Load.{loadOf}
 use Rattle.request.specs.Request.{requestOf}
 use Rattle.runs.specs.Runs as runs
 use Rattle.runs.specs.Runs.Step.{load as single-load, request as single-request}
@@ -36,19 +33,18 @@ use Rattle.sides.specs.declared.Addressee.the-variants.{Nobody, At}
 use Rattle.sides.specs.Sides.{addresseeOf, ownSetup}
 use Rattle.duet.specs.declared.Socket.{Socket}
 use Rattle.duet.specs.declared.Duet.{Duet}
-use Rattle.duet.specs.declared.Answer.{Answer}
-use Rattle.duet.specs.Box.{socketOf, withSocket, emptySocket, emptyDuet, soundDuet}
+use Rattle.duet.specs.Box.{socketOf, withSocket, emptySocket, emptyDuet}
 use Rattle.duet.specs.BoxLaws.{own-socket}
 use Rattle.duet.specs.Plugging.{Plugging, plugOf, duetAfter, refusal, unplugAnswer}
-use Rattle.duet.specs.Plugging.Plugging.{refused, taken}
+use Rattle.duet.specs.Plugging.Plugging.{refused, let-in}
 use Rattle.duet.specs.Asking.{loadIn, requestIn, socketAfter, boxAfter, answerIn, answerFor}
 use Rattle.duets.specs.DuetRuns.Life.{none, since}
 use Rattle.duets.specs.Steps.{Step, isFor, isOf, boxNext, boxAfterRun, sentBy, Carried}
 use Rattle.duets.specs.Steps.Step.{plug, unplug, load, request}
-use Rattle.duets.specs.DuetRuns.{Life, lifePlug, lifeMore, lifeAsk, ownLife, lifeNext, lifeOf, ReadState, Lives, Lived, DuetRuns}
+use Rattle.duets.specs.DuetRuns.{Life, lifePlug, lifeMore, lifeAsk, ownLife, lifeNext, lifeOf, ReadState, Lived, DuetRuns}
 use Rattle.duets.proofs.Named.{at-side}
 use Rattle.duets.proofs.DuetRows.{reads-box}
-use Rattle.duets.proofs.Sound.{Fit, fit-empty, fit-next, fit-run, same-side, other-next, TakenIn, taken-in, load-came, request-came}
+use Rattle.duets.proofs.Sound.{Fit, fit-empty, fit-next, fit-run, same-side, other-next, was-let-in, load-came, request-came}
 
 record Living (x : Socket) (st : State) (run : List runs.Step) : Type 0 where
   plugged : x .plugged ≡ true
@@ -99,8 +95,8 @@ along-plug : (b : Duet) (k : Side) (s d : List ℕ) (l : Life) → Along (socket
     → Along (socketOf (duetAfter b k o) k) (lifePlug o l)
 unfolding runs.after
 along-plug b k s d l a (refused n p) e = a
-along-plug b k s d l a (taken r) e =
-    let t = taken-in b k s (length d) r e in
+along-plug b k s d l a (let-in r) e =
+    let t = was-let-in b k s (length d) r e in
     rw (own-socket b k _) (record {
       plugged = refl;
       read = record { configuration = s; room = length d; accepted = t .accepted; state = ap stateOf (t .reading) };

@@ -26,12 +26,12 @@ use Rattle.sides.specs.Sides.{addresseeOf}
 use Rattle.duet.specs.declared.Socket.{Socket}
 use Rattle.duet.specs.declared.Duet.{Duet}
 use Rattle.duet.specs.declared.Answer.{Answer}
-use Rattle.duet.specs.Box.{otherSide, socketOf, withSocket, emptySocket, emptyDuet, controlsOn, soundDuet}
+use Rattle.duet.specs.Box.{otherSide, socketOf, withSocket, emptySocket, emptyDuet, controlsOn}
 use Rattle.duet.specs.BoxLaws.{own-socket}
 use Rattle.duet.specs.Plugging.{Plugging, admittedBy, plugOf, duetAfter, refusal, unplugAnswer}
-use Rattle.duet.specs.Plugging.Plugging.{refused, taken}
+use Rattle.duet.specs.Plugging.Plugging.{refused, let-in}
 use Rattle.duet.specs.Asking.{handedTo, askedOn, requestIn, loadedOn, loadIn, socketAfter, boxAfter, answerIn, answerFor}
-use Rattle.duets.specs.Steps.{Step, sameSide, isFor, isOf, Seen, seenPlug, seenNumber, seenOutcome, seenIn, boxNext, boxAfterRun, seenBy, stepsOf, metAt, metBy, Carried}
+use Rattle.duets.specs.Steps.{Step, isFor, isOf, Seen, seenPlug, seenNumber, seenOutcome, seenIn, boxNext, boxAfterRun, seenBy, stepsOf, metAt, metBy, Carried}
 use Rattle.duets.specs.Steps.Step.{plug, unplug, load, request}
 use Rattle.duets.specs.Isolation.{AgreeAt, Isolated}
 use Rattle.duets.proofs.Sound.{Fit, fit-empty, fit-next, fit-run, same-side, other-next}
@@ -42,7 +42,7 @@ plugAlone x n s room = pick (x .plugged) (refused 61 0) (admittedBy n (readingOf
 
 abbrev socketPlugged : Socket → Plugging → Socket
 socketPlugged x (refused n p) = x
-socketPlugged x (taken r) = record { plugged = true; state = stateOf r }
+socketPlugged x (let-in r) = record { plugged = true; state = stateOf r }
 
 abbrev ownSeen : Socket → Step → ℕ → Seen
 ownSeen x (plug j s d) n = seenPlug s d (plugAlone x n s (length d))
@@ -95,7 +95,7 @@ own-plug b k h s d = record { seen = ap (seenPlug s d) came; left = ap (λ (o : 
 
     put : (o : Plugging) → socketOf (duetAfter b k o) k ≡ socketPlugged (socketOf b k) o
     put (refused n p) = refl
-    put (taken r) = own-socket b k _
+    put (let-in r) = own-socket b k _
 
 own-unplug : (b : Duet) (k : Side) → Fit b → (n : ℕ) → OwnStep b k (unplug k) n
 unfolding unplugAnswer

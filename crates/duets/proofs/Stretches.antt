@@ -1,14 +1,13 @@
 -- The stretch, proved: where the reader accepts, the first entity that bears an ID is the only one, and its place is its descriptor's.
 --   stretch-shown  ==  THE THEOREM
-use Prim.Native.Nat.{ℕ, _*_, _≤_, _<_}
+use Prim.Native.Nat.{ℕ, _≤_, _<_}
 use mathlib.Core.Path.{_≡_, refl, sym, ap, _∙_, subst}
-use mathlib.Core.Bool.{Bool, true, false}
 use mathlib.Core.List.{List, []}
 use mathlib.Core.Logic.{⊎-elim}
 use native.Mathlib.Omega.{arith}
 use lib.Dec.{eqb}
 use lib.ListN.{length, getD}
-use borrow.Author.Tests.{eq-eqb, ne-eqb, le-leb}
+use borrow.Author.Tests.{eq-eqb, ne-eqb}
 use Rattle.ground.specs.declared.Place.{Place}
 use Rattle.ground.specs.declared.Place.the-variants as place
 use Rattle.ground.specs.declared.Refusal.{Refusal}
@@ -16,22 +15,19 @@ use Rattle.ground.specs.Pick.{yes, no, decided, reads-eq}
 use Rattle.ground.specs.Lists.{member-at, member-index}
 use Rattle.ground.specs.Places.{finding, first-some, first-none}
 use Rattle.ground.specs.Places as places
-use Rattle.ground.specs.Refuse.{none, refuse, keptAt}
+use Rattle.ground.specs.Refuse.{none}
 use Rattle.graph.specs.Members.{_∈_}
 use Rattle.edition.specs.Edition.{ownId}
 use Rattle.edition.specs.Audio.{audio}
 use Rattle.entities.specs.declared.Run.{Run}
-use Rattle.entities.specs.Run.{held, idAt, placeAt}
+use Rattle.entities.specs.Run.{held, placeAt}
 use Rattle.entities.specs.Represents.{Represents}
 use Rattle.cutting.specs.declared.Survey.{Survey}
-use Rattle.cutting.specs.Survey.{surveyOf}
-use Rattle.cutting.specs.Rules1to9.{Kept}
 use Rattle.ids.specs.Breach.{bears}
 use Rattle.ids.specs.OwnIds.{own-ids}
-use Rattle.records.specs.Records.{recordSize, roomFor}
 use Rattle.topology.specs.declared.Finding.{Finding}
 use Rattle.topology.specs.declared.Reading.{Reading}
-use Rattle.topology.specs.Reading.{clustersAt, roomJudged, verdictOf, findingWith, findingOf, refusedReading, readingOf}
+use Rattle.topology.specs.Reading.{verdictOf, findingWith, findingOf, refusedReading, readingOf}
 use Rattle.topology.specs.Verdict.{finding-refusal, finding-taken, verdict-refused, verdict-whole}
 use Rattle.reader.specs.Configuration.{runOf, placeOfRun, Configuration}
 use Rattle.reader.proofs.Surveyed.{entitiesOf, survey-kept, run-cut, represented}

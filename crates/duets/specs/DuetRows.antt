@@ -32,7 +32,7 @@ use Rattle.sides.specs.Sides.{mostTogether, ownSetup}
 use Rattle.duet.specs.declared.Duet.{Duet}
 use Rattle.duet.specs.Box.{otherSide, socketOf, controlsOn, together}
 use Rattle.duet.specs.Plugging.{Plugging, plugOf, unplugAnswer}
-use Rattle.duet.specs.Plugging.Plugging.{refused, taken}
+use Rattle.duet.specs.Plugging.Plugging.{refused, let-in}
 use Rattle.duet.specs.Asking.{loadIn, requestIn}
 use Rattle.duets.specs.Steps.{Step, presentedFor, seenIn, boxNext}
 use Rattle.duets.specs.Steps.Step.{plug, unplug, load, request}
@@ -75,7 +75,7 @@ sideRequestRows b s d room =
 
 abbrev pub numberIn : Plugging → ℕ
 numberIn (refused n p) = n
-numberIn (taken r) = 0
+numberIn (let-in r) = 0
 
 abbrev pub PlugPlace : List ℕ → ℕ → ℕ → ℕ → Type 0
 PlugPlace s room n p =

@@ -37,7 +37,7 @@ use Rattle.duet.specs.declared.Socket.{Socket}
 use Rattle.duet.specs.declared.Duet.{Duet}
 use Rattle.duet.specs.Box.{socketOf, emptyDuet}
 use Rattle.duet.specs.Plugging.{Plugging, plugOf, unplugAnswer}
-use Rattle.duet.specs.Plugging.Plugging.{refused, taken}
+use Rattle.duet.specs.Plugging.Plugging.{refused, let-in}
 use Rattle.duet.specs.Asking.{loadIn, requestIn}
 use Rattle.duets.specs.Steps.{Step, presentedFor, isOf, boxNext, boxAfterRun, Carried}
 use Rattle.duets.specs.Steps.Step.{plug, unplug, load, request}
@@ -49,7 +49,7 @@ pub data Life : Type 0 where
 
 abbrev pub lifePlug : Plugging → Life → Life
 lifePlug (refused n p) l = l
-lifePlug (taken r) l = since (stateOf r) []
+lifePlug (let-in r) l = since (stateOf r) []
 
 abbrev pub lifeMore : Life → runs.Step → Life
 lifeMore none x = none

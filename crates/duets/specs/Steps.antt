@@ -35,7 +35,7 @@ use Rattle.sides.specs.Sides.{addresseeOf}
 use Rattle.duet.specs.declared.Duet.{Duet}
 use Rattle.duet.specs.Box.{otherSide, socketOf, controlsOn}
 use Rattle.duet.specs.Plugging.{Plugging, plugOf, duetAfter, unplugAnswer}
-use Rattle.duet.specs.Plugging.Plugging.{refused, taken}
+use Rattle.duet.specs.Plugging.Plugging.{refused, let-in}
 use Rattle.duet.specs.Asking.{loadIn, requestIn, boxAfter, answerFor}
 
 pub data Step : Type 0 where
@@ -75,7 +75,7 @@ pub record Seen : Type 0 where
 
 abbrev pub seenPlug : List ℕ → List ℕ → Plugging → Seen
 seenPlug s d (refused n p) = record { number = n; place = p; interface = 0; entities = 0; controls = 0; written = 0; lent = d }
-seenPlug s d (taken r) = record {
+seenPlug s d (let-in r) = record {
   number = 0;
   place = 0;
   interface = r .control;
