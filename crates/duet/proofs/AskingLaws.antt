@@ -1,6 +1,6 @@
 -- Loads and requests on a side: each way out of the code, once over the side.
 --   refused-answer  ==  a refusal's answer leaves the box as it stood
---   given-answer    ==  what the request layer answers on a side that has a microphone
+--   given-answer    ==  what the request layer answers on a side that has a microphone (answerOf is the word of its contract)
 --   Guarded o st    ==  o is 30 where 30 has something against the state's table, as each outcome of the request layer is
 --   load-guarded, request-guarded  ==  so it is of a load and of a request: 30 is the first row of what the request layer promises of their numbers
 --   load-thirty, load-empty, load-handed  ==  the ways of a load
