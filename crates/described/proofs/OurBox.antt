@@ -40,6 +40,6 @@ our-box = record {
   withdrawn = λ i n s h. record { kind = refl; pins = h; long = long-printed i n s; pad = refl };
   untouched = untouched;
   stays = stays;
-  read-back = λ s ls cs k f w. read-back-same s ls cs k w;
+  read-back = read-back-same;
   written-again = written-same;
 }

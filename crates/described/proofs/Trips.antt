@@ -29,6 +29,7 @@ use Rattle.interfaces.specs.InterfaceLaws.{nine}
 use Rattle.groups.specs.Rules5and6.{Opening, Header, listedOf, Rule5, Rule6}
 use Rattle.cutting.specs.Rules1to9.{Opened, headerPlace, Kept, Rule9, NoneWithdrawn, laidOut}
 use Rattle.cutting.specs.Context.{cut-told}
+use Rattle.cutting.specs.Exact.{kept-header, kept-run}
 use Rattle.entities.specs.Run.{mostEntities, runIn}
 use Rattle.entities.specs.Represents.{Represents}
 use Rattle.entities.specs.RepresentsLaws.{run-represents}
@@ -181,12 +182,21 @@ module _ (s : List ℕ) (ls : List Listed) (cs : List ℕ) (k : EntitiesKeep ls)
   connected : Connected audio ds
   connected = connected-with (represents ds ds-each ds-laid (k .0 .1)) (k .1 .1 .1 .0) (k .1 .1 .1 .1 .0) (k .1 .1 .1 .1 .1 .0) (k .1 .1 .1 .1 .1 .1 .0)
 
+  -- the run and the header that keep the rules are one
+  run-one : (t : Configuration s) → runOf (t .kept) ≡ ds
+  unfolding kept right6
+  run-one t = kept-run s (t .kept) ∙ sym (kept-run s kept)
+
+  header-one : (t : Configuration s) → t .kept .rule5 .header ≡ header
+  unfolding kept right5
+  header-one t = kept-header s (t .kept) ∙ sym (kept-header s kept)
+
   pub read-back-same : ReadBack s ls cs
   unfolding kept right5 right6
   read-back-same = record {
     accepted = record { kept = kept; connected = connected; rule14 = w .rule14 (connected .cluster) (connected .given-out); rule15 = w .rule15 (connected .cluster) (connected .given-out) };
-    same-list = found-all ls (k .1 .0) (k .1 .1 .0);
-    same-collection = refl;
+    same-list = λ t. ap (map foundIn) (run-one t) ∙ found-all ls (k .1 .0) (k .1 .1 .0);
+    same-collection = λ t. ap listedOf (header-one t);
   }
 
 -- ---- read, then written

@@ -8,7 +8,7 @@
 --                           entities give out (14, 15)
 --   listRead t          ==  the list that the reader finds in a configuration: of each descriptor of the run the entity with all its fields
 --   collectionRead t    ==  the collection list that it finds: the numbers of its header
---   ReadBack s ls cs    ==  s is a configuration, and what is read there are the list and the collection list
+--   ReadBack s ls cs    ==  s is a configuration, and whatever shows that it is one, what is read there are the list and the collection list
 --   bytesOfBoth t       ==  header and run of a configuration, as they stand
 --   WrittenAgain s t    ==  these bytes stand in s where the header does, the writer writes them from the list and the collection list that were read, and refuses nothing
 --                           where it has room
@@ -38,7 +38,7 @@ use Rattle.controls.specs.Rule15.{Rule15}
 use Rattle.reader.specs.Configuration.{runOf, Configuration}
 use Rattle.fields.specs.Listed.{Listed, printed, writtenAs, foundIn}
 use Rattle.writing.specs.declared.Wrote.{Wrote}
-use Rattle.writing.specs.Writing.{mostNumbers, descriptorsOf, writtenOf, entityRows, writerRows, writerVerdict, Writes}
+use Rattle.writing.specs.Writing.{descriptorsOf, writtenOf, entityRows, writerRows, writerVerdict, Writes}
 
 abbrev pub EntitiesKeep : List Listed → Type 0
 EntitiesKeep ls = AllKept (entityRows (descriptorsOf ls) end)
@@ -71,8 +71,8 @@ module _ {s : List ℕ} (t : Configuration s) where
 
 pub record ReadBack (s : List ℕ) (ls : List Listed) (cs : List ℕ) : Type 0 where
   pub accepted : Configuration s
-  pub same-list : listRead accepted ≡ ls
-  pub same-collection : collectionRead accepted ≡ cs
+  pub same-list : (t : Configuration s) → listRead t ≡ ls
+  pub same-collection : (t : Configuration s) → collectionRead t ≡ cs
 
 pub record WrittenAgain (s : List ℕ) (t : Configuration s) : Type 0 where
   pub stands : take (length (bytesOfBoth t)) (drop (headerPlace (t .kept .opened)) s) ≡ bytesOfBoth t
@@ -87,5 +87,5 @@ pub record OurBox : Type 0 where
   pub untouched : (ls : List Listed) (cs before after : List ℕ) (r : Wrote) → Writes ls cs before after r → (r .number ≡ 0 → ⊥) → (after ≡ before) × (r .written ≡ 0)
   pub stays : (ls : List Listed) (cs before after : List ℕ) (r : Wrote) → Writes ls cs before after r → r .number ≡ 0
       → (take (r .written) after ≡ writtenOf ls cs) × (drop (r .written) after ≡ drop (r .written) before)
-  pub read-back : (s : List ℕ) (ls : List Listed) (cs : List ℕ) → EntitiesKeep ls → length cs ≤ mostNumbers → Within s ls cs → ReadBack s ls cs
+  pub read-back : (s : List ℕ) (ls : List Listed) (cs : List ℕ) → EntitiesKeep ls → Within s ls cs → ReadBack s ls cs
   pub written-again : (s : List ℕ) (t : Configuration s) → Bytes s → WrittenAgain s t
