@@ -12,6 +12,7 @@ use Rattle.fields.specs.Listed.{Listed}
 use Rattle.laying.specs.LayingLaws.{long-printed}
 use Rattle.writing.specs.declared.Wrote.{Wrote}
 use Rattle.writing.specs.Writing.{writtenOf, writerVerdict, writerRows, Writes}
+use Rattle.writing.specs.AnswerLaws.{writes-one}
 use Rattle.described.specs.OurBox.{OurBox}
 use Rattle.described.proofs.Refused.{verdict-answers, numbered}
 use Rattle.described.proofs.Trips.{read-back-same, written-same}
@@ -40,6 +41,7 @@ our-box = record {
   withdrawn = λ i n s h. record { kind = refl; pins = h; long = long-printed i n s; pad = refl };
   untouched = untouched;
   stays = stays;
+  one-result = writes-one;
   read-back = read-back-same;
   written-again = written-same;
 }

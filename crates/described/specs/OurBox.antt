@@ -13,7 +13,8 @@
 --   WrittenAgain s t    ==  these bytes stand in s where the header does, the writer writes them from the list and the collection list that were read, and refuses nothing
 --                           where it has room
 --   OurBox              ==  the refusals are exactly the rules of the list, by the first row that is not kept, at its index (refused), and there is none where
---                           every row is kept (accepted); a printed Selector of the list is one to the reader too, so that 17 is its row (withdrawn); a refusal leaves the buffer, and bytes past what is written stay (untouched, stays); read-back, written-again
+--                           every row is kept (accepted); a printed Selector of the list is one to the reader too, so that 17 is its row (withdrawn); a refusal leaves the buffer, and bytes past what is written stay (untouched, stays);
+--                           there is one answer and one buffer afterwards (one-result); read-back, written-again
 use Prim.Native.Nat.{ℕ, _≤_}
 use mathlib.Core.Path.{_≡_}
 use mathlib.Core.Logic.{_↔_}
@@ -87,5 +88,6 @@ pub record OurBox : Type 0 where
   pub untouched : (ls : List Listed) (cs before after : List ℕ) (r : Wrote) → Writes ls cs before after r → (r .number ≡ 0 → ⊥) → (after ≡ before) × (r .written ≡ 0)
   pub stays : (ls : List Listed) (cs before after : List ℕ) (r : Wrote) → Writes ls cs before after r → r .number ≡ 0
       → (take (r .written) after ≡ writtenOf ls cs) × (drop (r .written) after ≡ drop (r .written) before)
+  pub one-result : (ls : List Listed) (cs before a b : List ℕ) (r q : Wrote) → Writes ls cs before a r → Writes ls cs before b q → (r ≡ q) × (a ≡ b)
   pub read-back : (s : List ℕ) (ls : List Listed) (cs : List ℕ) → EntitiesKeep ls → Within s ls cs → ReadBack s ls cs
   pub written-again : (s : List ℕ) (t : Configuration s) → Bytes s → WrittenAgain s t
