@@ -15,7 +15,7 @@ use Rattle.writing.specs.Writing.{writtenOf, writerVerdict, writerRows, Writes}
 use Rattle.writing.specs.AnswerLaws.{writes-one}
 use Rattle.described.specs.OurBox.{OurBox}
 use Rattle.described.proofs.Refused.{verdict-answers, numbered}
-use Rattle.described.proofs.Trips.{read-back-same, written-same}
+use Rattle.described.proofs.Trips.{read-back-same, written-same, had-all}
 
 module _ (ls : List Listed) (cs before after : List ℕ) (r : Wrote) (w : Writes ls cs before after r) where
   number : r .number ≡ writerVerdict ls cs (length before) .number
@@ -44,4 +44,5 @@ our-box = record {
   one-result = writes-one;
   read-back = read-back-same;
   written-again = written-same;
+  had = had-all;
 }

@@ -12,17 +12,22 @@
 --   bytesOfBoth t       ==  header and run of a configuration, as they stand
 --   WrittenAgain s t    ==  these bytes stand in s where the header does, the writer writes them from the list and the collection list that were read, and refuses nothing
 --                           where it has room
+--   Had s t             ==  header and run can be had from the writer, out of the configuration s alone: there is a list of entities, as many as it takes
+--                           (places), each what is read of its descriptor, its parts moved to where that stands in s (each), which with s lent is the list
+--                           that the reader found (found); from it, whatever buffer with room is lent, the writer writes header and run into the front,
+--                           byte for byte, and refuses nothing (written)
 --   OurBox              ==  the refusals are exactly the rules of the list, by the first row that is not kept, at its index (refused), and there is none where
 --                           every row is kept (accepted); a printed Selector of the list is one to the reader too, so that 17 is its row (withdrawn); a refusal leaves the buffer, and bytes past what is written stay (untouched, stays);
---                           there is one answer and one buffer afterwards (one-result); read-back, written-again
-use Prim.Native.Nat.{ℕ, _≤_}
+--                           there is one answer and one buffer afterwards (one-result); read-back, written-again, had
+use Prim.Native.Nat.{ℕ, _+_, _≤_, _<_}
 use mathlib.Core.Path.{_≡_}
 use mathlib.Core.Logic.{_↔_}
-use mathlib.Core.List.{List, _∷_, _++_, map, flatten, List·Memᴰ}
-use lib.ListN.{length, take, drop}
+use mathlib.Core.List.{List, [], _∷_, _++_, map, flatten, List·Memᴰ}
+use lib.ListN.{length, getD, take, drop}
 use Rattle.ground.specs.declared.Refusal.{Refusal}
 use Rattle.ground.specs.Numbers.{Bytes}
 use Rattle.ground.specs.Refuse.{none}
+use Rattle.ground.specs.Lists.{total}
 use Rattle.ground.specs.Rows.{end, AllKept, FirstBroken}
 use Rattle.scan.specs.Cutting.{Cutting}
 use Rattle.search.specs.Want.{Interface, Class}
@@ -30,16 +35,19 @@ use Rattle.layout.specs.declared.Cluster.{Cluster}
 use Rattle.layout.specs.Layouts.{Pins}
 use Rattle.layout.specs.Withdrawn.{Printed}
 use Rattle.edition.specs.Audio.{audio}
+use Rattle.entities.specs.Run.{mostEntities}
 use Rattle.collection.specs.Rule7.{Rule7}
 use Rattle.groups.specs.Rules5and6.{listedOf, GroupEnds}
 use Rattle.cutting.specs.Rules1to9.{Opened, headerPlace, Kept}
 use Rattle.clusters.specs.Rule13.{GivenOut}
 use Rattle.streaming.specs.Rule14.{Rule14}
 use Rattle.controls.specs.Rule15.{Rule15}
-use Rattle.reader.specs.Configuration.{runOf, Configuration}
-use Rattle.fields.specs.Listed.{Listed, printed, writtenAs, foundIn}
+use Rattle.reader.specs.Configuration.{runOf, placeOfRun, Configuration}
+use Rattle.fields.specs.declared.Item.{Item}
+use Rattle.fields.specs.Listed.{Listed, printed, writtenAs, blankItem, movedBy, foundIn, ReadAs}
+use Rattle.writing.specs.declared.EntityList.{EntityList}
 use Rattle.writing.specs.declared.Wrote.{Wrote}
-use Rattle.writing.specs.Writing.{descriptorsOf, writtenOf, entityRows, writerRows, writerVerdict, Writes}
+use Rattle.writing.specs.Writing.{listOf, descriptorsOf, writtenOf, entityRows, writerRows, writerVerdict, Writes}
 
 abbrev pub EntitiesKeep : List Listed → Type 0
 EntitiesKeep ls = AllKept (entityRows (descriptorsOf ls) end)
@@ -80,6 +88,15 @@ pub record WrittenAgain (s : List ℕ) (t : Configuration s) : Type 0 where
   pub same : writtenOf (listRead t) (collectionRead t) ≡ bytesOfBoth t
   pub accepted : (m : ℕ) → length (bytesOfBoth t) ≤ m → writerVerdict (listRead t) (collectionRead t) m ≡ none
 
+pub record Had (s : List ℕ) (t : Configuration s) : Type 0 where
+  pub list : EntityList
+  pub places : length (list .items) ≡ mostEntities
+  pub each : (i : ℕ) → i < length (runOf (t .kept))
+      → (r : Item) × ReadAs (getD (runOf (t .kept)) i []) r × (getD (list .items) i blankItem ≡ movedBy (placeOfRun (t .kept) + total (take i (runOf (t .kept)))) r)
+  pub found : listOf s list ≡ listRead t
+  pub written : (before after : List ℕ) (r : Wrote) → length (bytesOfBoth t) ≤ length before → Writes (listOf s list) (collectionRead t) before after r
+      → (r .number ≡ 0) × (after ≡ bytesOfBoth t ++ drop (length (bytesOfBoth t)) before)
+
 pub record OurBox : Type 0 where
   pub refused : (ls : List Listed) (cs : List ℕ) (m n p : ℕ) → (n ≡ 0 → ⊥)
       → (writerVerdict ls cs m ≡ record { number = n; place = p }) ↔ FirstBroken (writerRows ls cs m) n p
@@ -91,3 +108,4 @@ pub record OurBox : Type 0 where
   pub one-result : (ls : List Listed) (cs before a b : List ℕ) (r q : Wrote) → Writes ls cs before a r → Writes ls cs before b q → (r ≡ q) × (a ≡ b)
   pub read-back : (s : List ℕ) (ls : List Listed) (cs : List ℕ) → EntitiesKeep ls → Within s ls cs → ReadBack s ls cs
   pub written-again : (s : List ℕ) (t : Configuration s) → Bytes s → WrittenAgain s t
+  pub had : (s : List ℕ) (t : Configuration s) → Bytes s → Had s t

@@ -168,8 +168,8 @@ pub writes-one : (ls : List Listed) (cs before a e : List ℕ) (r q : Wrote) →
 writes-one ls cs before a e r q x y =
     let v : answersIn r ≡ answersIn q = x .refused ∙ sym (y .refused) in (
       made-same (r .number) (q .number) (r .place) (q .place) (r .written) (q .written)
-      (ap (λ (z : Refusal). z .number) v)
-      (ap (λ (z : Refusal). z .place) v)
-      (x .written ∙ sym (y .written)),
+          (ap (λ (z : Refusal). z .number) v)
+          (ap (λ (z : Refusal). z .place) v)
+          (x .written ∙ sym (y .written)),
       x .lent ∙ sym (y .lent),
     )
