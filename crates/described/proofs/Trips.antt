@@ -1,8 +1,8 @@
 -- The two trips: what is written, set within a configuration, is read back; and what is read is written again.
-use Prim.Native.Nat.{ℕ, zero, suc, _+_, _-_, _*_, _/_, _%_, _≤_, _<_}
+use Prim.Native.Nat.{ℕ, zero, suc, _+_, _-_, _/_, _%_, _≤_, _<_}
 use mathlib.Core.Path.{_≡_, refl, sym, ap, subst, _∙_}
-use mathlib.Core.Bool.{Bool, true, false, _&&_}
-use mathlib.Core.Logic.{_⊎_, inl, inr, ⊎-elim}
+use mathlib.Core.Bool.{Bool, true, false}
+use mathlib.Core.Logic.{_⊎_, inl, ⊎-elim}
 use mathlib.Core.Option.{Option, none, some}
 use mathlib.Core.List.{List, [], _∷_, _++_, map, flatten, append-assoc, append-nil, List·Memᴰ, List·Memᴰ·head, List·Memᴰ·tail, List·Memᴰ·not-nil, List·Memᴰ·cases-cons, List·Memᴰ·append-cases, Memᴰ·append-left, Memᴰ·append-right}
 use native.Mathlib.Omega.{arith}
@@ -12,9 +12,9 @@ use lib.Seq.{take-at, drop-at, append-snoc}
 use borrow.Author.Tests.{eq-eqb}
 use Rattle.ground.specs.declared.Refusal.{Refusal}
 use Rattle.ground.specs.Refuse as refuse
-use Rattle.ground.specs.Rows.{end, AllKept, all-none}
+use Rattle.ground.specs.Rows.{AllKept, all-none}
 use Rattle.ground.specs.Pick.{pick, yes, reads-and, reads-eq, reads-within, reads-true}
-use Rattle.ground.specs.Numbers.{byte, word, Bytes}
+use Rattle.ground.specs.Numbers.{word, Bytes}
 use Rattle.ground.specs.Lists.{total, total-append, length-flatten, flatten-append, pad, pad-length, pad-at, pad-front, pad-full}
 use Rattle.graph.specs.Members.{_∈_}
 use Rattle.scan.specs.Cutting.{Descriptor, Cutting}
@@ -23,13 +23,13 @@ use Rattle.search.specs.Want.{Class}
 use Rattle.layout.specs.Format.{fits}
 use Rattle.layout.specs.Layouts as kind
 use Rattle.layout.specs.Layouts.{formatOf, mostPins}
-use Rattle.layout.specs.Fields.{Fields, input, output, mixer, selector, feature, bytesOf, bodyOf, fieldsOf, LaidOut}
+use Rattle.layout.specs.Fields.{Fields, input, output, mixer, selector, feature, bytesOf, LaidOut}
 use Rattle.layout.specs.Fields as fields
 use Rattle.layout.specs.FieldsLaws.{none-some, read-back, laid-only, laid-whole}
 use Rattle.layout.specs.Withdrawn.{printed-unlaid, layout-or}
 use Rattle.edition.specs.Audio.{audio}
 use Rattle.interfaces.specs.InterfaceLaws.{nine}
-use Rattle.groups.specs.Rules5and6.{Opening, Header, listedOf, Rule5, Rule6}
+use Rattle.groups.specs.Rules5and6.{Header, listedOf, Rule5, Rule6}
 use Rattle.cutting.specs.Rules1to9.{Opened, headerPlace, Kept, Rule9, NoneWithdrawn, laidOut}
 use Rattle.cutting.specs.Context.{cut-told}
 use Rattle.cutting.specs.Exact.{kept-header, kept-run}
@@ -44,7 +44,7 @@ use Rattle.fields.specs.Listed.{Listed, wrong, laid, printed, writtenAs, listed
 use Rattle.fields.specs.ListedLaws.{read-some, moved-same}
 use Rattle.writing.specs.declared.Wrote.{Wrote}
 use Rattle.writing.specs.Writing.{mostNumbers, descriptorsOf, headerOf, wholeOf, writtenOf, WrongIn, entityRows, roomRows, writerRows, writerVerdict, Writes}
-use Rattle.described.specs.OurBox.{EntitiesKeep, Within, listRead, collectionRead, bytesOfBoth, ReadBack, WrittenAgain, Had}
+use Rattle.described.specs.OurBox.{EntitiesKeep, Framed, Within, listRead, collectionRead, bytesOfBoth, ReadBack, WrittenAgain, Had}
 use Rattle.described.proofs.Refused.{all-descriptors, empty-unlaid, empty-unprinted, verdict-answers}
 
 -- ---- what has a layout was in range
@@ -93,14 +93,14 @@ found-all (l ∷ ls) n w =
     let more = found-all ls (λ d m. n d (List·Memᴰ·tail m)) (λ d m. w d (List·Memᴰ·tail m)) in
     rw (one, more) refl
 
-class-one : (l : Listed) → (WrongIn (writtenAs l) → ⊥) → Class (writtenAs l)
-class-one wrong n = absurd (n (inl (empty-unlaid, empty-unprinted)))
-class-one (laid f) n = refl
-class-one (printed i s k) n = refl
+class-one : (l : Listed) → Descriptor (writtenAs l) → Class (writtenAs l)
+class-one wrong c = let n = c .long in absurd (omega arith)
+class-one (laid f) c = refl
+class-one (printed i s k) c = refl
 
-class-all : (ls : List Listed) → ((d : List ℕ) → d ∈ descriptorsOf ls → WrongIn d → ⊥) → (d : List ℕ) → d ∈ descriptorsOf ls → Class d
-class-all [] n d m = absurd (List·Memᴰ·not-nil m)
-class-all (l ∷ ls) n d m = ⊎-elim (λ e. rw e (class-one l (n (writtenAs l) (List·Memᴰ·head refl)))) (λ k. class-all ls (λ x j. n x (List·Memᴰ·tail j)) d k) (List·Memᴰ·cases-cons m)
+pub class-all : (ls : List Listed) → ((d : List ℕ) → d ∈ descriptorsOf ls → Descriptor d) → (d : List ℕ) → d ∈ descriptorsOf ls → Class d
+class-all [] c d m = absurd (List·Memᴰ·not-nil m)
+class-all (l ∷ ls) c d m = ⊎-elim (λ e. rw e (class-one l (c (writtenAs l) (List·Memᴰ·head refl)))) (λ k. class-all ls (λ x j. c x (List·Memᴰ·tail j)) d k) (List·Memᴰ·cases-cons m)
 
 -- ---- what stands behind the AudioControl interface
 
@@ -125,26 +125,20 @@ module _ {s : List ℕ} (o : Opened s) where
 represents : (ds : List (List ℕ)) → ((d : List ℕ) → d ∈ ds → Descriptor d) → Rule9 audio ds → length ds ≤ mostEntities → Represents audio (flatten ds) 0 ds (runIn audio 0 ds)
 represents ds cut l few = run-represents audio (flatten ds) 0 ds [] (sym (append-nil (flatten ds))) cut l few
 
--- ---- written, then read
+-- ---- what is written, set within a frame, is header and run
 
-module _ (s : List ℕ) (ls : List Listed) (cs : List ℕ) (k : EntitiesKeep ls) (w : Within s ls cs) where
-  abbrev ds : List (List ℕ)
-  ds = descriptorsOf ls
+module _ (s : List ℕ) (ls : List Listed) (cs : List ℕ) (w : Framed s ls cs) (each : (d : List ℕ) → d ∈ descriptorsOf ls → Descriptor d) where
+  abbrev run-written : List (List ℕ)
+  run-written = descriptorsOf ls
 
   abbrev header : List ℕ
-  header = headerOf cs (length (flatten ds))
+  header = headerOf cs (length (flatten run-written))
 
   abbrev others : List (List ℕ)
-  others = ds ++ (w .later ++ w .after)
+  others = run-written ++ (w .later ++ w .after)
 
-  header-own : 8 + length cs ≡ length header
+  pub header-own : 8 + length cs ≡ length header
   header-own = omega arith
-
-  ds-each : (d : List ℕ) → d ∈ ds → Descriptor d
-  ds-each = all-descriptors ls (k .1 .0)
-
-  ds-laid : Rule9 audio ds
-  ds-laid = laidOut audio ds (λ d m. layout-or d (λ x. k .1 .0 d m (inl x))) (k .1 .1 .0)
 
   tail-bytes : flatten (w .opened .tail) ≡ writtenOf ls cs ++ w .behind
   tail-bytes =
@@ -156,34 +150,46 @@ module _ (s : List ℕ) (ls : List Listed) (cs : List ℕ) (k : EntitiesKeep ls)
   written-cut : Cutting (writtenOf ls cs ++ w .behind) (header ∷ others)
   unfolding flatten
   written-cut = record {
-    whole = ap (λ (x : List ℕ). header ++ x) (flatten-append ds (w .later ++ w .after) ∙ ap (λ (x : List ℕ). flatten ds ++ x) (w .cut .whole)) ∙ sym (append-assoc header (flatten ds) (w .behind));
-    each = λ d m. ⊎-elim (λ e. rw e (record { long = omega arith; own = header-own })) (λ j. ⊎-elim (ds-each d) (w .cut .each d) (List·Memᴰ·append-cases ds j)) (List·Memᴰ·cases-cons m);
+    whole = ap (λ (x : List ℕ). header ++ x) (flatten-append run-written (w .later ++ w .after) ∙ ap (λ (x : List ℕ). flatten run-written ++ x) (w .cut .whole)) ∙ sym (append-assoc header (flatten run-written) (w .behind));
+    each = λ d m. ⊎-elim (λ e. rw e (record { long = omega arith; own = header-own })) (λ j. ⊎-elim (each d) (w .cut .each d) (List·Memᴰ·append-cases run-written j)) (List·Memᴰ·cases-cons m);
   }
 
-  tail-is : w .opened .tail ≡ header ∷ others
+  pub tail-is : w .opened .tail ≡ header ∷ others
   tail-is =
       let c : Cutting (flatten (w .opened .tail)) (w .opened .tail) = record { whole = refl; each = tail-each (w .opened) } in
       cutting-one (writtenOf ls cs ++ w .behind) (w .opened .tail) (header ∷ others) (rw tail-bytes at c) written-cut
 
-  right5 : Rule5 (w .opened .tail)
+  unfoldable pub right5 : Rule5 (w .opened .tail)
   right5 = record { header = header; others = others; stands = tail-is; right = record { opening = refl; long = sym header-own } }
 
-  right6 : Rule6 header others
+  unfoldable pub right6 : Rule6 header others
   right6 = record {
-    run = ds;
+    run = run-written;
     later = w .later;
     after = w .after;
     split = refl;
-    class = class-all ls (k .1 .0);
+    class = class-all ls each;
     no-class = w .no-class;
     in-group = w .in-group;
     ends = w .ends;
-    length-told = let n = length-flatten ds in omega arith;
+    length-told = let n = length-flatten run-written in omega arith;
   }
+
+-- ---- written, then read
+
+module _ (s : List ℕ) (ls : List Listed) (cs : List ℕ) (k : EntitiesKeep ls) (w : Within s ls cs) where
+  abbrev ds : List (List ℕ)
+  ds = descriptorsOf ls
+
+  ds-each : (d : List ℕ) → d ∈ ds → Descriptor d
+  ds-each = all-descriptors ls (k .1 .0)
+
+  ds-laid : Rule9 audio ds
+  ds-laid = laidOut audio ds (λ d m. layout-or d (λ x. k .1 .0 d m (inl x))) (k .1 .1 .0)
 
   kept : Kept s
   unfolding right5 right6
-  kept = record { opened = w .opened; rule5 = right5; rule6 = right6; rule7 = w .rule7; rule8 = k .0; rule9 = ds-laid }
+  kept = record { opened = w .frame .opened; rule5 = right5 s ls cs (w .frame) ds-each; rule6 = right6 s ls cs (w .frame) ds-each; rule7 = w .frame .rule7; rule8 = k .0; rule9 = ds-laid }
 
   connected : Connected audio ds
   connected = connected-with (represents ds ds-each ds-laid (k .0 .1)) (k .1 .1 .1 .0) (k .1 .1 .1 .1 .0) (k .1 .1 .1 .1 .1 .0) (k .1 .1 .1 .1 .1 .1 .0)
@@ -193,7 +199,7 @@ module _ (s : List ℕ) (ls : List Listed) (cs : List ℕ) (k : EntitiesKeep ls)
   unfolding kept right6
   run-one t = kept-run s (t .kept) ∙ sym (kept-run s kept)
 
-  header-one : (t : Configuration s) → t .kept .rule5 .header ≡ header
+  header-one : (t : Configuration s) → t .kept .rule5 .header ≡ headerOf cs (length (flatten ds))
   unfolding kept right5
   header-one t = kept-header s (t .kept) ∙ sym (kept-header s kept)
 
