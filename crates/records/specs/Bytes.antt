@@ -2,6 +2,7 @@
 --   RecordBytes d c b  ==  the bytes b are the record of the descriptor d with the cluster c: "ID; kind ..; c; bitmap (2); name index; pins; 00", then
 --                          "twenty-four source IDs", "unused ones 00", where pins and sources are those of the fields that the layout gives d, and the
 --                          kind is one of the five
+--   source-at          ==  what stands behind the head of a record, of any edition: the source IDs, unused ones 00
 --   bytes-told         ==  the record of a descriptor that has its layout is such
 use Prim.Native.Nat.{ℕ, _+_, _/_, _%_, _≤_, _<_}
 use mathlib.Core.Path.{_≡_, refl, sym, ap, _∙_}
@@ -17,7 +18,7 @@ use Rattle.layout.specs.Fields.{LaidOut, fedBy}
 use Rattle.layout.specs.FieldsLaws.{laid-only}
 use Rattle.kinds.specs.Shown.{kind-told, kind-range}
 use Rattle.kinds.specs.SourcesLaws.{pins-fields, sources-fields, pins-few}
-use Rattle.edition.specs.Edition.{ownId, sources}
+use Rattle.edition.specs.Edition.{Edition, ownId, sources}
 use Rattle.edition.specs.Audio.{audio}
 use Rattle.records.specs.Records.{headSize, recordSize, frontOf, recordFor, recordIn}
 
@@ -36,6 +37,11 @@ pub record RecordBytes (d : List ℕ) (c : Cluster) (b : List ℕ) : Type 0 wher
   pub source : (j : ℕ) → j < length (fedBy (laid .fields)) → byte b (headSize + j) ≡ byte (fedBy (laid .fields)) j
   pub unused : (j : ℕ) → length (fedBy (laid .fields)) ≤ j → j < mostPins → byte b (headSize + j) ≡ 0
 
+pub source-at : (ed : Edition) (d : List ℕ) (c : Cluster) (j : ℕ) → j < mostPins → byte (recordFor ed d c) (headSize + j) ≡ byte (sources ed d) j
+unfolding recordFor
+source-at ed d c j h =
+    getD-append-add (frontOf (ownId d) (ed .kind d) (length (sources ed d)) c) (pad 0 mostPins (sources ed d)) j 0 ∙ pad-at 0 mostPins (sources ed d) j h
+
 module _ (d : List ℕ) (c : Cluster) (laid : LaidOut d) where
   fed : sources audio d ≡ fedBy (laid .fields)
   fed = sources-fields d (laid .fields) (laid-only d laid)
@@ -44,11 +50,7 @@ module _ (d : List ℕ) (c : Cluster) (laid : LaidOut d) where
   few = let m = pins-few d in let n = pins-fields d (laid .fields) (laid-only d laid) in omega arith
 
   source-byte : (j : ℕ) → j < mostPins → byte (recordIn d c) (headSize + j) ≡ byte (fedBy (laid .fields)) j
-  unfolding recordFor
-  source-byte j h =
-      getD-append-add (frontOf (ownId d) (audio .kind d) (length (sources audio d)) c) (pad 0 mostPins (sources audio d)) j 0
-      ∙ pad-at 0 mostPins (sources audio d) j h
-      ∙ ap (λ (l : List ℕ). byte l j) fed
+  source-byte j h = source-at audio d c j h ∙ ap (λ (l : List ℕ). byte l j) fed
 
   -- THE LAW, where d has its layout (rule 9)
   pub bytes-told : RecordBytes d c (recordIn d c)
