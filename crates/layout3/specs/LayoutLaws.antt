@@ -29,7 +29,7 @@ use Rattle.layout3.specs.declared.Entity.{Entity}
 use Rattle.layout3.specs.declared.Entity.the-variants.{Unknown, Input, Output, Mixer, Selector, Feature, Clock}
 use Rattle.layout3.specs.Layouts as kind
 use Rattle.layout3.specs.Layouts.{Kind, numberOf, formatOf, kindBy, LaidOut}
-use Rattle.layout3.specs.Layout.{entityAt, entityBy, inputOf, outputOf, mixerOf, selectorOf, featureOf, clockOf, entityIn, entityOf, isUnknown}
+use Rattle.layout3.specs.Layout.{entityAt, entityBy, inputOf, outputOf, mixerOf, selectorOf, featureOf, clockOf, entityIn, entityOf, layoutNumber, isUnknown}
 use Rattle.layout3.specs.Facts.{factsOf}
 
 kind-number : (k : Kind) → kindBy (numberOf k) ≡ some k
@@ -238,7 +238,7 @@ told d = go (kindBy (byte d 2)) refl
     go (some k) e = by-fits k e (fits (formatOf k) d 3) refl
 
 pub reads-unknown : (d : List ℕ) → Reads (isUnknown (entityOf d)) (LaidOut d → ⊥)
-unfolding isUnknown
+unfolding isUnknown layoutNumber
 reads-unknown d = of (told d)
   where
     known : LaidOut d → Reads false (LaidOut d → ⊥)

@@ -21,7 +21,7 @@ use Rattle.opening.specs.Reading.{breach1, breach2}
 use Rattle.interfaces.specs.Reading.{wrongInterface, breach4, interfacesJudged}
 use Rattle.groups.specs.Reading.{runEnd, frameFrom, frameOf, straysFrom}
 use Rattle.groups.specs.Third.{isThirdHeader, thirdBreach5, thirdBreach6, thirdGroupJudged, thirdJudged}
-use Rattle.layout3.specs.Layout.{entityOf, isUnknown}
+use Rattle.layout3.specs.Layout.{entityOf, layoutNumber, isUnknown}
 use Rattle.layout3.specs.Facts.{factsOf}
 use Rattle.buffer.specs.Reading.{foundCluster, clusterIn, clusterWith, isWrongCluster, foundOr, breach51}
 use Rattle.edition3.specs.Third.{firstOf, featureLength, keeps}
@@ -46,7 +46,7 @@ abbrev lentWhole : List ℕ
 lentWhole = replicate wholeSheet 0
 
 pub cases-3 : Cases3
-unfolding caseC caseD monoBuffer refuse placeOr firstFrom total any pad firstIn somewhere all mem joins step passFrom passes put given tabulateFrom wrongId endBy restFromBy restBy reachBy breachBy searched isInterface isClass isAudio isSetting wants foundFrom breach1 breach2 wrongInterface breach4 interfacesJudged runEnd frameFrom frameOf straysFrom isThirdHeader thirdBreach5 thirdBreach6 thirdGroupJudged thirdJudged entityOf isUnknown factsOf foundCluster clusterIn clusterWith isWrongCluster foundOr breach51 firstOf featureLength keeps nodeOf nodesFrom runIn breach10 lookupBelow sourceNumber wrongSource breach11 ordered breach12 wrongClockBy breachClock lesser breach11Third isNowhere unknownBy breach52 firstId givenIds keepsBy breach13 clustersBy headOf recordOf recordsTo roomFor shownIn runFor runJudged clustersJudged linksJudged frameJudged thirdThen roomRefused thirdVerdict sheetRefused thirdAnswer thirdSheet protocolOf sheetReading eitherReading eitherSheet
+unfolding caseC caseD monoBuffer refuse placeOr firstFrom total any pad firstIn somewhere all mem joins step passFrom passes put given tabulateFrom wrongId endBy restFromBy restBy reachBy breachBy searched isInterface isClass isAudio isSetting wants foundFrom breach1 breach2 wrongInterface breach4 interfacesJudged runEnd frameFrom frameOf straysFrom isThirdHeader thirdBreach5 thirdBreach6 thirdGroupJudged thirdJudged entityOf isUnknown layoutNumber factsOf foundCluster clusterIn clusterWith isWrongCluster foundOr breach51 firstOf featureLength keeps nodeOf nodesFrom runIn breach10 lookupBelow sourceNumber wrongSource breach11 ordered breach12 wrongClockBy breachClock lesser breach11Third isNowhere unknownBy breach52 firstId givenIds keepsBy breach13 clustersBy headOf recordOf recordsTo roomFor shownIn runFor runJudged clustersJudged linksJudged frameJudged thirdThen roomRefused thirdVerdict sheetRefused thirdAnswer thirdSheet protocolOf sheetReading eitherReading eitherSheet
 cases-3 = record {
   case-c = record { accepted = refl; entities = refl; sheet = refl; configuration = third-demand caseC monoBuffer .accepted lentWhole (omega arith) .0 refl };
   case-d = record { accepted = refl; entities = refl; sheet = refl; configuration = third-demand caseD monoBuffer .accepted lentWhole (omega arith) .0 refl };

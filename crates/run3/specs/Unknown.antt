@@ -5,11 +5,11 @@ use mathlib.Core.Path.{_≡_, refl}
 use lib.Dec.{eqb}
 use Rattle.layout3.specs.declared.Entity.{Entity}
 use Rattle.layout3.specs.declared.Entity.the-variants.{Unknown, Input, Output, Mixer, Selector, Feature, Clock}
-use Rattle.layout3.specs.Layout.{isUnknown}
+use Rattle.layout3.specs.Layout.{layoutNumber, isUnknown}
 use Rattle.layout3.specs.Facts.{factsOf}
 
 pub kind-unknown : (e : Entity) → eqb (factsOf e .kind) 0 ≡ isUnknown e
-unfolding factsOf isUnknown
+unfolding factsOf isUnknown layoutNumber
 kind-unknown Unknown = refl
 kind-unknown (Input k c) = refl
 kind-unknown (Output s k) = refl
