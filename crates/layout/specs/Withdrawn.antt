@@ -4,7 +4,7 @@
 --   printed-unlaid   ==  what is one has none of the five layouts
 --   layoutNumber e d ==  the refusal that the layout of d asks for, which was read as e: 9, 17 for the printed Selector; 0 where it has one of the five
 --   isWrong d        ==  that refusal is 9: the layout of d is wrong
---   wrong-tests      ==  none of the five was read, nor is it this one
+--   wrong-tests      ==  so it is by two tests: none of the five was read, nor is it this one
 --   reads-wrong      ==  that test decides
 --   layout-number    ==  the number is by the tests of 9 and 17, in this order
 --   layout-or        ==  what is neither wrong nor one has one of the five layouts
@@ -63,7 +63,6 @@ layoutNumber (Feature i s n) d = 0
 unfoldable pub isWrong : List ℕ → Bool
 isWrong d = eqb (layoutNumber (entityOf d) d) 9
 
--- a refusal by 9, for what was read as e
 pub wrong-tests : (e : Entity) (d : List ℕ) → eqb (layoutNumber e d) 9 ≡ isUnknown e && not (isPrinted d)
 unfolding layoutNumber isUnknown
 wrong-tests Unknown d = go (isPrinted d)
