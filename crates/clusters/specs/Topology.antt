@@ -6,7 +6,7 @@
 --   entering-one     ==  .. and the same enter each
 --   fits-alike       ==  .. so that one of them keeps an entity's rule where another does
 --   broken-by, rule13-by  ==  so any one of them tells who breaks rule 13, and whether it is kept
---   clusters-one     ==  so the clusters of demand 3 are one
+--   clusters-one     ==  so the clusters of demand 3 are one, whoever reads the same descriptors
 --   given-by-index   ==  clusters that each entity of a run gives out by the rules are given out by the rules
 --   cluster-on       ==  .. and they are demand 3's
 --   ranks-kept       ==  ranks exist exactly where rule 12 is kept
@@ -101,8 +101,11 @@ module _ {ed : Edition} {ds : List (List ℕ)} where
         to : ((d : List ℕ) → d ∈ ds → Broken ed ds d → ⊥) → Rule13 ed ds
         to h = (f, made, λ d m. ⊎-elim (λ x. x) (λ x. absurd (h d m (f, made, x))) (decided _ (ed .reads d (entering ed f d))))
 
-  pub clusters-one : (c e : Connected ed ds) (d : List ℕ) → d ∈ ds → c .cluster (ownId d) ≡ e .cluster (ownId d)
-  clusters-one c e = given-one (c .rule11) (c .ranked) (c .cluster) (e .cluster) (c .given-out) (e .given-out)
+  pub clusters-one : {es : List (List ℕ)} → ds ≡ es → (c : Connected ed ds) (e : Connected ed es) (d : List ℕ) → d ∈ ds
+      → c .cluster (ownId d) ≡ e .cluster (ownId d)
+  clusters-one q c =
+      subst (λ (es : List (List ℕ)). (e : Connected ed es) (d : List ℕ) → d ∈ ds → c .cluster (ownId d) ≡ e .cluster (ownId d)) q
+      (λ e. given-one (c .rule11) (c .ranked) (c .cluster) (e .cluster) (c .given-out) (e .given-out))
 
 -- any edition, of a run that stands for descriptors
 module _ {ed : Edition} {s : List ℕ} {p : ℕ} {ds : List (List ℕ)} {run : Run} (k : Represents ed s p ds run) where
@@ -129,17 +132,13 @@ module _ {ed : Edition} {s : List ℕ} {p : ℕ} {ds : List (List ℕ)} {run : R
     pub ranks-kept : ((rank : ℕ → ℕ) × Ranking ed ds rank) ↔ Rule12 ed ds
     ranks-kept = rule12-ranks k (distinct-run k r10) (known-run k r11)
 
-    pub connected-parts : Connected ed ds ↔ (Rule12 ed ds × Rule13 ed ds)
-    connected-parts = (to, of)
-      where
-        to : Connected ed ds → Rule12 ed ds × Rule13 ed ds
-        to c = (ranks-kept .0 (c .rank, c .ranked), (c .cluster, c .given-out, c .fits))
-
-        of : Rule12 ed ds × Rule13 ed ds → Connected ed ds
-        of h =
-            let r = ranks-kept .1 (h .0) in
-            let c = h .1 in
-            record { rule10 = r10; rule11 = r11; rank = r .0; ranked = r .1; cluster = c .0; given-out = c .1; fits = c .2 }
+    abbrev pub connected-parts : Connected ed ds ↔ (Rule12 ed ds × Rule13 ed ds)
+    connected-parts = (
+      λ c. (ranks-kept .0 (c .rank, c .ranked), (c .cluster, c .given-out, c .fits)),
+      λ h.
+          let r = ranks-kept .1 (h .0) in
+          record { rule10 = r10; rule11 = r11; rank = r .0; ranked = r .1; cluster = h .1 .0; given-out = h .1 .1; fits = h .1 .2 },
+    )
 
     pub swept-each : Rule12 ed ds → {C : Type 0} (rule : Node → List C → C) (start : ℕ → C) (i : ℕ) → i < length ds
         → sweptBy s rule (ordered s run) start (idAt run i) ≡ rule (nodeAt run i) (map (sweptBy s rule (ordered s run) start) (sourcesAt s run i))

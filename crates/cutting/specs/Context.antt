@@ -9,6 +9,7 @@
 --   run-first     ==  what a search along the run finds is found among its descriptors
 --   run-stands    ==  from the run's place on the configuration's bytes are those of the run, then those of the descriptors behind it
 --   run-cut       ==  each of the run is one of the cutting's descriptors
+--   opened-one, run-one  ==  what keeps the rules is one: the cutting, by the cutting theorem; the run, whatever the form of headers
 use Prim.Native.Nat.{ℕ, _+_, _≤_, _<_}
 use mathlib.Core.Path.{_≡_, refl, sym, ap, _∙_}
 use mathlib.Core.Bool.{Bool, not, _&&_}
@@ -22,7 +23,7 @@ use Rattle.ground.specs.Numbers.{byte, word}
 use Rattle.ground.specs.Lists.{total, total-append, length-flatten, flatten-append, stop-at, front-one}
 use Rattle.ground.specs.First.{Sound, firstFrom}
 use Rattle.scan.specs.Cutting.{Descriptor, rest}
-use Rattle.scan.specs.CuttingLaws.{cutting-rest}
+use Rattle.scan.specs.CuttingLaws.{cutting-rest, cutting-one}
 use Rattle.scan.specs.Search.{searched}
 use Rattle.search.specs.Want.{Audio}
 use Rattle.interfaces.specs.Rule4.{second-control}
@@ -156,3 +157,12 @@ module _ (s : List ℕ) (o : Opened s) where
       pub run-cut : (d : List ℕ) → List·Memᴰ d (t .run) → Descriptor d
       run-cut d m =
           o .rule3 .each d (rw parts (Memᴰ·append-right (o .before) (List·Memᴰ·tail (List·Memᴰ·tail (Memᴰ·append-left (t .later ++ t .after) m)))))
+
+-- what keeps the rules is one, whatever the form of headers
+module _ (s : List ℕ) (o u : Opened s) where
+  pub opened-one : o .descriptors ≡ u .descriptors
+  opened-one = cutting-one s (o .descriptors) (u .descriptors) (o .rule3) (u .rule3)
+
+  pub run-one : {form : Form} (h : Rule5By form (o .tail)) (k : Rule5By form (u .tail)) (t : Rule6By form (h .header) (h .others)) (v : Rule6By form (k .header) (k .others))
+      → t .run ≡ v .run
+  run-one h k t v = sym (run-is s o h t) ∙ run-is s u k v

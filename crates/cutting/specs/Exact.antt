@@ -1,13 +1,11 @@
 -- What the verdict says, exactly: it refuses nothing exactly where the nine rules are kept, and gives number n at place p exactly
--- where every row before n is kept, n is not, and p is its place; rule 9 is two rows, 9 and 17. What keeps the rules is unique: the cutting, the header, the run.
+-- where every row before n is kept, n is not, and p is its place; rule 9 is two rows, 9 and 17.
 --   verdict-kept     ==  nothing is refused exactly where the nine rules are kept
 --   verdict-refused  ==  number n is given at place p exactly where that is the refusal that document 01 gives
 --   cutting-answers  ==  the verdict, with whatever is judged behind the nine, is put together by their rows; cutting-numbered: none is number 0
 --   opening-answers, opening-numbered  ==  the same of the rows 1 to 4, whatever stands behind them
 --   four-kept, all-four  ==  the four rows kept are the rules 1 to 4 kept, and the other way
 --   nine-kept, all-nine  ==  the ten rows, 1 to 9 and 17, kept are the nine rules kept, and the other way
---   kept-cutting, kept-header, kept-run  ==  the cutting, the header and the run that keep the rules are those that the reader works
---                        with, so they are one
 use Prim.Native.Nat.{ℕ, _+_}
 use mathlib.Core.Path.{_≡_, refl, sym, ap, _∙_}
 use mathlib.Core.Bool.{Bool, _&&_}
@@ -36,11 +34,11 @@ use Rattle.interfaces.specs.Reading.{breach4, interfacesJudged}
 use Rattle.interfaces.specs.InterfaceLaws.{rule4-kept, rule4-broken}
 use Rattle.collection.specs.Rule7.{Rule7}
 use Rattle.groups.specs.Rules5and6.{Rule5, listedOf, Rule6}
-use Rattle.groups.specs.Reading.{frameOf, breach5, breach6, breach7, groupJudged, judged, headerOf}
+use Rattle.groups.specs.Reading.{frameOf, breach5, breach6, breach7, groupJudged, judged}
 use Rattle.groups.specs.FrameLaws.{Framed, framed}
 use Rattle.cutting.specs.Rules1to9.{Rule8, WrongLayout, Recognised, NoneWithdrawn, laidOut, Opened, headerPlace, Opening, opened, Kept, groupRows, openingRows, cuttingRows}
-use Rattle.cutting.specs.Survey.{runOf, breach8, breach9, breach17, runJudged, verdictThen, verdict}
-use Rattle.cutting.specs.Context.{cut-told, header-place, rule5-reads, header-is, rule6-reads, rule7-reads, run-is, run-first}
+use Rattle.cutting.specs.Survey.{breach8, breach9, breach17, runJudged, verdictThen, verdict}
+use Rattle.cutting.specs.Context.{header-place, rule5-reads, rule6-reads, rule7-reads, run-is, run-first}
 
 reads-rule1 : (s : List ℕ) → Reads (within 9 (length s) mostBytes) (Rule1 s)
 reads-rule1 s = reads-within 9 (length s) mostBytes
@@ -271,12 +269,3 @@ module _ (s : List ℕ) where
 
   pub verdict-refused : (n p : ℕ) → (n ≡ 0 → ⊥) → (verdict s ≡ record { number = n; place = p }) ↔ FirstBroken (cuttingRows s (λ k. end)) n p
   verdict-refused = answers-broken (cuttingRows s (λ k. end)) (verdict s) (cutting-numbered (λ k. end) (λ k. tt)) answers
-
-  pub kept-cutting : (k : Kept s) → k .opened .descriptors ≡ rest s 0
-  kept-cutting k = sym (cut-told s (k .opened))
-
-  pub kept-header : (k : Kept s) → k .rule5 .header ≡ headerOf s (frameOf s)
-  kept-header k = header-is s (k .opened) (k .rule5)
-
-  pub kept-run : (k : Kept s) → k .rule6 .run ≡ runOf s (frameOf s)
-  kept-run k = sym (run-is s (k .opened) (k .rule5) (k .rule6))

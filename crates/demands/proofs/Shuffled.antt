@@ -26,7 +26,7 @@ use Rattle.collection.specs.Rule7.{Rule7}
 use Rattle.groups.specs.Rules5and6.{Header, Rule5, listedOf, Rule6}
 use Rattle.cutting.specs.Rules1to9.{laidOut, Opening, Opened, opened, Kept, groupRows}
 use Rattle.clusters.specs.Rule13.{Connected}
-use Rattle.connections.specs.JudgementLaws.{connected-with}
+use Rattle.clusters.specs.Topology.{connected-parts}
 use Rattle.streaming.specs.Rule14.{Rule14}
 use Rattle.reader.specs.Configuration.{runOf, Streams}
 use Rattle.reader.specs.Refusals.{runRows, keptRows, tableOfRows}
@@ -273,7 +273,7 @@ module _ {s s′ : List ℕ} (h : Shuffled s s′) (room : ℕ) where
             λ c c′. (
               refl,
               (blind-rules .clusters (runOf k) (runOf k′) p, blind-rules .clusters (runOf k′) (runOf k) q),
-              λ e e′. run-alike k k′ (connected-with (represented s k) a b c e) (connected-with (represented s′ k′) a′ b′ c′ e′),
+              λ e e′. run-alike k k′ (connected-parts (represented s k) a b .1 (c, e)) (connected-parts (represented s′ k′) a′ b′ .1 (c′, e′)),
             ),
           ),
         ),

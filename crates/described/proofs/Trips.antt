@@ -37,7 +37,7 @@ use Rattle.entities.specs.Run.{mostEntities, runIn}
 use Rattle.entities.specs.Represents.{Represents}
 use Rattle.entities.specs.RepresentsLaws.{run-represents}
 use Rattle.clusters.specs.Rule13.{Connected}
-use Rattle.connections.specs.JudgementLaws.{connected-with, connected-kept}
+use Rattle.clusters.specs.Topology.{connected-parts}
 use Rattle.reader.specs.Configuration.{runOf, placeOfRun, Configuration}
 use Rattle.fields.specs.declared.Item.{Item}
 use Rattle.fields.specs.Listed.{Listed, wrong, laid, printed, writtenAs, listedWith, blankItem, movedBy, foundAs, foundIn, ReadAs}
@@ -192,7 +192,7 @@ module _ (s : List ℕ) (ls : List Listed) (cs : List ℕ) (k : EntitiesKeep ls)
   kept = record { opened = w .frame .opened; rule5 = right5 s ls cs (w .frame) ds-each; rule6 = right6 s ls cs (w .frame) ds-each; rule7 = w .frame .rule7; rule8 = k .0; rule9 = ds-laid }
 
   connected : Connected audio ds
-  connected = connected-with (represents ds ds-each ds-laid (k .0 .1)) (k .1 .1 .1 .0) (k .1 .1 .1 .1 .0) (k .1 .1 .1 .1 .1 .0) (k .1 .1 .1 .1 .1 .1 .0)
+  connected = connected-parts (represents ds ds-each ds-laid (k .0 .1)) (k .1 .1 .1 .0) (k .1 .1 .1 .1 .0) .1 (k .1 .1 .1 .1 .1 .0, k .1 .1 .1 .1 .1 .1 .0)
 
   -- the run and the header that keep the rules are one
   run-one : (t : Configuration s) → runOf (t .kept) ≡ ds
@@ -346,21 +346,17 @@ module _ (s : List ℕ) (t : Configuration s) (b : Bytes s) where
   kept-rows : (m : ℕ) → length (bytesOfBoth t) ≤ m → AllKept (entityRows run (roomRows (listedOf h) (flatten run) m))
   kept-rows m r =
       let wrong-none : (d : List ℕ) → d ∈ run → WrongIn d → ⊥ = λ d i. ⊎-elim (λ x. x .0 (k .rule9 d i)) (λ x. let l = short d (in-tail d i) in omega arith) in
-      let room : length (wholeOf (listedOf h) (flatten run)) ≤ m = subst (λ (x : List ℕ). length (x ++ flatten run) ≤ m) (sym head-again) r in (
+      let room : length (wholeOf (listedOf h) (flatten run)) ≤ m = subst (λ (x : List ℕ). length (x ++ flatten run) ≤ m) (sym head-again) r in
+      let c = t .connected in
+      let both = connected-parts (represents run run-each (k .rule9) (k .rule8 .1)) (c .rule10) (c .rule11) .0 c in (
         k .rule8,
         (
           wrong-none,
           (
             λ d i p. printed-unlaid d p (k .rule9 d i),
             (
-              t .connected .rule10,
-              (
-                t .connected .rule11,
-                (
-                  connected-kept (represents run run-each (k .rule9) (k .rule8 .1)) (t .connected),
-                  ((t .connected .cluster, t .connected .given-out, t .connected .fits), (few, (room, tt))),
-                ),
-              ),
+              c .rule10,
+              (c .rule11, (both .0, (both .1, (few, (room, tt))))),
             ),
           ),
         ),

@@ -19,7 +19,7 @@ use Rattle.scan.specs.Cutting.{endBy, restFromBy, restBy, reachBy, breachBy}
 use Rattle.scan.specs.Search.{searched}
 use Rattle.search.specs.Want.{isInterface, isClass, isAudio, isSetting, isMember, wants, foundFrom}
 use Rattle.layout.specs.Layout.{entityOf, isUnknown}
-use Rattle.layout.specs.Withdrawn.{isPrinted, isWrong}
+use Rattle.layout.specs.Withdrawn.{isPrinted, layoutNumber, isWrong}
 use Rattle.kinds.specs.Shown.{kindOf}
 use Rattle.kinds.specs.Sources.{pinsOf, sourcesFrom, feedsOf}
 use Rattle.entities.specs.Run.{nodeOf, nodesFrom, blankNode, runIn}
@@ -74,7 +74,7 @@ use Rattle.duets.specs.Crowded.{crowded, crowdedSheet, Crowds}
 use Rattle.duets.proofs.Sound.{Fit, fit-empty, fit-next}
 
 pub crowds : Crowds
-unfolding crowded refuse placeOr firstFrom isBefore total any pad endBy restFromBy restBy reachBy breachBy searched isInterface isClass isAudio isSetting isMember wants foundFrom entityOf kindOf isUnknown pinsOf sourcesFrom feedsOf nodeOf nodesFrom blankNode runIn breach1 breach2 wrongInterface breach4 interfacesJudged runEnd frameFrom frameOf opens isHeader breach5 straysFrom breach6 isDistinct allKnown unlisted collects breach7 groupJudged groups.judged runOf breach8 breach9 breach17 isPrinted isWrong verdictThen verdict cutting.runJudged refusedSurvey surveyed surveyOf all mem joins step passFrom passes put given tabulateFrom firstIn somewhere lookupBelow sourceNumber wrongId breach10 wrongSource breach11 ordered breach12 givesBy givenIn keepsBy breach13 clustersOf firstOf channelsIn giveOut mixerLength featureLength alike named allSame mixerKept featureKept keeps clusterKept namesKept ones onesIn judged terminalOf terminalsFrom terminalsOf bearerIn terminalNumber channelsOf opensAs isGeneral isFormat samplesRight ratesRight isTypeOne formatRight bearerRight describedBy holdsClass broken wrongStream firstBroken breach14 bitSet bitControls bitsFrom maskControls channelsFrom featureControls entityControls controlsTo controlsOfRun breach15 tableOf roomFor restJudged surveyJudged judgedThen roomJudged verdictOf refusedReading takenReading readingOf bitCarries
+unfolding crowded refuse placeOr firstFrom isBefore total any pad endBy restFromBy restBy reachBy breachBy searched isInterface isClass isAudio isSetting isMember wants foundFrom entityOf kindOf isUnknown pinsOf sourcesFrom feedsOf nodeOf nodesFrom blankNode runIn breach1 breach2 wrongInterface breach4 interfacesJudged runEnd frameFrom frameOf opens isHeader breach5 straysFrom breach6 isDistinct allKnown unlisted collects breach7 groupJudged groups.judged runOf breach8 breach9 breach17 isPrinted layoutNumber isWrong verdictThen verdict cutting.runJudged refusedSurvey surveyed surveyOf all mem joins step passFrom passes put given tabulateFrom firstIn somewhere lookupBelow sourceNumber wrongId breach10 wrongSource breach11 ordered breach12 givesBy givenIn keepsBy breach13 clustersOf firstOf channelsIn giveOut mixerLength featureLength alike named allSame mixerKept featureKept keeps clusterKept namesKept ones onesIn judged terminalOf terminalsFrom terminalsOf bearerIn terminalNumber channelsOf opensAs isGeneral isFormat samplesRight ratesRight isTypeOne formatRight bearerRight describedBy holdsClass broken wrongStream firstBroken breach14 bitSet bitControls bitsFrom maskControls channelsFrom featureControls entityControls controlsTo controlsOfRun breach15 tableOf roomFor restJudged surveyJudged judgedThen roomJudged verdictOf refusedReading takenReading readingOf bitCarries
 crowds = record { accepted = refl; many = refl }
 
 abbrev R : Reading

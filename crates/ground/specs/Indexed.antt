@@ -5,14 +5,19 @@
 --   sound-below      ==  none of the first n descriptors is wrong exactly where none is at the indices below n
 --   sound-index      ==  .. for all of ds
 --   breaks-index     ==  the first offender's place, from its index
+--   first-by-place   ==  "'First' is by place": the first offender's place is the lowest of all offenders' places, for any rule on any descriptors,
+--                        whatever the edition
 use Prim.Native.Nat.{ℕ, suc, _+_, _≤_, _<_}
-use mathlib.Core.Path.{_≡_, sym, ap, _∙_}
+use mathlib.Core.Path.{_≡_, refl, sym, ap, _∙_}
+use mathlib.Core.Bool.{Bool, true, false}
 use mathlib.Core.Logic.{_↔_}
 use mathlib.Core.List.{List, [], _∷_, _++_, append-assoc}
 use lib.ListN.{length, getD, take, drop, take-append-drop}
 use lib.Seq.{split-at, take-length, length-take-le, take-take, getD-take}
+use lib.Dec.{ltb}
 use native.Mathlib.Omega.{arith}
-use Rattle.ground.specs.Lists.{total, split-inside, split-front, split-here}
+use borrow.Author.Tests.{ltb-true, ltb-false}
+use Rattle.ground.specs.Lists.{total, total-append, split-inside, split-front, split-here}
 use Rattle.ground.specs.First.{Sound, Breaks}
 use Rattle.ground.specs.Places.{FirstPlace}
 
@@ -74,3 +79,21 @@ module _ (Wrong : List (List ℕ) → List ℕ → Type 0) where
             at = k .place ∙ ap (λ (r : List (List ℕ)). p + total r) (sym front);
             none-before = sound-below ds (length x) (omega arith) .1 (rw front (k .none-before));
           }
+
+  -- document 01 has the first offender's place: the first among the descriptors has the lowest
+  pub first-by-place : {p : ℕ} {ds : List (List ℕ)} {q : ℕ} → Breaks Wrong p ds q
+      → (x : List (List ℕ)) (d : List ℕ) (y : List (List ℕ)) → ds ≡ x ++ d ∷ y → Wrong x d → q ≤ p + total x
+  first-by-place {p = p} {ds = ds} {q = q} b x d y e w = go (ltb (length x) (f .offender)) refl
+    where
+      f : FirstPlace (length ds) (λ i. p + total (take i ds)) (WrongAt ds) q
+      f = breaks-index p ds q .1 b
+
+      go : (c : Bool) → ltb (length x) (f .offender) ≡ c → q ≤ p + total x
+      go true h = absurd (f .none-before (length x) (ltb-true _ _ h) (at-index x d y e w))
+      go false h =
+          let i = f .offender in
+          let front : take i ds ≡ take i x = sym (take-take i (length x) ds (ltb-false _ _ h)) ∙ ap (take i) (split-front x d y e) in
+          let same : total (take i ds) ≡ total (take i x) = ap total front in
+          let parts : total x ≡ total (take i x) + total (drop i x) = ap total (sym (take-append-drop i x)) ∙ total-append (take i x) (drop i x) in
+          let at = f .at in
+          omega arith

@@ -8,7 +8,6 @@
 --   entityBy ks d            ==  that of the fields of d by one of the layouts ks, whatever byte 2 is
 --   inputOf d, outputOf d, mixerOf d, selectorOf d, featureOf d ==  the same by the layouts of the kind in the name
 --   entityOf d               ==  what the reader makes of d: by the layouts whose number is byte 2
---   idOf e                   ==  the ID that an entity bears
 --   isUnknown e              ==  it has none of the five layouts: a wrong layout, or the printed Selector
 use Prim.Native.Nat.{ℕ, _+_}
 use mathlib.Core.Bool.{Bool, true, false}
@@ -64,14 +63,6 @@ featureOf d = entityBy (kindsOf (numberOf kind.feature)) d
 
 unfoldable pub entityOf : List ℕ → Entity
 entityOf d = entityIn (fieldsOf d)
-
-unfoldable pub idOf : Entity → ℕ
-idOf Unknown = 0
-idOf (Input i t c) = i
-idOf (Output i t s) = i
-idOf (Mixer i p c) = i
-idOf (Selector i p) = i
-idOf (Feature i s n) = i
 
 unfoldable pub isUnknown : Entity → Bool
 isUnknown Unknown = true

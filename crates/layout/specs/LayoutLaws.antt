@@ -8,7 +8,6 @@
 --   kind-input, kind-output, kind-mixer, kind-selector, kind-feature, kind-other ==  byte 2 says which kind's reader it is
 --   entity-input, entity-output, entity-mixer, entity-selector, entity-feature, entity-unknown ==  one equation for each layout,
 --                     and where there is none
---   id-told       ==  byte 3 is the ID, in every layout
 --   selector-pins ==  a Selector's pins are 1 to 24
 use Prim.Native.Nat.{ℕ, _+_, _≤_}
 use mathlib.Core.Path.{_≡_, refl, sym, ap, _∙_}
@@ -30,7 +29,7 @@ use Rattle.layout.specs.Layouts.{Kind, numberOf, formatOf, kindsOf, most
 use Rattle.layout.specs.Fields as fields
 use Rattle.layout.specs.Fields.{Fields, LaidOut, fieldsAt, fieldsOf}
 use Rattle.layout.specs.FieldsLaws.{none-some, found-by, laid-fields, laid-only}
-use Rattle.layout.specs.Layout.{clusterAt, entityIn, entityBy, inputOf, outputOf, mixerOf, selectorOf, featureOf, entityOf, idOf, isUnknown}
+use Rattle.layout.specs.Layout.{clusterAt, entityIn, entityBy, inputOf, outputOf, mixerOf, selectorOf, featureOf, entityOf, isUnknown}
 
 module _ (d : List ℕ) where
   abbrev p : ℕ
@@ -223,18 +222,6 @@ reads-unknown d = go (fieldsOf d) refl
     go : (o : Option Fields) → fieldsOf d ≡ o → Reads (isUnknown (entityIn o)) (LaidOut d → ⊥)
     go none e = record { says = λ t l. none-some (sym e ∙ laid-only d l); denies = λ t. absurd (true≠false t) }
     go (some f) e = record { says = λ t. absurd (true≠false (sym t ∙ known f)); denies = λ t n. n (laid-fields d f e) }
-
-pub id-told : (d : List ℕ) → LaidOut d → idOf (entityOf d) ≡ byte d 3
-unfolding idOf
-id-told d o = of (told d)
-  where
-    of : {e : Entity} → Told d e → idOf e ≡ byte d 3
-    of (unknown n) = absurd (n o)
-    of (input k l) = refl
-    of (output k l) = refl
-    of (mixer k q l) = refl
-    of (selector k q l) = refl
-    of (feature k q l) = refl
 
 pub selector-pins : (d : List ℕ) → LaidOut d → byte d 2 ≡ 5 → Pins (byte d 4)
 selector-pins d o e = of (told d)

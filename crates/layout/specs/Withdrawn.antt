@@ -2,10 +2,11 @@
 -- "The reader no longer accepts it. .. Refusals: 17, at the first such entity, after 9 and before 10" (document 02, No. 6).
 --   Printed d        ==  d is one; isPrinted d: the test; reads-printed: it decides
 --   printed-unlaid   ==  what is one has none of the five layouts
---   isWrong d        ==  the layout of d is wrong (refusal 9): none of the five, nor this one
---   reads-wrong      ==  that test decides
 --   layoutNumber e d ==  the refusal that the layout of d asks for, which was read as e: 9, 17 for the printed Selector; 0 where it has one of the five
---   layout-number    ==  that is by the tests of 9 and 17, in this order
+--   isWrong d        ==  that refusal is 9: the layout of d is wrong
+--   wrong-tests      ==  so it is by two tests: none of the five was read, nor is it this one
+--   reads-wrong      ==  that test decides
+--   layout-number    ==  the number is by the tests of 9 and 17, in this order
 --   layout-or        ==  what is neither wrong nor one has one of the five layouts
 use Prim.Native.Nat.{ℕ, _+_}
 use mathlib.Core.Path.{_≡_, refl}
@@ -51,16 +52,6 @@ printed-unlaid d h o = of (told d)
     of (selector k q l) = let r = h .long in omega arith
     of (feature k q l) = let r = h .kind in omega arith
 
-unfoldable pub isWrong : List ℕ → Bool
-isWrong d = isUnknown (entityOf d) && not (isPrinted d)
-
-pub reads-wrong : (d : List ℕ) → Reads (isWrong d) ((LaidOut d → ⊥) × (Printed d → ⊥))
-unfolding isWrong
-reads-wrong d = reads-and _ _ (reads-unknown d) (reads-not _ (reads-printed d))
-
-pub layout-or : (d : List ℕ) → ((LaidOut d → ⊥) × (Printed d → ⊥) → ⊥) → LaidOut d ⊎ Printed d
-layout-or d f = ⊎-elim inl (λ n. ⊎-elim inr (λ m. absurd (f (n, m))) (decided (isPrinted d) (reads-printed d))) (laid-out d)
-
 unfoldable pub layoutNumber : Entity → List ℕ → ℕ
 layoutNumber Unknown d = pick (isPrinted d) 17 9
 layoutNumber (Input i t c) d = 0
@@ -69,9 +60,32 @@ layoutNumber (Mixer i p c) d = 0
 layoutNumber (Selector i p) d = 0
 layoutNumber (Feature i s n) d = 0
 
+unfoldable pub isWrong : List ℕ → Bool
+isWrong d = eqb (layoutNumber (entityOf d) d) 9
+
+pub wrong-tests : (e : Entity) (d : List ℕ) → eqb (layoutNumber e d) 9 ≡ isUnknown e && not (isPrinted d)
+unfolding layoutNumber isUnknown
+wrong-tests Unknown d = go (isPrinted d)
+  where
+    go : (b : Bool) → eqb (pick b 17 9) 9 ≡ not b
+    go true = refl
+    go false = refl
+wrong-tests (Input i t c) d = refl
+wrong-tests (Output i t s) d = refl
+wrong-tests (Mixer i p c) d = refl
+wrong-tests (Selector i p) d = refl
+wrong-tests (Feature i s n) d = refl
+
+pub reads-wrong : (d : List ℕ) → Reads (isWrong d) ((LaidOut d → ⊥) × (Printed d → ⊥))
+unfolding isWrong
+reads-wrong d = rw (wrong-tests (entityOf d) d) (reads-and _ _ (reads-unknown d) (reads-not _ (reads-printed d)))
+
+pub layout-or : (d : List ℕ) → ((LaidOut d → ⊥) × (Printed d → ⊥) → ⊥) → LaidOut d ⊎ Printed d
+layout-or d f = ⊎-elim inl (λ n. ⊎-elim inr (λ m. absurd (f (n, m))) (decided (isPrinted d) (reads-printed d))) (laid-out d)
+
 pub layout-number : (d : List ℕ) → layoutNumber (entityOf d) d ≡ pick (isWrong d) 9 (pick (isPrinted d) 17 0)
 unfolding isWrong layoutNumber isUnknown
-layout-number d = go (entityOf d) (reads-unknown d)
+layout-number d = rw (wrong-tests (entityOf d) d) (go (entityOf d) (reads-unknown d))
   where
     known : (b : Bool) → Reads b (Printed d) → ((LaidOut d → ⊥) → ⊥) → _≡_ {A = ℕ} 0 (pick b 17 0)
     known true r n = absurd (n (printed-unlaid d (r .says refl)))

@@ -1,30 +1,21 @@
 -- The reader gives exactly the first row of the papers' table that applies, at exactly its place.
 --   shown-rows              ==  the bytes are a configuration, and its records have room: every rule is kept
 --   clusters-on, controls-on  ==  what the reader has at an entity's index is the cluster on its ID; its controls are those of the descriptors
---   first-by-place          ==  the first offender's place is the lowest of all offenders' places
 --   answers                 ==  the verdict is put together by the table's rows, each by what decides it
 --   accepted-exactly, refused-exactly  ==  THE THEOREMS, for every configuration and every room
-use Prim.Native.Nat.{ℕ, _+_, _≤_, _<_}
+use Prim.Native.Nat.{ℕ, _<_}
 use mathlib.Core.Path.{_≡_, refl, sym, ap, _∙_}
 use mathlib.Core.List.{List, []}
-use mathlib.Core.Logic.{⊎-elim, _↔_}
-use lib.ListN.{length, getD, take}
-use lib.Dec.{eqb, ltb}
+use mathlib.Core.Logic.{_↔_}
+use lib.ListN.{length, getD}
 use native.Mathlib.Omega.{arith}
 use Rattle.ground.specs.declared.Refusal.{Refusal}
 use Rattle.ground.specs.Refuse.{none, keptAt}
 use Rattle.ground.specs.Rows.{Rows, end, row, AllKept, FirstBroken, Numbered, Answers, Decides, kept-decides, answers-kept, answers-broken}
-use Rattle.ground.specs.Pick.{decided, reads-eq, reads-lt}
-use Rattle.ground.specs.Lists.{total}
-use Rattle.ground.specs.First.{Breaks}
-use Rattle.ground.specs.Places.{FirstPlace}
 use Rattle.layout.specs.declared.Cluster.{Cluster}
 use Rattle.layout.specs.Layout.{noCluster}
 use Rattle.edition.specs.Edition.{ownId}
 use Rattle.edition.specs.Audio.{audio}
-use Rattle.entities.specs.Run.{held, placeAt}
-use Rattle.entities.specs.Represents.{Represents}
-use Rattle.entities.specs.RepresentsLaws.{breaks-of, places-rise}
 use Rattle.cutting.specs.declared.Survey.{Survey}
 use Rattle.cutting.specs.Rules1to9.{headerPlace, Kept, BrokenAt, cuttingRows}
 use Rattle.cutting.specs.Survey.{surveyOf}
@@ -34,8 +25,8 @@ use Rattle.sources.specs.Rule11.{Rule11}
 use Rattle.ids.specs.OwnIds.{own-ids, distinct-ids}
 use Rattle.ranks.specs.Rule12.{Rule12}
 use Rattle.clusters.specs.Rule13.{Rule13, Connected}
-use Rattle.clusters.specs.Topology.{clusters-shown}
-use Rattle.connections.specs.JudgementLaws.{connectedRows, connected-with, connected-kept, judged-answers}
+use Rattle.clusters.specs.Topology.{connected-parts, clusters-shown}
+use Rattle.connections.specs.JudgementLaws.{connectedRows, judged-answers}
 use Rattle.streaming.specs.Rule14.{Breaks14}
 use Rattle.terminals.specs.Terminals.{terminalsOf}
 use Rattle.streaming.specs.Tests.{breach14}
@@ -48,8 +39,8 @@ use Rattle.controls.specs.Reader.{controls-same}
 use Rattle.records.specs.Records.{roomFor}
 use Rattle.records.specs.Sheet.{Rule16, reads-room}
 use Rattle.topology.specs.Reading.{clustersAt, tableFor, restJudged, surveyJudged, judgedThen, roomJudged, verdictOf}
-use Rattle.reader.proofs.Surveyed.{entitiesOf, keptSurvey, survey-kept, run-cut, represented}
-use Rattle.reader.specs.Configuration.{runOf, placeOfRun, Streams, FewControls}
+use Rattle.reader.proofs.Surveyed.{entitiesOf, keptSurvey, survey-kept, represented}
+use Rattle.reader.specs.Configuration.{runOf, Streams, FewControls}
 use Rattle.reader.specs.Refusals.{runRows, keptRows, tableOfRows, Refused, Shown}
 
 module _ (s : List ℕ) (k : Kept s) where
@@ -97,7 +88,7 @@ module _ (s : List ℕ) (k : Kept s) where
   unfolding surveyJudged
   kept-answers room =
       judged-answers (represented s k) (λ a b c e. runRows k (e .0) room) (restJudged s (keptSurvey k) (clustersAt s (keptSurvey k)) (roomJudged (keptSurvey k) room none))
-      (λ a b c e. run-answers room (connected-with (represented s k) a b c e))
+      (λ a b c e. run-answers room (connected-parts (represented s k) a b .1 (c, e)))
 
   kept-numbered : (room : ℕ) → Numbered (keptRows k room)
   kept-numbered room = (
@@ -110,30 +101,6 @@ module _ (s : List ℕ) (k : Kept s) where
       ),
     ),
   )
-
--- document 01 has the first offender's place: the first in the run has the lowest
-module _ (s : List ℕ) (k : Kept s) where
-  pub first-by-place : (Wrong : List (List ℕ) → List ℕ → Type 0) (p : ℕ) → Breaks Wrong (placeOfRun k) (runOf k) p
-      → (i : ℕ) → i < length (runOf k) → Wrong (take i (runOf k)) (getD (runOf k) i []) → p ≤ placeOfRun k + total (take i (runOf k))
-  first-by-place Wrong p b i l w =
-      rw (← (r .place i l))
-      (⊎-elim
-      (λ (h : i < f .offender). absurd (f .none-before i h w))
-      (λ (h : i < f .offender → ⊥). ⊎-elim (λ (e : f .offender ≡ i). let a = f .at in rw (← e) (omega arith)) (λ (n : f .offender ≡ i → ⊥). later (omega arith)) (decided (eqb (f .offender) i) (reads-eq (f .offender) i)))
-      (decided (ltb i (f .offender)) (reads-lt i (f .offender))))
-    where
-      r : Represents audio s (placeOfRun k) (runOf k) (entitiesOf k)
-      r = represented s k
-
-      f : FirstPlace (held (entitiesOf k)) (placeAt (entitiesOf k)) (λ j. Wrong (take j (runOf k)) (getD (runOf k) j [])) p
-      f = breaks-of (represented s k) Wrong p .1 b
-
-      later : f .offender < i → p ≤ placeAt (entitiesOf k) i
-      later h =
-          let n = represented s k .counted in
-          let q = places-rise (represented s k) (λ d m. let z = run-cut s k d m .long in omega arith) (f .offender) i h (omega arith) in
-          let a = f .at in
-          omega arith
 
 module _ (s : List ℕ) (room : ℕ) where
   pub answers : Answers (tableOfRows s room) (verdictOf s room)
@@ -152,13 +119,13 @@ module _ (s : List ℕ) (room : ℕ) where
       to h = let n = nine-kept s (λ k. keptRows k room) h in of (n .0) (n .1)
         where
           of : (k : Kept s) → AllKept (keptRows k room) → Shown s room
-          of k (a, (b, (c, (e, (x, (y, (z, u))))))) = (record { kept = k; connected = connected-with (represented s k) a b c e; rule14 = x; rule15 = y }, z)
+          of k (a, (b, (c, (e, (x, (y, (z, u))))))) = (record { kept = k; connected = connected-parts (represented s k) a b .1 (c, e); rule14 = x; rule15 = y }, z)
 
       from : Shown s room → AllKept (tableOfRows s room)
       from (t, z) =
           let c = t .connected in
-          all-nine s (λ k. keptRows k room) (t .kept)
-          (c .rule10, (c .rule11, (connected-kept (represented s (t .kept)) c, ((c .cluster, c .given-out, c .fits), (t .rule14, (t .rule15, (z, tt)))))))
+          let h = connected-parts (represented s (t .kept)) (c .rule10) (c .rule11) .0 c in
+          all-nine s (λ k. keptRows k room) (t .kept) (c .rule10, (c .rule11, (h .0, (h .1, (t .rule14, (t .rule15, (z, tt)))))))
 
   -- THE THEOREMS
   pub accepted-exactly : (verdictOf s room .number ≡ 0) ↔ Shown s room

@@ -29,9 +29,8 @@ use Rattle.edition.specs.Audio.{audio}
 use Rattle.entities.specs.Run.{runIn}
 use Rattle.cutting.specs.declared.Survey.{Survey}
 use Rattle.cutting.specs.Survey.{surveyOf}
-use Rattle.cutting.specs.Exact.{kept-cutting, kept-run}
+use Rattle.cutting.specs.Context.{opened-one, run-one}
 use Rattle.ids.specs.OwnIds.{distinct-ids}
-use Rattle.clusters.specs.Rule13.{Connected}
 use Rattle.clusters.specs.Topology.{clusters-one}
 use Rattle.table.specs.declared.Control.{Control}
 use Rattle.table.specs.Controls.{at}
@@ -70,16 +69,13 @@ controls-counted s room = go (eqb (verdictOf s room .number) 0)
 module _ (s : List ℕ) where
   -- what keeps the rules is one
   pub one-cutting : (t u : Configuration s) → t .kept .opened .descriptors ≡ u .kept .opened .descriptors
-  one-cutting t u = kept-cutting s (t .kept) ∙ sym (kept-cutting s (u .kept))
+  one-cutting t u = opened-one s (t .kept .opened) (u .kept .opened)
 
   pub one-descriptors : (t u : Configuration s) → runOf (t .kept) ≡ runOf (u .kept)
-  one-descriptors t u = kept-run s (t .kept) ∙ sym (kept-run s (u .kept))
+  one-descriptors t u = run-one s (t .kept .opened) (u .kept .opened) (t .kept .rule5) (u .kept .rule5) (t .kept .rule6) (u .kept .rule6)
 
   pub one-clusters : (t u : Configuration s) (d : List ℕ) → d ∈ runOf (t .kept) → t .connected .cluster (ownId d) ≡ u .connected .cluster (ownId d)
-  one-clusters t u =
-      subst (λ (ds : List (List ℕ)). (c : Connected audio ds) (d : List ℕ) → d ∈ runOf (t .kept) → t .connected .cluster (ownId d) ≡ c .cluster (ownId d)) (one-descriptors t u)
-      (clusters-one (t .connected))
-      (u .connected)
+  one-clusters t u = clusters-one (one-descriptors t u) (t .connected) (u .connected)
 
 -- what the answer and the sheet show of a configuration
 module _ (s : List ℕ) (t : Configuration s) where

@@ -35,16 +35,12 @@ use Rattle.cutting.specs.Rules1to9.{Rule8, Rule9, Opened, headerPlace, BrokenAt
 use Rattle.cutting.specs.Survey.{runOf}
 use Rattle.cutting.specs.Context.{frame-told, header-place, rule6-reads, run-is, run-first, run-cut}
 use Rattle.cutting.specs.Exact.{opening-answers, opening-numbered, four-kept, all-four}
-use Rattle.ids.specs.Rule10.{WrongId, Rule10}
-use Rattle.ids.specs.Breach.{breach10}
-use Rattle.ids.specs.Rule10Laws.{rule10-nowhere, rule10-at, distinct-run}
+use Rattle.ids.specs.Rule10.{Rule10}
 use Rattle.sources.specs.Rule11.{Rule11}
-use Rattle.sources.specs.GraphLaws.{known-run}
-use Rattle.ranks.specs.Rule12.{Endless, Rule12}
-use Rattle.ranks.specs.Order.{ordered}
-use Rattle.ranks.specs.Breach.{breach12}
-use Rattle.ranks.specs.Rule12Laws.{rule12-nowhere, rule12-at, rule12-ranks}
-use Rattle.clusters.specs.Rule13.{Broken, Rule13, Connected}
+use Rattle.ranks.specs.Rule12.{Rule12}
+use Rattle.clusters.specs.Rule13.{Broken, Rule13}
+use Rattle.clusters.specs.Topology.{connected-parts}
+use Rattle.connections.specs.JudgementLaws.{decides-10, decides-12}
 use Rattle.links3.specs.Links.{breach11Third, breach52}
 use Rattle.links3.specs.Rules.{WrongLinks, Rule11Third, rule11-third-parts}
 use Rattle.links3.specs.RulesLaws.{rule11-third-nowhere, rule11-third-at, rule52-nowhere, rule52-at}
@@ -61,17 +57,11 @@ use Rattle.reader3.specs.ThirdRefusals.{linkRows, thirdRoomRows, keptThi
 -- the rows 10 to 13, of a run that stands for descriptors
 module _ {s : List ℕ} {p : ℕ} {ds ks : List (List ℕ)} {run : Run} (k : Represents (third ks) s p ds run)
     (b : List ℕ) (buf : Buffer b) (e : pieces b ≡ ks) (some : (d : List ℕ) → d ∈ ds → 0 < length d) where
-  decides-10 : Decides (breach10 run) (Rule10 ds) (Breaks WrongId p ds)
-  decides-10 = record { kept = rule10-nowhere k; broken = rule10-at k }
-
   decides-11 : Rule10 ds → Decides (breach11Third s run) (Rule11Third ks ds) (Breaks (λ x d. WrongLinks ks ds d) p ds)
   decides-11 a = record { kept = rule11-third-nowhere ks k a; broken = rule11-third-at ks k a some }
 
   plain : Rule11Third ks ds → Rule11 (third ks) ds
   plain r = rule11-third-parts ks ds .0 r .0
-
-  decides-12 : Rule10 ds → Rule11Third ks ds → Decides (breach12 run (ordered s run)) (Rule12 (third ks) ds) (Breaks (λ x d. Endless (third ks) ds d) p ds)
-  decides-12 a r = record { kept = rule12-nowhere k (distinct-run k a) (known-run k (plain r)); broken = rule12-at k (distinct-run k a) (known-run k (plain r)) }
 
   decides-52 : Decides (breach52 s b run) (Rule52 ks ds) (Breaks (λ x d. UnknownCluster ks d) p ds)
   decides-52 = record { kept = rule52-nowhere ks k b e; broken = rule52-at ks k b e }
@@ -92,23 +82,15 @@ module _ {s : List ℕ} {p : ℕ} {ds ks : List (List ℕ)} {run : Run} (k : Rep
     _,
     _,
     refl,
-    decides-10,
+    decides-10 k,
     λ a. (
       _,
       _,
       refl,
       decides-11 a,
-      λ l. (_, _, refl, decides-12 a l, λ c. (_, _, refl, decides-52, λ u. (_, r, refl, decides-13 a (plain l) c, λ x. h a l c u x))),
+      λ l. (_, _, refl, decides-12 k a (plain l), λ c. (_, _, refl, decides-52, λ u. (_, r, refl, decides-13 a (plain l) c, λ x. h a l c u x))),
     ),
   )
-
-  connected-by : (a : Rule10 ds) → Rule11 (third ks) ds → Rule12 (third ks) ds → Rule13 (third ks) ds → Connected (third ks) ds
-  connected-by a l c x =
-      let r = rule12-ranks k (distinct-run k a) (known-run k l) .1 c in
-      record { rule10 = a; rule11 = l; rank = r .0; ranked = r .1; cluster = x .0; given-out = x .1; fits = x .2 }
-
-  ranks-by : (t : Connected (third ks) ds) → Rule12 (third ks) ds
-  ranks-by t = rule12-ranks k (distinct-run k (t .rule10)) (known-run k (t .rule11)) .0 (t .rank, t .ranked)
 
 -- the rows 5 to 9, behind the rules 1 to 4
 module _ (s b : List ℕ) (o : Opened s) where
@@ -211,7 +193,7 @@ module _ (s b : List ℕ) (room : ℕ) where
       links : (k : KeptThird s b) → AllKept (keptThirdRows k room) → ShownThird s b room
       links k (a, (l, (c, (u, (x, (z, y)))))) =
           let v = rule11-third-parts (clustersIn k) (runIn3 k) .0 l in
-          (record { kept = k; connected = connected-by (represented s b k) b (k .rule51) (buffer-pieces b (k .rule51)) (some s b k room) a (v .0) c x; clocks = v .1; rule52 = u }, z)
+          (record { kept = k; connected = connected-parts (represented s b k) a (v .0) .1 (c, x); clocks = v .1; rule52 = u }, z)
 
       to : AllKept (thirdTable s b room) → ShownThird s b room
       to h = of (four-kept s (λ o. thirdRows o b (λ k. keptThirdRows k room)) h)
@@ -223,6 +205,7 @@ module _ (s b : List ℕ) (room : ℕ) where
       from (t, z) =
           let k = t .kept in
           let c = t .connected in
+          let h = connected-parts (represented s b k) (c .rule10) (c .rule11) .0 c in
           all-four s (λ o. thirdRows o b (λ x. keptThirdRows x room)) (k .opened) (
             k .rule5,
             (
@@ -233,7 +216,7 @@ module _ (s b : List ℕ) (room : ℕ) where
                   k .rule51,
                   (
                     k .rule9,
-                    (c .rule10, (rule11-third-parts (clustersIn k) (runIn3 k) .1 (c .rule11, t .clocks), (ranks-by (represented s b k) b (k .rule51) (buffer-pieces b (k .rule51)) (some s b k room) c, (t .rule52, ((c .cluster, c .given-out, c .fits), (z, tt)))))),
+                    (c .rule10, (rule11-third-parts (clustersIn k) (runIn3 k) .1 (c .rule11, t .clocks), (h .0, (t .rule52, (h .1, (z, tt)))))),
                   ),
                 ),
               ),

@@ -7,14 +7,13 @@ use mathlib.Core.Bool.{Bool, true, false}
 use mathlib.Core.List.{List, [], _++_}
 use mathlib.Core.Logic.{_↔_}
 use lib.ListN.{length, getD, take, drop, length-take, List·getD-eq-default}
-use lib.Seq.{getD-append-add}
 use lib.Dec.{eqb}
 use native.Mathlib.Omega.{arith}
 use borrow.Author.Tests.{eq-eqb, ne-eqb, eqb-true, eqb-false}
 use Rattle.ground.specs.declared.Refusal.{Refusal}
 use Rattle.ground.specs.Pick.{yes, no}
 use Rattle.ground.specs.Numbers.{byte}
-use Rattle.ground.specs.Lists.{member-at, pad, pad-at}
+use Rattle.ground.specs.Lists.{member-at}
 use Rattle.graph.specs.Members.{_∈_}
 use Rattle.layout.specs.declared.Cluster.{Cluster}
 use Rattle.layout.specs.Layouts.{mostPins}
@@ -23,7 +22,6 @@ use Rattle.layout3.specs.declared.Entity.{Entity}
 use Rattle.layout3.specs.Layouts.{LaidOut}
 use Rattle.layout3.specs.Facts.{factsOf}
 use Rattle.layout3.specs.LayoutLaws.{Told, told, unknown, input, output, mixer, selector, feature, clock, pins-few, sources-laid}
-use Rattle.scan.specs.Cutting.{oneByte}
 use Rattle.scan.specs.PieceLaws.{cut-one}
 use Rattle.buffer.specs.Clusters.{twoBytes}
 use Rattle.buffer.specs.BufferLaws.{buffer-pieces}
@@ -33,7 +31,7 @@ use Rattle.entities.specs.declared.Run.{Run}
 use Rattle.entities.specs.Run.{runIn}
 use Rattle.entities.specs.Represents.{Represents}
 use Rattle.groups.specs.Reading.{frameOf}
-use Rattle.cutting.specs.Context.{run-is}
+use Rattle.cutting.specs.Context.{opened-one, run-one}
 use Rattle.ranks.specs.Order.{ordered}
 use Rattle.sweep3.specs.Sweep.{givenIds}
 use Rattle.clusters.specs.Rule13.{Connected}
@@ -41,7 +39,8 @@ use Rattle.clusters.specs.Topology.{clusters-one}
 use Rattle.clusters3.specs.Shown.{shownCluster, clustersBy}
 use Rattle.clusters3.specs.Rule13Laws.{third-shown}
 use Rattle.clusters3.specs.InBuffer.{cluster-in-buffer}
-use Rattle.records.specs.Records.{headSize, recordSize, frontOf, recordFor, shownIn}
+use Rattle.records.specs.Records.{headSize, recordSize, recordFor, shownIn}
+use Rattle.records.specs.Bytes.{source-at}
 use Rattle.records.specs.Sheet.{recordsFor, Rule16, wholeSheet, shown-same, record-long, record-at}
 use Rattle.third.specs.declared.SheetAnswer.{SheetAnswer}
 use Rattle.third.specs.Judgement.{runFor, clustersShown, thirdVerdict, sheetRefused, sheetTaken, thirdAnswer, thirdSheet}
@@ -108,24 +107,20 @@ module _ (s b d : List ℕ) (n : thirdAnswer s b (length d) .number ≡ 0 → �
 -- what keeps the rules is one
 module _ (s b : List ℕ) (t u : ThirdConfiguration s b) where
   one-cutting : t .kept .opened .descriptors ≡ u .kept .opened .descriptors
-  one-cutting = cut-one oneByte s _ _ (t .kept .opened .rule3) (u .kept .opened .rule3)
+  one-cutting = opened-one s (t .kept .opened) (u .kept .opened)
 
   one-buffer : thirdBuffer t ≡ thirdBuffer u
   one-buffer = cut-one twoBytes b _ _ (t .kept .rule51 .tiles) (u .kept .rule51 .tiles)
 
   one-descriptors : thirdRun t ≡ thirdRun u
-  one-descriptors = sym (run-is s (t .kept .opened) (t .kept .rule5) (t .kept .rule6)) ∙ run-is s (u .kept .opened) (u .kept .rule5) (u .kept .rule6)
+  one-descriptors = run-one s (t .kept .opened) (u .kept .opened) (t .kept .rule5) (u .kept .rule5) (t .kept .rule6) (u .kept .rule6)
 
+  -- of one buffer, so that both are of one edition
   one-clusters : (d : List ℕ) → d ∈ thirdRun t → thirdCluster t (ownId d) ≡ thirdCluster u (ownId d)
   one-clusters =
-      same (thirdBuffer u) one-buffer (thirdRun u) one-descriptors (u .connected)
-    where
-      same : (ks : List (List ℕ)) → thirdBuffer t ≡ ks → (ds : List (List ℕ)) → thirdRun t ≡ ds → (c : Connected (third ks) ds)
-          → (d : List ℕ) → d ∈ thirdRun t → thirdCluster t (ownId d) ≡ c .cluster (ownId d)
-      same ks e ds f =
-          subst (λ (l : List (List ℕ)). (c : Connected (third l) ds) (d : List ℕ) → d ∈ thirdRun t → thirdCluster t (ownId d) ≡ c .cluster (ownId d)) e
-          (subst (λ (x : List (List ℕ)). (c : Connected (third (thirdBuffer t)) x) (d : List ℕ) → d ∈ thirdRun t → thirdCluster t (ownId d) ≡ c .cluster (ownId d)) f
-          (clusters-one (t .connected)))
+      subst (λ (ks : List (List ℕ)). (c : Connected (third ks) (thirdRun u)) (d : List ℕ) → d ∈ thirdRun t → thirdCluster t (ownId d) ≡ c .cluster (ownId d)) one-buffer
+      (clusters-one one-descriptors (t .connected))
+      (u .connected)
 
 -- the record, byte by byte, of a descriptor that has its layout
 kind-shown : (d : List ℕ) → LaidOut d → ShownKind (byte d 2) (saidBy d .kind)
@@ -149,11 +144,7 @@ module _ (ks : List (List ℕ)) (d c : List ℕ) (o : LaidOut d) where
   fed-is = sources-laid d o
 
   source-byte : (j : ℕ) → j < mostPins → byte (recordFor (third ks) d (shownCluster c)) (headSize + j) ≡ byte (fedIn o) j
-  unfolding recordFor
-  source-byte j h =
-      getD-append-add (frontOf (ownId d) (saidBy d .kind) (length (sources (third ks) d)) (shownCluster c)) (pad 0 mostPins (sources (third ks) d)) j 0
-      ∙ pad-at 0 mostPins (sources (third ks) d) j h
-      ∙ ap (λ (l : List ℕ). byte l j) fed-is
+  source-byte j h = source-at (third ks) d (shownCluster c) j h ∙ ap (λ (l : List ℕ). byte l j) fed-is
 
   few : length (fedIn o) ≤ mostPins
   few =

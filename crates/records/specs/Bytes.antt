@@ -5,6 +5,7 @@
 --   sources-one        ==  .. and in one way only
 --   RecordBytes d c b  ==  the bytes b are the record of the descriptor d with the cluster c: "ID; kind ..; c; bitmap (2); name index; pins; 00", then
 --                          "twenty-four source IDs", "unused ones 00"; d has one of the five layouts, and the kind is one of the five
+--   source-at          ==  what stands behind the head of a record, of any edition: the source IDs, unused ones 00
 --   bytes-told         ==  the record of a descriptor that has its layout is such
 use Prim.Native.Nat.{ℕ, _+_, _/_, _%_, _≤_, _<_}
 use mathlib.Core.Path.{_≡_, refl, sym, ap, _∙_, subst}
@@ -25,7 +26,7 @@ use Rattle.layout.specs.LayoutLaws as laid
 use Rattle.kinds.specs.Shown.{kind-told, kind-range}
 use Rattle.kinds.specs.Sources.{pinsOf, sourcesFrom}
 use Rattle.kinds.specs.SourcesLaws.{ids-length, id-at, pins-few}
-use Rattle.edition.specs.Edition.{ownId, sources}
+use Rattle.edition.specs.Edition.{Edition, ownId, sources}
 use Rattle.edition.specs.Audio.{audio}
 use Rattle.records.specs.Records.{headSize, recordSize, frontOf, recordFor, recordIn}
 
@@ -82,13 +83,12 @@ module _ (d : List ℕ) where
   pub sources-one : {k p i q : ℕ} → SourcesAt d k p → SourcesAt d i q → (k ≡ i) × (p ≡ q)
   sources-one a b = (sym (by-kind a .0) ∙ by-kind b .0, sym (by-kind a .1) ∙ by-kind b .1)
 
-module _ (d : List ℕ) (c : Cluster) (laid : LaidOut d) where
-  source-byte : (j : ℕ) → j < mostPins → byte (recordIn d c) (headSize + j) ≡ byte (sources audio d) j
-  unfolding recordFor
-  source-byte j h =
-      getD-append-add (frontOf (ownId d) (audio .kind d) (length (sources audio d)) c) (pad 0 mostPins (sources audio d)) j 0
-      ∙ pad-at 0 mostPins (sources audio d) j h
+pub source-at : (ed : Edition) (d : List ℕ) (c : Cluster) (j : ℕ) → j < mostPins → byte (recordFor ed d c) (headSize + j) ≡ byte (sources ed d) j
+unfolding recordFor
+source-at ed d c j h =
+    getD-append-add (frontOf (ownId d) (ed .kind d) (length (sources ed d)) c) (pad 0 mostPins (sources ed d)) j 0 ∙ pad-at 0 mostPins (sources ed d) j h
 
+module _ (d : List ℕ) (c : Cluster) (laid : LaidOut d) where
   -- THE LAW, where d has its layout (rule 9)
   pub bytes-told : RecordBytes d c (recordIn d c)
   unfolding recordFor
@@ -105,6 +105,6 @@ module _ (d : List ℕ) (c : Cluster) (laid : LaidOut d) where
     from = sourcesFrom (entityOf d);
     pins = subst (SourcesAt d (sourcesFrom (entityOf d))) (sym (ids-length d)) (sources-stand d laid);
     spare = refl;
-    source = λ j h. let n = ids-length d in let m = pins-few d in source-byte j (omega arith) ∙ id-at d j (omega arith);
-    unused = λ j h l. source-byte j l ∙ List·getD-eq-default (sources audio d) 0 h;
+    source = λ j h. let n = ids-length d in let m = pins-few d in source-at audio d c j (omega arith) ∙ id-at d j (omega arith);
+    unused = λ j h l. source-at audio d c j l ∙ List·getD-eq-default (sources audio d) 0 h;
   }

@@ -21,8 +21,8 @@ use Rattle.ground.specs.declared.Place.the-variants.{Nowhere, At}
 use Rattle.ground.specs.Pick.{pick, yes, no, Reads, shows, refutes, reads-same, reads-or, reads-lt, reads-and, reads-le}
 use Rattle.ground.specs.Lists.{part, pad, pad-length, pad-at, total, total-one, length-flatten, flatten-append}
 use Rattle.ground.specs.Places.{Come, come-none, come-over, come-here, come-more}
-use Rattle.layout.specs.Withdrawn.{isWrong, isPrinted, reads-wrong}
-use Rattle.layout.specs.Layout.{entityOf, isUnknown}
+use Rattle.layout.specs.Withdrawn.{layoutNumber, isWrong, isPrinted, reads-wrong}
+use Rattle.layout.specs.Layout.{entityOf}
 use Rattle.edition.specs.Audio.{audio}
 use Rattle.fields.specs.declared.Item.{Item}
 use Rattle.fields.specs.Listed.{Listed, wrong, writtenAs, listedWith, blankItem}
@@ -36,7 +36,7 @@ unfolding wrongIn
 reads-wrong-in d = reads-or _ _ (reads-wrong d) (reads-lt mostLong (length d))
 
 empty-wrong : wrongIn [] ≡ true
-unfolding wrongIn isWrong isUnknown entityOf isPrinted
+unfolding wrongIn isWrong layoutNumber entityOf isPrinted
 empty-wrong = refl
 
 pub listed-count : (v : List ℕ) (l : EntityList) → length (descriptorsOf (listOf v l)) ≡ l .count

@@ -11,14 +11,14 @@ use Rattle.layout.specs.declared.Entity.{Entity}
 use Rattle.layout.specs.declared.Entity.the-variants.{Unknown, Input, Output, Mixer, Selector, Feature}
 use Rattle.layout.specs.Layout.{entityOf, isUnknown}
 use Rattle.layout.proofs.Entity as Entity-enum
-use Rattle.layout.specs.Withdrawn.{isPrinted, isWrong}
+use Rattle.layout.specs.Withdrawn.{isPrinted, isWrong, wrong-tests}
 use Rattle.layout.proofs.is_wrong.Statement.{statement}
 use Rattle.layout.proofs.is_wrong.Tie as tie
 
 module _ (d : List ℕ) (e : Entity) (q : e ≡ entityOf d) where
   by-read : isUnknown e && not (isPrinted d) ≡ isWrong d
   unfolding isWrong
-  by-read = ap (λ (x : Entity). isUnknown x && not (isPrinted d)) q
+  by-read = ap (λ (x : Entity). isUnknown x && not (isPrinted d)) q ∙ sym (wrong-tests (entityOf d) d)
 
   none-read : e ≡ Unknown → (b : Bool) → b ≡ isPrinted d → not b ≡ isWrong d
   unfolding isUnknown
