@@ -18,6 +18,7 @@ use Rattle.runs.proofs.Answers.{next-get, get-keeps, next-set, set-silent, next
 use Rattle.runs.proofs.Moved.{whole-run}
 use Rattle.runs.proofs.InTurn.{in-turn}
 use Rattle.runs.proofs.Rows.{step-rows}
+use Rattle.runs.proofs.Refusals.{accepted-is-0}
 use Rattle.demands.specs.Demand2.{EveryRun, Demand2}
 
 pub runs-so : (st : State) → Sound (st .table) → (run : List Step) → Wired run → EveryRun st run
@@ -28,6 +29,7 @@ runs-so st h run w =
       interface = run-interface st run;
       addressed = λ setup. addressed-found (after st run .table) setup s;
       numbers = step-rows (after st run);
+      accepts = accepted-is-0 (after st run);
       next-get = next-get (after st run);
       get-keeps = get-keeps (after st run);
       next-set = next-set (after st run) s;
