@@ -9,7 +9,7 @@
 --   PrintedA         ==  the whole answer for case A, and the sheet as the document prints it
 --   caseB, AnswerB   ==  case A with a second Output Terminal and volume on the master channel too, and what is answered to it
 --   caseTable        ==  the table of case A before any load
---   lent             ==  the sheet that the program lends, 1,024 bytes
+--   lent             ==  the sheet that the program lends, 1,024 bytes, all zeros
 use Prim.Native.Nat.{ℕ}
 use mathlib.Core.Path.{_≡_}
 use mathlib.Core.Bool.{true, false}
@@ -59,7 +59,6 @@ pub record Together : Type 0 where
   pub clusters : map clusterKept (cluster 5 0x0051 254 ∷ cluster 5 0x0051 255 ∷ cluster 4 0x0107 0 ∷ cluster 4 0x0107 1 ∷ []) ≡ true ∷ false ∷ true ∷ false ∷ []
   pub settings : map found (volume (minus 300) ∷ volume (minus 384) ∷ volume (pos 500) ∷ volume (minus 32768) ∷ bass (pos 9) ∷ []) ≡ minus 256 ∷ minus 512 ∷ pos 0 ∷ minus 32768 ∷ pos 6 ∷ []
 
--- the sheet that the program lends, all zeros
 abbrev pub lent : List ℕ
 lent = replicate wholeSheet 0
 
