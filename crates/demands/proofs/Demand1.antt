@@ -1,4 +1,5 @@
 -- Demand 1, proved.
+--   refusing, refused-answer  ==  where the answer's number is not 0 the verdict's is not, and the answer is what a refusal of that verdict answers
 use Prim.Native.Nat.{ℕ}
 use mathlib.Core.Path.{_≡_, refl, sym, ap, _∙_}
 use mathlib.Core.List.{List}
@@ -32,16 +33,16 @@ module _ (s : List ℕ) (room : ℕ) where
       (λ e. accepted-exactly s room .0 (sym (number-told s room) ∙ e), λ t. number-told s room ∙ accepted-exactly s room .1 t)
 
   module _ (n : readingOf s room .number ≡ 0 → ⊥) where
-    refusing : verdictOf s room .number ≡ 0 → ⊥
+    pub refusing : verdictOf s room .number ≡ 0 → ⊥
     refusing e = n (number-told s room ∙ e)
 
-    answer : readingOf s room ≡ refusedReading (verdictOf s room)
+    pub refused-answer : readingOf s room ≡ refusedReading (verdictOf s room)
     unfolding readingOf
-    answer = no _ _ (ne-eqb _ _ refusing)
+    refused-answer = no _ _ (ne-eqb _ _ refusing)
 
     place-told : readingOf s room .place ≡ verdictOf s room .place
     unfolding refusedReading
-    place-told = ap (λ (r : Reading). r .place) answer
+    place-told = ap (λ (r : Reading). r .place) refused-answer
 
     told : verdictOf s room ≡ record { number = readingOf s room .number; place = readingOf s room .place }
     told = rw (number-told s room, place-told)
@@ -66,7 +67,7 @@ module _ (s d : List ℕ) where
   refuses : (readingOf s (length d) .number ≡ 0 → ⊥) → RefusedReading s d
   unfolding refusedReading sheetOf
   refuses n =
-      let a = answer s (length d) n in
+      let a = refused-answer s (length d) n in
       record {
         named = exactly s (length d) (readingOf s (length d) .number) (readingOf s (length d) .place) n .0 (refl, refl);
         interface = ap (λ (r : Reading). r .control) a;
