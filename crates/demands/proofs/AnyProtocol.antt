@@ -2,7 +2,8 @@
 -- another AudioControl interface descriptor and else the same descriptors (`Twins`), so the group behind it, its run and all places are the same; the rules
 -- 4, 7 and 14, which alone look at interface descriptors, are kept and broken alike. So the first row that is broken is the same, at the same place, and
 -- what is accepted is the same configuration but for that descriptor.
---   any-protocol  ==  the proof of the statement
+--   any-protocol    ==  the proof of the statement
+--   other-protocol  ==  .. and of its case, in Cases
 use Prim.Native.Nat.{ℕ, _+_, _<_}
 use mathlib.Core.Path.{_≡_, refl, sym, ap, _∙_, subst}
 use mathlib.Core.Logic.{_⊎_, inl, inr, ⊎-elim}
@@ -17,25 +18,30 @@ use Rattle.ground.specs.declared.Refusal.{Refusal}
 use Rattle.ground.specs.Pick.{decided, reads-eq}
 use Rattle.ground.specs.Numbers.{byte}
 use Rattle.ground.specs.Lists.{split-of, of-split, flatten-append, length-flatten}
-use Rattle.ground.specs.First.{Sound}
+use Rattle.ground.specs.Refuse.{placeOr}
+use Rattle.ground.specs.First.{Sound, firstFrom}
 use Rattle.ground.specs.Rows.{FirstBroken}
 use Rattle.graph.specs.Members.{_∈_}
-use Rattle.scan.specs.Cutting.{Cutting, Rule3, Misfit}
+use Rattle.scan.specs.Search.{searched}
+use Rattle.scan.specs.Cutting.{endBy, restFromBy, restBy, Cutting, Rule3, Misfit}
 use Rattle.scan.specs.CuttingLaws.{cutting-one, cutting-exists, cutting-misfit}
-use Rattle.search.specs.Want.{Audio}
+use Rattle.search.specs.Want.{Audio, isInterface, isAudio, wants, foundFrom}
 use Rattle.opening.specs.Rules1and2.{Rule1, Rule2}
 use Rattle.interfaces.specs.Rule4.{second-control, Rule4, Broken4, wrong, missing}
+use Rattle.groups.specs.Reading.{frameFrom, frameOf}
 use Rattle.cutting.specs.Rules1to9.{Opening, Opened, opened, Kept, groupRows}
-use Rattle.cutting.specs.Context.{control-nine}
+use Rattle.cutting.specs.Context.{frame-told, control-nine}
 use Rattle.controls.specs.Growth.{tableOf}
-use Rattle.records.specs.Sheet.{Rule16}
+use Rattle.records.specs.Sheet.{wholeSheet, Rule16}
 use Rattle.topology.specs.Reading.{verdictOf, refusedReading, readingOf, sheetOf}
 use Rattle.reader.specs.Configuration.{runOf, Configuration}
 use Rattle.reader.specs.Refusals.{keptRows, Refused}
 use Rattle.reader.proofs.Exactly.{refused-exactly}
 use Rattle.reader.proofs.Shows.{number-told, answer-shows, sheet-shows, run, controls}
+use Rattle.demands.specs.Cases.{caseA, lent, OtherProtocol}
 use Rattle.demands.specs.AnyProtocol.{protocolPlace, AnyProtocol}
 use Rattle.demands.proofs.Demand1.{refusing, refused-answer, demand-1}
+use Rattle.demands.proofs.TurnedAway.{case-a}
 use Rattle.demands.proofs.Twins.{Like, control, like-back, like-byte, like-long, Twins, more, twins-self, twins-append, twins-back, twins-total, twins-in, twins-same, twins-at, audio-to, rule4-to, rule7-to, rule14-to, breaks14-to}
 
 -- one row, from the one table to the other
@@ -262,3 +268,17 @@ any-protocol = record {
   answer = λ s o x room. same-answer s _ _ (whole s o x) (begin s o x) o (twins s o x) room;
   sheet = λ s o x d. same-sheet s _ _ (whole s o x) (begin s o x) o (twins s o x) d;
 }
+
+-- case A, whose AudioControl interface stands at place 9
+control-at-9 : frameOf caseA .control ≡ 9
+unfolding caseA frameOf frameFrom placeOr foundFrom searched wants isAudio isInterface firstFrom restBy restFromBy endBy
+control-at-9 = refl
+
+pub other-protocol : OtherProtocol
+other-protocol =
+    let o = case-a .kept .opened in
+    let p : protocolPlace o ≡ 16 = ap (λ (n : ℕ). n + 7) (sym (frame-told caseA o .control-at) ∙ control-at-9) in
+    record {
+      answer = ap (λ (n : ℕ). readingOf (set caseA n 0x30) wholeSheet) (sym p) ∙ any-protocol .answer caseA o 0x30 wholeSheet;
+      sheet = ap (λ (n : ℕ). sheetOf (set caseA n 0x30) lent) (sym p) ∙ any-protocol .sheet caseA o 0x30 lent;
+    }

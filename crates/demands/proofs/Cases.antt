@@ -1,5 +1,5 @@
 -- The cases, computed from the definitions.
---   together, printed-a, answer-b, other-protocol  ==  the proofs of the four statements
+--   together, printed-a, answer-b  ==  the proofs of three statements; of the fourth, OtherProtocol, it is AnyProtocol's
 use Prim.Native.Nat.{ℕ}
 use mathlib.Core.Path.{_≡_, refl}
 use mathlib.Core.Bool.{true, false}
@@ -53,13 +53,12 @@ use Rattle.records.specs.Records.{headOf, recordOf, recordsTo, roomFor, shownIn
 use lib.IntN.{pos}
 use Rattle.setting.specs.Cases.{minus, found, volume, bass, cases-hold}
 use Rattle.topology.specs.Reading.{restJudged, surveyJudged, judgedThen, roomJudged, verdictOf, refusedReading, takenReading, readingOf, sheetOf}
-use Rattle.demands.specs.Cases.{caseA, Configurations, Together, PrintedA, caseB, AnswerB, OtherProtocol}
+use Rattle.demands.specs.Cases.{caseA, Configurations, Together, PrintedA, caseB, AnswerB}
 
 record Computed : Type 0 where
   configurations : Configurations
   printed : PrintedA
   other : AnswerB
-  protocol : OtherProtocol
 
 computed : Computed
 unfolding caseA caseB refuse placeOr firstFrom isBefore total any pad endBy restFromBy restBy reachBy breachBy searched isInterface isClass isAudio isSetting isMember wants foundFrom entityOf kindOf isUnknown pinsOf sourcesFrom feedsOf nodeOf nodesFrom blankNode runIn breach1 breach2 wrongInterface breach4 interfacesJudged runEnd frameFrom frameOf opens isHeader breach5 straysFrom breach6 isDistinct allKnown unlisted collects breach7 groupJudged groups.judged runOf breach8 breach9 breach17 isPrinted isWrong verdictThen verdict cutting.runJudged refusedSurvey surveyed surveyOf all mem joins step passFrom passes put given tabulateFrom firstIn somewhere lookupBelow sourceNumber wrongId breach10 wrongSource breach11 ordered breach12 givesBy givenIn keepsBy breach13 clustersOf firstOf channelsIn giveOut mixerLength featureLength alike named allSame mixerKept featureKept keeps clusterKept namesKept ones onesIn judged terminalOf terminalsFrom terminalsOf bearerIn terminalNumber channelsOf opensAs isGeneral isFormat samplesRight ratesRight isTypeOne formatRight bearerRight describedBy holdsClass broken wrongStream firstBroken breach14 bitSet bitControls bitsFrom maskControls channelsFrom featureControls entityControls controlsTo controlsOfRun breach15 tableOf headOf recordOf recordsTo roomFor shownIn restJudged surveyJudged judgedThen roomJudged verdictOf refusedReading takenReading readingOf sheetOf bitCarries
@@ -67,7 +66,6 @@ computed = record {
   configurations = record { accepted = refl; length-wrong = refl; eight-bytes = refl; sources-itself = refl; same-id = refl; sources-output = refl };
   printed = record { answer = refl; sheet = refl };
   other = record { accepted = refl; entities = refl; controls = refl; fourth = refl };
-  protocol = record { answer = refl; sheet = refl };
 }
 
 pub together : Together
@@ -79,6 +77,3 @@ printed-a = computed .printed
 
 pub answer-b : AnswerB
 answer-b = computed .other
-
-pub other-protocol : OtherProtocol
-other-protocol = computed .protocol
