@@ -13,7 +13,7 @@ use std::path::Path;
 use crate::cut::two_bytes;
 use crate::edition3;
 use crate::lend;
-use crate::numbers::{CLUSTERS, LENT, MARK, RECORD, SHEET, STEP};
+use crate::numbers::{LENT, MARK, RECORD, SHEET, STEP};
 use crate::relay::{each_step, BadStep, Printed};
 use crate::sheet;
 
@@ -53,26 +53,33 @@ pub fn step(m: usize, config: &[u8], clusters: &[u8]) -> Printed {
     Printed { lines: line + &lend::shown(&lent), way }
 }
 
+/// What `sheet3` prints of a file that it cannot read whole.
+const UNREAD: &str = "cannot read clusters\n";
+
 /// The program `sheet3`: standard input is a configuration, the file `clusters` of the folder the
-/// cluster buffer; it prints as `sheet` does. A file that cannot be opened or read is told, and nothing
-/// else; of a longer one the first 8,193 bytes are the buffer.
+/// cluster buffer; it prints as `sheet` does. A file that cannot be opened or read, or that has more
+/// than 8,192 bytes, is told, and nothing else.
 pub fn told<E>(folder: &Path, input: impl FnOnce() -> Result<Vec<u8>, E>) -> Result<String, E> {
     match buffer(&folder.join("clusters")) {
         Ok(clusters) => Ok(printed(&input()?, &clusters)),
-        Err(_) => Ok("cannot read clusters\n".to_string()),
+        Err(_) => Ok(UNREAD.to_string()),
     }
 }
 
+/// One byte more than may be there tells a longer file.
 fn buffer(file: &Path) -> io::Result<Vec<u8>> {
     let mut bytes = Vec::new();
-    File::open(file)?.take(CLUSTERS as u64).read_to_end(&mut bytes)?;
+    File::open(file)?.take(STEP as u64 + 1).read_to_end(&mut bytes)?;
     Ok(bytes)
 }
 
 /// What `sheet3` prints of a configuration and the bytes of its file.
 pub fn printed(config: &[u8], file: &[u8]) -> String {
+    if STEP < file.len() {
+        return UNREAD.to_string();
+    }
     let mut lent = [0; SHEET];
-    match edition3::read(config, &file[..file.len().min(CLUSTERS)], &mut lent) {
+    match edition3::read(config, file, &mut lent) {
         Ok(entities) => lent.chunks_exact(RECORD).take(entities).map(sheet::line).collect(),
         Err(refusal) => refusal.line(),
     }
@@ -125,6 +132,13 @@ mod tests {
         assert_eq!(program(&step3_bytes(LENT + 1, &[], &[])), "bad step\n");
         assert_eq!(program(&step3_bytes(0, &[], &[0; STEP + 1])), "bad step\n");
         assert_eq!(program(&step3_bytes(0, &[0; STEP + 1], &[])), "bad step\n");
+    }
+
+    #[test]
+    fn a_longer_file_is_no_whole_one() {
+        let longer = vec![0; STEP + 1];
+        assert_eq!(printed(&case_a(), &longer), UNREAD);
+        assert_eq!(printed(&case_a(), &longer[..STEP]).lines().count(), 3);
     }
 
     #[test]

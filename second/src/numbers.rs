@@ -53,5 +53,3 @@ pub const FIELDS: usize = 600;
 pub const EDITION_3: u8 = 0x30;
 /// "length at 0..1, 7 or more": the least length of a cluster descriptor.
 pub const CLUSTER_LEAST: usize = 7;
-/// The most bytes that the program `sheet3` reads of its file: one more than a step of `lend3` takes.
-pub const CLUSTERS: usize = STEP + 1;

@@ -6,8 +6,8 @@
 --   clusterId k, channelsOf k  ==  the ID at 4..5, and c at 6
 --   WrongCluster before k  ==  the ID of k, which stands behind the descriptors before, is 0 or borne by one of those
 --   Buffer b          ==  rule 51: b is cut into cluster descriptors, whose IDs are distinct and not 0
---   Fault before tail ==  behind the cluster descriptors before, of which no more than tail is left: there is something left, and no cluster descriptor
---                         that it begins with; or it begins with one whose ID is 0 or repeated
+--   Fault before tail ==  behind the cluster descriptors before the bytes tail are left: there are some, and they begin with no cluster descriptor; or
+--                         they begin with one whose ID is 0 or borne by one of before
 --   Broken51 b p      ==  p is the place of the first such fault
 --   SameContent j k   ==  the same cluster content: "all bytes but the ID"
 use Prim.Native.Nat.{ℕ, _+_, _*_, _≤_, _<_}

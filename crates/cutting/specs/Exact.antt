@@ -5,7 +5,7 @@
 --   cutting-answers  ==  the verdict, with whatever is judged behind the nine, is put together by their rows; cutting-numbered: none is number 0
 --   opening-answers, opening-numbered  ==  the same of the rows 1 to 4, whatever stands behind them
 --   four-kept, all-four  ==  the four rows kept are the rules 1 to 4 kept, and the other way
---   nine-kept, all-nine  ==  the nine rows kept are the nine rules kept, and the other way
+--   nine-kept, all-nine  ==  the ten rows, 1 to 9 and 17, kept are the nine rules kept, and the other way
 --   kept-cutting, kept-header, kept-run  ==  the cutting, the header and the run that keep the rules are those that the reader works
 --                        with, so they are one
 use Prim.Native.Nat.{ℕ, _+_}

@@ -9,8 +9,10 @@ use native.Mathlib.Omega.{arith}
 use Rattle.topology.specs.Reading.{readingOf}
 use Rattle.records.specs.Sheet.{Rule16, wholeSheet}
 use Rattle.reader.specs.Configuration.{runOf, Configuration}
+use Rattle.reader.specs.Plainly.{PlainConfiguration}
 use Rattle.reader.proofs.Exactly.{accepted-exactly}
 use Rattle.reader.proofs.Shows.{number-told, one-cutting, one-descriptors, one-clusters, answer-shows, sheet-shows, record-shows, record-bytes, controls-stand, controls-order, controls-counted}
+use Rattle.reader.proofs.Plainly.{run-plainly, plain-configuration, configuration-plain, one-plainly}
 use Rattle.demands.specs.Demand3.{Demand3}
 
 pub room-enough : (s : List ℕ) (room : ℕ) → wholeSheet ≤ room → (t : Configuration s) → Rule16 (runOf (t .kept)) room
@@ -23,12 +25,18 @@ accepted s d h = (
   λ t. number-told s (length d) ∙ accepted-exactly s (length d) .1 (t, room-enough s (length d) h t),
 )
 
+accepted-plainly : (s d : List ℕ) → wholeSheet ≤ length d → (readingOf s (length d) .number ≡ 0) ↔ PlainConfiguration s
+accepted-plainly s d h = let a = accepted s d h in (λ e. plain-configuration (a .0 e), λ p. a .1 (configuration-plain p))
+
 pub demand-3 : (s : List ℕ) → Demand3 s
 demand-3 s = record {
   accepted = accepted s;
+  accepted-plainly = accepted-plainly s;
   one-cutting = one-cutting s;
   one-descriptors = one-descriptors s;
   one-clusters = one-clusters s;
+  one-plainly = one-plainly;
+  plainly = run-plainly;
   answer-shows = answer-shows s;
   sheet-shows = sheet-shows s;
   record-shows = record-shows s;

@@ -1,11 +1,15 @@
 -- Demand 3: "With a sheet of" 1,024 "bytes or more lent, a configuration is accepted exactly when there exist a cutting into descriptors, a
 -- rank on each entity, lower at a source than at its user, and a channel cluster on each entity's output, that keep every rule of
 -- document 01, written without the reader's search. For accepted bytes only one cutting and one set of clusters keep them, and the
--- sheet shows those." What there must be is Configuration (reader/specs); the 1,024 bytes are wholeSheet (records/specs).
+-- sheet shows those." What there must be is Configuration (reader/specs), and the same said of the bytes alone is PlainConfiguration (there too); the
+-- 1,024 bytes are wholeSheet (records/specs).
 --   run t, cluster t, controls t  ==  of the configuration t: the run's descriptors, the clusters on IDs, the controls
 --   Demand3         ==  accepted: the reader's number is 0 exactly where the bytes are a configuration
+--                       accepted-plainly: .. exactly where they are one by the rules as they are said of the bytes of each kind
 --                       one-cutting, one-descriptors, one-clusters: what keeps the rules is one: the cutting, the run's descriptors byte
---                       by byte, the cluster on each ID
+--                       by byte, the cluster on each ID; one-plainly: .. and what keeps them as they are said of the bytes is the same
+--                       plainly: each descriptor of the run has its kind's length and fields, and the cluster on its ID is what its kind
+--                       gives out and keeps its kind's rule, in bytes
 --                       answer-shows: the whole answer: the AudioControl number, the count of entities, the controls
 --                       sheet-shows: the sheet: the records of the run's descriptors with those clusters, then the lent bytes as they
 --                       stood; record-shows: of which the 32 bytes at 32·i are the record of the i-th descriptor with the cluster on
@@ -35,6 +39,7 @@ use Rattle.records.specs.Sheet.{recordsOf, Rule16, wholeSheet}
 use Rattle.records.specs.Bytes.{RecordBytes}
 use Rattle.topology.specs.Reading.{readingOf, sheetOf}
 use Rattle.reader.specs.Configuration.{runOf, Configuration}
+use Rattle.reader.specs.Plainly.{Plainly, PlainConfiguration}
 
 module _ {s : List ℕ} (t : Configuration s) where
   abbrev pub run : List (List ℕ)
@@ -48,9 +53,13 @@ module _ {s : List ℕ} (t : Configuration s) where
 
 pub record Demand3 (s : List ℕ) : Type 0 where
   pub accepted : (d : List ℕ) → wholeSheet ≤ length d → (readingOf s (length d) .number ≡ 0) ↔ Configuration s
+  pub accepted-plainly : (d : List ℕ) → wholeSheet ≤ length d → (readingOf s (length d) .number ≡ 0) ↔ PlainConfiguration s
   pub one-cutting : (t u : Configuration s) → t .kept .opened .descriptors ≡ u .kept .opened .descriptors
   pub one-descriptors : (t u : Configuration s) → run t ≡ run u
   pub one-clusters : (t u : Configuration s) (d : List ℕ) → d ∈ run t → cluster t (ownId d) ≡ cluster u (ownId d)
+  pub one-plainly : (t : Configuration s) (p : PlainConfiguration s)
+      → (p .opened .descriptors ≡ t .kept .opened .descriptors) × (p .rule6 .run ≡ run t) × ((d : List ℕ) → d ∈ run t → p .cluster (ownId d) ≡ cluster t (ownId d))
+  pub plainly : (t : Configuration s) (d : List ℕ) → d ∈ run t → Plainly (cluster t) d
   pub answer-shows : (t : Configuration s) (room : ℕ) → Rule16 (run t) room
       → readingOf s room
       ≡ record {

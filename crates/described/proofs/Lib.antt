@@ -1,3 +1,4 @@
 pub mod Refused
 pub mod Trips
+pub mod AsReader
 pub mod OurBox

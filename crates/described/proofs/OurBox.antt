@@ -12,9 +12,11 @@ use Rattle.fields.specs.Listed.{Listed}
 use Rattle.laying.specs.LayingLaws.{long-printed}
 use Rattle.writing.specs.declared.Wrote.{Wrote}
 use Rattle.writing.specs.Writing.{writtenOf, writerVerdict, writerRows, Writes}
+use Rattle.writing.specs.AnswerLaws.{writes-one}
 use Rattle.described.specs.OurBox.{OurBox}
 use Rattle.described.proofs.Refused.{verdict-answers, numbered}
-use Rattle.described.proofs.Trips.{read-back-same, written-same}
+use Rattle.described.proofs.AsReader.{as-reader}
+use Rattle.described.proofs.Trips.{read-back-same, written-same, had-all}
 
 module _ (ls : List Listed) (cs before after : List ℕ) (r : Wrote) (w : Writes ls cs before after r) where
   number : r .number ≡ writerVerdict ls cs (length before) .number
@@ -37,9 +39,12 @@ pub our-box : OurBox
 our-box = record {
   refused = λ ls cs m n p z. answers-broken (writerRows ls cs m) (writerVerdict ls cs m) (numbered ls cs m) (verdict-answers ls cs m) n p z;
   accepted = λ ls cs m. answers-kept (writerRows ls cs m) (writerVerdict ls cs m) (numbered ls cs m) (verdict-answers ls cs m);
+  as-reader = as-reader;
   withdrawn = λ i n s h. record { kind = refl; pins = h; long = long-printed i n s; pad = refl };
   untouched = untouched;
   stays = stays;
-  read-back = λ s ls cs k f w. read-back-same s ls cs k w;
+  one-result = writes-one;
+  read-back = read-back-same;
   written-again = written-same;
+  had = had-all;
 }

@@ -1,18 +1,21 @@
 -- The two trips: what is written, set within a configuration, is read back; and what is read is written again.
-use Prim.Native.Nat.{ℕ, zero, suc, _+_, _-_, _*_, _/_, _%_, _≤_, _<_}
+use Prim.Native.Nat.{ℕ, zero, suc, _+_, _-_, _/_, _%_, _≤_, _<_}
 use mathlib.Core.Path.{_≡_, refl, sym, ap, subst, _∙_}
-use mathlib.Core.Bool.{Bool, true, false, _&&_}
-use mathlib.Core.Logic.{_⊎_, inl, inr, ⊎-elim}
+use mathlib.Core.Bool.{Bool, true, false}
+use mathlib.Core.Logic.{_⊎_, inl, ⊎-elim}
 use mathlib.Core.Option.{Option, none, some}
 use mathlib.Core.List.{List, [], _∷_, _++_, map, flatten, append-assoc, append-nil, List·Memᴰ, List·Memᴰ·head, List·Memᴰ·tail, List·Memᴰ·not-nil, List·Memᴰ·cases-cons, List·Memᴰ·append-cases, Memᴰ·append-left, Memᴰ·append-right}
 use native.Mathlib.Omega.{arith}
+use native.Mathlib.Nat.{le-of-suc-le-suc}
 use lib.ListN.{length, getD, take, drop, length-append, length-drop}
 use lib.Seq.{take-at, drop-at, append-snoc}
+use borrow.Author.Tests.{eq-eqb}
+use Rattle.ground.specs.declared.Refusal.{Refusal}
 use Rattle.ground.specs.Refuse as refuse
-use Rattle.ground.specs.Rows.{end, AllKept, all-none}
-use Rattle.ground.specs.Pick.{pick, reads-and, reads-eq, reads-within, reads-true}
-use Rattle.ground.specs.Numbers.{byte, word, Bytes}
-use Rattle.ground.specs.Lists.{total, total-append, length-flatten, flatten-append}
+use Rattle.ground.specs.Rows.{AllKept, all-none}
+use Rattle.ground.specs.Pick.{pick, yes, reads-and, reads-eq, reads-within, reads-true}
+use Rattle.ground.specs.Numbers.{word, Bytes}
+use Rattle.ground.specs.Lists.{total, total-append, length-flatten, flatten-append, pad, pad-length, pad-at, pad-front, pad-full}
 use Rattle.graph.specs.Members.{_∈_}
 use Rattle.scan.specs.Cutting.{Descriptor, Cutting}
 use Rattle.scan.specs.CuttingLaws.{cutting-one}
@@ -20,24 +23,28 @@ use Rattle.search.specs.Want.{Class}
 use Rattle.layout.specs.Format.{fits}
 use Rattle.layout.specs.Layouts as kind
 use Rattle.layout.specs.Layouts.{formatOf, mostPins}
-use Rattle.layout.specs.Fields.{Fields, input, output, mixer, selector, feature, bytesOf, bodyOf, fieldsOf, LaidOut}
+use Rattle.layout.specs.Fields.{Fields, input, output, mixer, selector, feature, bytesOf, LaidOut}
 use Rattle.layout.specs.Fields as fields
 use Rattle.layout.specs.FieldsLaws.{none-some, read-back, laid-only, laid-whole}
 use Rattle.layout.specs.Withdrawn.{printed-unlaid, layout-or}
 use Rattle.edition.specs.Audio.{audio}
 use Rattle.interfaces.specs.InterfaceLaws.{nine}
-use Rattle.groups.specs.Rules5and6.{Opening, Header, listedOf, Rule5, Rule6}
+use Rattle.groups.specs.Rules5and6.{Header, listedOf, Rule5, Rule6}
 use Rattle.cutting.specs.Rules1to9.{Opened, headerPlace, Kept, Rule9, NoneWithdrawn, laidOut}
 use Rattle.cutting.specs.Context.{cut-told}
+use Rattle.cutting.specs.Exact.{kept-header, kept-run}
 use Rattle.entities.specs.Run.{mostEntities, runIn}
 use Rattle.entities.specs.Represents.{Represents}
 use Rattle.entities.specs.RepresentsLaws.{run-represents}
 use Rattle.clusters.specs.Rule13.{Connected}
 use Rattle.connections.specs.JudgementLaws.{connected-with, connected-kept}
-use Rattle.reader.specs.Configuration.{runOf, Configuration}
-use Rattle.fields.specs.Listed.{Listed, wrong, laid, printed, writtenAs, foundAs, foundIn}
-use Rattle.writing.specs.Writing.{mostNumbers, descriptorsOf, headerOf, wholeOf, writtenOf, WrongIn, entityRows, roomRows, writerRows, writerVerdict}
-use Rattle.described.specs.OurBox.{EntitiesKeep, Within, listRead, collectionRead, bytesOfBoth, ReadBack, WrittenAgain}
+use Rattle.reader.specs.Configuration.{runOf, placeOfRun, Configuration}
+use Rattle.fields.specs.declared.Item.{Item}
+use Rattle.fields.specs.Listed.{Listed, wrong, laid, printed, writtenAs, listedWith, blankItem, movedBy, foundAs, foundIn, ReadAs}
+use Rattle.fields.specs.ListedLaws.{read-some, moved-same}
+use Rattle.writing.specs.declared.Wrote.{Wrote}
+use Rattle.writing.specs.Writing.{mostNumbers, descriptorsOf, headerOf, wholeOf, writtenOf, WrongIn, entityRows, roomRows, writerRows, writerVerdict, Writes}
+use Rattle.described.specs.OurBox.{EntitiesKeep, Framed, Within, listRead, collectionRead, bytesOfBoth, ReadBack, WrittenAgain, Had}
 use Rattle.described.proofs.Refused.{all-descriptors, empty-unlaid, empty-unprinted, verdict-answers}
 
 -- ---- what has a layout was in range
@@ -86,14 +93,14 @@ found-all (l ∷ ls) n w =
     let more = found-all ls (λ d m. n d (List·Memᴰ·tail m)) (λ d m. w d (List·Memᴰ·tail m)) in
     rw (one, more) refl
 
-class-one : (l : Listed) → (WrongIn (writtenAs l) → ⊥) → Class (writtenAs l)
-class-one wrong n = absurd (n (inl (empty-unlaid, empty-unprinted)))
-class-one (laid f) n = refl
-class-one (printed i s k) n = refl
+class-one : (l : Listed) → Descriptor (writtenAs l) → Class (writtenAs l)
+class-one wrong c = let n = c .long in absurd (omega arith)
+class-one (laid f) c = refl
+class-one (printed i s k) c = refl
 
-class-all : (ls : List Listed) → ((d : List ℕ) → d ∈ descriptorsOf ls → WrongIn d → ⊥) → (d : List ℕ) → d ∈ descriptorsOf ls → Class d
-class-all [] n d m = absurd (List·Memᴰ·not-nil m)
-class-all (l ∷ ls) n d m = ⊎-elim (λ e. rw e (class-one l (n (writtenAs l) (List·Memᴰ·head refl)))) (λ k. class-all ls (λ x j. n x (List·Memᴰ·tail j)) d k) (List·Memᴰ·cases-cons m)
+pub class-all : (ls : List Listed) → ((d : List ℕ) → d ∈ descriptorsOf ls → Descriptor d) → (d : List ℕ) → d ∈ descriptorsOf ls → Class d
+class-all [] c d m = absurd (List·Memᴰ·not-nil m)
+class-all (l ∷ ls) c d m = ⊎-elim (λ e. rw e (class-one l (c (writtenAs l) (List·Memᴰ·head refl)))) (λ k. class-all ls (λ x j. c x (List·Memᴰ·tail j)) d k) (List·Memᴰ·cases-cons m)
 
 -- ---- what stands behind the AudioControl interface
 
@@ -118,26 +125,20 @@ module _ {s : List ℕ} (o : Opened s) where
 represents : (ds : List (List ℕ)) → ((d : List ℕ) → d ∈ ds → Descriptor d) → Rule9 audio ds → length ds ≤ mostEntities → Represents audio (flatten ds) 0 ds (runIn audio 0 ds)
 represents ds cut l few = run-represents audio (flatten ds) 0 ds [] (sym (append-nil (flatten ds))) cut l few
 
--- ---- written, then read
+-- ---- what is written, set within a frame, is header and run
 
-module _ (s : List ℕ) (ls : List Listed) (cs : List ℕ) (k : EntitiesKeep ls) (w : Within s ls cs) where
-  abbrev ds : List (List ℕ)
-  ds = descriptorsOf ls
+module _ (s : List ℕ) (ls : List Listed) (cs : List ℕ) (w : Framed s ls cs) (each : (d : List ℕ) → d ∈ descriptorsOf ls → Descriptor d) where
+  abbrev run-written : List (List ℕ)
+  run-written = descriptorsOf ls
 
   abbrev header : List ℕ
-  header = headerOf cs (length (flatten ds))
+  header = headerOf cs (length (flatten run-written))
 
   abbrev others : List (List ℕ)
-  others = ds ++ (w .later ++ w .after)
+  others = run-written ++ (w .later ++ w .after)
 
-  header-own : 8 + length cs ≡ length header
+  pub header-own : 8 + length cs ≡ length header
   header-own = omega arith
-
-  ds-each : (d : List ℕ) → d ∈ ds → Descriptor d
-  ds-each = all-descriptors ls (k .1 .0)
-
-  ds-laid : Rule9 audio ds
-  ds-laid = laidOut audio ds (λ d m. layout-or d (λ x. k .1 .0 d m (inl x))) (k .1 .1 .0)
 
   tail-bytes : flatten (w .opened .tail) ≡ writtenOf ls cs ++ w .behind
   tail-bytes =
@@ -149,44 +150,65 @@ module _ (s : List ℕ) (ls : List Listed) (cs : List ℕ) (k : EntitiesKeep ls)
   written-cut : Cutting (writtenOf ls cs ++ w .behind) (header ∷ others)
   unfolding flatten
   written-cut = record {
-    whole = ap (λ (x : List ℕ). header ++ x) (flatten-append ds (w .later ++ w .after) ∙ ap (λ (x : List ℕ). flatten ds ++ x) (w .cut .whole)) ∙ sym (append-assoc header (flatten ds) (w .behind));
-    each = λ d m. ⊎-elim (λ e. rw e (record { long = omega arith; own = header-own })) (λ j. ⊎-elim (ds-each d) (w .cut .each d) (List·Memᴰ·append-cases ds j)) (List·Memᴰ·cases-cons m);
+    whole = ap (λ (x : List ℕ). header ++ x) (flatten-append run-written (w .later ++ w .after) ∙ ap (λ (x : List ℕ). flatten run-written ++ x) (w .cut .whole)) ∙ sym (append-assoc header (flatten run-written) (w .behind));
+    each = λ d m. ⊎-elim (λ e. rw e (record { long = omega arith; own = header-own })) (λ j. ⊎-elim (each d) (w .cut .each d) (List·Memᴰ·append-cases run-written j)) (List·Memᴰ·cases-cons m);
   }
 
-  tail-is : w .opened .tail ≡ header ∷ others
+  pub tail-is : w .opened .tail ≡ header ∷ others
   tail-is =
       let c : Cutting (flatten (w .opened .tail)) (w .opened .tail) = record { whole = refl; each = tail-each (w .opened) } in
       cutting-one (writtenOf ls cs ++ w .behind) (w .opened .tail) (header ∷ others) (rw tail-bytes at c) written-cut
 
-  right5 : Rule5 (w .opened .tail)
+  unfoldable pub right5 : Rule5 (w .opened .tail)
   right5 = record { header = header; others = others; stands = tail-is; right = record { opening = refl; long = sym header-own } }
 
-  right6 : Rule6 header others
+  unfoldable pub right6 : Rule6 header others
   right6 = record {
-    run = ds;
+    run = run-written;
     later = w .later;
     after = w .after;
     split = refl;
-    class = class-all ls (k .1 .0);
+    class = class-all ls each;
     no-class = w .no-class;
     in-group = w .in-group;
     ends = w .ends;
-    length-told = let n = length-flatten ds in omega arith;
+    length-told = let n = length-flatten run-written in omega arith;
   }
+
+-- ---- written, then read
+
+module _ (s : List ℕ) (ls : List Listed) (cs : List ℕ) (k : EntitiesKeep ls) (w : Within s ls cs) where
+  abbrev ds : List (List ℕ)
+  ds = descriptorsOf ls
+
+  ds-each : (d : List ℕ) → d ∈ ds → Descriptor d
+  ds-each = all-descriptors ls (k .1 .0)
+
+  ds-laid : Rule9 audio ds
+  ds-laid = laidOut audio ds (λ d m. layout-or d (λ x. k .1 .0 d m (inl x))) (k .1 .1 .0)
 
   kept : Kept s
   unfolding right5 right6
-  kept = record { opened = w .opened; rule5 = right5; rule6 = right6; rule7 = w .rule7; rule8 = k .0; rule9 = ds-laid }
+  kept = record { opened = w .frame .opened; rule5 = right5 s ls cs (w .frame) ds-each; rule6 = right6 s ls cs (w .frame) ds-each; rule7 = w .frame .rule7; rule8 = k .0; rule9 = ds-laid }
 
   connected : Connected audio ds
   connected = connected-with (represents ds ds-each ds-laid (k .0 .1)) (k .1 .1 .1 .0) (k .1 .1 .1 .1 .0) (k .1 .1 .1 .1 .1 .0) (k .1 .1 .1 .1 .1 .1 .0)
+
+  -- the run and the header that keep the rules are one
+  run-one : (t : Configuration s) → runOf (t .kept) ≡ ds
+  unfolding kept right6
+  run-one t = kept-run s (t .kept) ∙ sym (kept-run s kept)
+
+  header-one : (t : Configuration s) → t .kept .rule5 .header ≡ headerOf cs (length (flatten ds))
+  unfolding kept right5
+  header-one t = kept-header s (t .kept) ∙ sym (kept-header s kept)
 
   pub read-back-same : ReadBack s ls cs
   unfolding kept right5 right6
   read-back-same = record {
     accepted = record { kept = kept; connected = connected; rule14 = w .rule14 (connected .cluster) (connected .given-out); rule15 = w .rule15 (connected .cluster) (connected .given-out) };
-    same-list = found-all ls (k .1 .0) (k .1 .1 .0);
-    same-collection = refl;
+    same-list = λ t. ap (map foundIn) (run-one t) ∙ found-all ls (k .1 .0) (k .1 .1 .0);
+    same-collection = λ t. ap listedOf (header-one t);
   }
 
 -- ---- read, then written
@@ -229,6 +251,42 @@ header-again (x0 ∷ x1 ∷ x2 ∷ x3 ∷ x4 ∷ x5 ∷ x6 ∷ x7 ∷ cs) n c r 
     let y6 : (8 + length cs + n) / 256 ≡ x6 = omega arith in
     let y7 : length cs ≡ x7 = omega arith in
     cc
+
+-- what is read of descriptors that stand one behind another from place q on, each moved to where it stands
+items : (q : ℕ) (ds : List (List ℕ)) → ((d : List ℕ) → d ∈ ds → Bytes d) → List Item
+items q [] b = []
+items q (d ∷ ds) b = movedBy q (read-some d (b d (List·Memᴰ·head refl)) .0) ∷ items (q + length d) ds (λ x m. b x (List·Memᴰ·tail m))
+
+items-long : (q : ℕ) (ds : List (List ℕ)) (b : (d : List ℕ) → d ∈ ds → Bytes d) → length (items q ds b) ≡ length ds
+unfolding items
+items-long q [] b = refl
+items-long q (d ∷ ds) b = ap suc (items-long (q + length d) ds (λ x m. b x (List·Memᴰ·tail m)))
+
+items-each : (q : ℕ) (ds : List (List ℕ)) (b : (d : List ℕ) → d ∈ ds → Bytes d) (i : ℕ) → i < length ds
+    → (r : Item) × ReadAs (getD ds i []) r × (getD (items q ds b) i blankItem ≡ movedBy (q + total (take i ds)) r)
+unfolding items total
+items-each q [] b i l = absurd (omega arith)
+items-each q (d ∷ ds) b zero l =
+    let x = read-some d (b d (List·Memᴰ·head refl)) in
+    let z : q ≡ q + 0 = omega arith in
+    (x .0, x .1, ap (λ (k : ℕ). movedBy k (x .0)) z)
+items-each q (d ∷ ds) b (suc i) l =
+    let x = items-each (q + length d) ds (λ y m. b y (List·Memᴰ·tail m)) i (le-of-suc-le-suc l) in
+    let z : q + length d + total (take i ds) ≡ q + (length d + total (take i ds)) = omega arith in
+    (x .0, x .1, x .2 ∙ ap (λ (k : ℕ). movedBy k (x .0)) z)
+
+items-found : (s front back : List ℕ) (q : ℕ) (ds : List (List ℕ)) (b : (d : List ℕ) → d ∈ ds → Bytes d) → s ≡ front ++ (flatten ds ++ back) → length front ≡ q
+    → map (listedWith s) (items q ds b) ≡ map foundIn ds
+unfolding items flatten
+items-found s front back q [] b e n = refl
+items-found s front back q (d ∷ ds) b e n =
+    let x = read-some d (b d (List·Memᴰ·head refl)) in
+    let f : s ≡ front ++ (d ++ (flatten ds ++ back)) = e ∙ ap (λ (y : List ℕ). front ++ y) (append-assoc d (flatten ds) back) in
+    let one : listedWith s (movedBy q (x .0)) ≡ foundIn d =
+    ap (λ (k : ℕ). listedWith s (movedBy k (x .0))) (sym n) ∙ ap (λ (y : List ℕ). listedWith y (movedBy (length front) (x .0))) f ∙ moved-same front d (flatten ds ++ back) (x .0) (x .1) in
+    let more : map (listedWith s) (items (q + length d) ds (λ y m. b y (List·Memᴰ·tail m))) ≡ map foundIn ds =
+    items-found s (front ++ d) back (q + length d) ds (λ y m. b y (List·Memᴰ·tail m)) (f ∙ sym (append-assoc front d (flatten ds ++ back))) (length-append front d ∙ ap (λ (k : ℕ). k + length d) n) in
+    rw (one, more) refl
 
 module _ (s : List ℕ) (t : Configuration s) (b : Bytes s) where
   abbrev k : Kept s
@@ -308,19 +366,68 @@ module _ (s : List ℕ) (t : Configuration s) (b : Bytes s) where
         ),
       )
 
+  -- what stands behind the run
+  back : List ℕ
+  back = flatten (k .rule6 .later ++ k .rule6 .after)
+
+  tail-stands : flatten (k .opened .tail) ≡ h ++ (flatten run ++ back)
+  unfolding flatten back
+  tail-stands = ap flatten tail-all ∙ ap (λ (x : List ℕ). h ++ x) (flatten-append run (k .rule6 .later ++ k .rule6 .after))
+
   stands : take (length (bytesOfBoth t)) (drop (headerPlace (k .opened)) s) ≡ bytesOfBoth t
-  unfolding flatten
   stands =
-      let rest = flatten (k .rule6 .later ++ k .rule6 .after) in
-      let tail : flatten (k .opened .tail) ≡ bytesOfBoth t ++ rest =
-      ap flatten tail-all ∙ ap (λ (x : List ℕ). h ++ x) (flatten-append run (k .rule6 .later ++ k .rule6 .after)) ∙ sym (append-assoc h (flatten run) rest) in
       ap (λ (x : List ℕ). take (length (bytesOfBoth t)) (drop (headerPlace (k .opened)) x)) (bytes-split (k .opened))
-      ∙ ap (take (length (bytesOfBoth t))) (drop-at (flatten (front (k .opened))) (flatten (k .opened .tail)) (headerPlace (k .opened)) (front-long (k .opened)) ∙ tail)
-      ∙ take-at (bytesOfBoth t) rest (length (bytesOfBoth t)) refl
+      ∙ ap (take (length (bytesOfBoth t)))
+      (drop-at (flatten (front (k .opened))) (flatten (k .opened .tail)) (headerPlace (k .opened)) (front-long (k .opened)) ∙ tail-stands ∙ sym (append-assoc h (flatten run) back))
+      ∙ take-at (bytesOfBoth t) back (length (bytesOfBoth t)) refl
 
   pub written-same : WrittenAgain s t
   written-same = record {
     stands = stands;
     same = same;
     accepted = λ m r. all-none (writerRows (listRead t) (collectionRead t) m) (writerVerdict (listRead t) (collectionRead t) m) (verdict-answers (listRead t) (collectionRead t) m) (rw run-again (kept-rows m r));
+  }
+
+  -- ---- out of the configuration itself
+
+  run-small : (d : List ℕ) → d ∈ run → Bytes d
+  run-small d m = tail-small d (in-tail d m)
+
+  abbrev all : List Item
+  all = items (placeOfRun k) run run-small
+
+  padded : pad blankItem (length run) (pad blankItem mostEntities all) ≡ all
+  padded =
+      let n = items-long (placeOfRun k) run run-small in
+      let few = k .rule8 .1 in
+      let m = pad-length blankItem mostEntities all in
+      sym (pad-full blankItem (length run) (pad blankItem mostEntities all) (omega arith))
+      ∙ ap (λ (i : ℕ). take i (pad blankItem mostEntities all)) (sym n)
+      ∙ pad-front blankItem mostEntities all (omega arith)
+
+  list-found : map (listedWith s) (pad blankItem (length run) (pad blankItem mostEntities all)) ≡ listRead t
+  list-found =
+      ap (map (listedWith s)) padded
+      ∙ items-found s (flatten (front (k .opened)) ++ h) back (placeOfRun k) run run-small
+      (bytes-split (k .opened) ∙ ap (λ (x : List ℕ). flatten (front (k .opened)) ++ x) tail-stands ∙ sym (append-assoc (flatten (front (k .opened))) h (flatten run ++ back)))
+      (length-append (flatten (front (k .opened))) h ∙ ap (λ (n : ℕ). n + length h) (front-long (k .opened)))
+
+  written-had : (ls : List Listed) → ls ≡ listRead t → (before after : List ℕ) (r : Wrote) → length (bytesOfBoth t) ≤ length before → Writes ls (collectionRead t) before after r
+      → (r .number ≡ 0) × (after ≡ bytesOfBoth t ++ drop (length (bytesOfBoth t)) before)
+  written-had ls e before after r m w =
+      let v : writerVerdict ls (collectionRead t) (length before) ≡ refuse.none = ap (λ (x : List Listed). writerVerdict x (collectionRead t) (length before)) e ∙ written-same .accepted (length before) m in
+      let n : writerVerdict ls (collectionRead t) (length before) .number ≡ 0 = ap (λ (x : Refusal). x .number) v in
+      let y : writtenOf ls (collectionRead t) ≡ bytesOfBoth t = ap (λ (x : List Listed). writtenOf x (collectionRead t)) e ∙ same in
+      (ap (λ (x : Refusal). x .number) (w .refused) ∙ n, w .lent ∙ yes _ _ (eq-eqb _ 0 n) ∙ ap (λ (x : List ℕ). x ++ drop (length x) before) y)
+
+  pub had-all : Had s t
+  had-all = record {
+    list = record { count = length run; items = pad blankItem mostEntities all };
+    places = pad-length blankItem mostEntities all;
+    each = λ i l.
+        let x = items-each (placeOfRun k) run run-small i l in
+        let few = k .rule8 .1 in
+        (x .0, x .1, pad-at blankItem mostEntities all i (omega arith) ∙ x .2);
+    found = list-found;
+    written = written-had _ list-found;
   }

@@ -1,4 +1,4 @@
--- A caller that asks for the first line, and then for the first above the one that it was told, is told all lines, each once.
+-- A caller that asks for the first line, and then for the first above the one that it was told, is told all lines, each once, and then that there is none.
 --   every-call  ==  THE LAW, for any bytes
 use Prim.Native.Nat.{ℕ, zero, suc, _+_, _≤_, _<_}
 use mathlib.Core.Path.{_≡_, refl, sym, ap, _∙_}
@@ -14,7 +14,7 @@ use Rattle.graph.specs.Members.{_∈_}
 use Rattle.ground.specs.Rising.{Rising, none as nothing, more}
 use Rattle.differences.specs.InTurn.{inTurn, of-turn, AtMostOne, turn-few, turn-rising}
 use Rattle.differences.specs.Lines.{Line, lineId, lastId, lineAt, linesOf, firstAbove}
-use Rattle.differences.specs.LinesLaws.{line-own, line-few, passed}
+use Rattle.differences.specs.LinesLaws.{line-own, line-few, passed, none-above}
 use Rattle.differences.specs.Exact.{toldThen, called, EveryCall}
 
 module _ (l r : List ℕ) where
@@ -36,6 +36,10 @@ module _ (l r : List ℕ) where
           (λ n. ⊎-elim (λ (z : y ≡ x). let q : lineId y ≡ lineId x = ap lineId z in omega arith) (λ t. absurd (List·Memᴰ·not-nil t)) (List·Memᴰ·cases-cons n))
           (List·Memᴰ·append-cases before m)
 
+  few : length (linesOf l r) ≤ lastId
+  unfolding linesOf
+  few = turn-few (lineAt l r) (line-few l r) 1 lastId
+
   pub every-call : EveryCall l r
   unfolding linesOf
   every-call = record {
@@ -43,5 +47,7 @@ module _ (l r : List ℕ) where
         from lastId 0 [] (linesOf l r) refl (λ x m. absurd (List·Memᴰ·not-nil m))
         (λ x m. let j = of-turn (lineAt l r) 1 lastId m in let p = j .1 in let e = line-own l r (j .0) x (j .3) in omega arith)
         (turn-rising lineId (lineAt l r) (line-few l r) (line-own l r) 1 lastId)
-        (turn-few (lineAt l r) (line-few l r) 1 lastId);
+        few;
+    ends = λ a. none-above a (linesOf l r);
+    few = few;
   }

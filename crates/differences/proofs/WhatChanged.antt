@@ -14,6 +14,7 @@ use Rattle.legal.specs.Sheet.{sheetNumber}
 use Rattle.legal.specs.Sheet.JudgedBy.{sheet}
 use Rattle.legal.specs.SheetLaws.{sheet-judged, judged-one, sheet-given}
 use Rattle.differences.specs.Lines.{Line, lineId, recordBearing, linesOf, firstAbove, differenceOf, lineTold, pairNumber}
+use Rattle.differences.specs.LinesLaws.{told-id, above-id}
 use Rattle.differences.specs.Masks.{numbers-back}
 use Rattle.differences.specs.WhatChanged.{JudgedPair, Sheets, WhatChanged}
 use Rattle.differences.specs.WhatChanged.JudgedPair.{by-left, by-right}
@@ -59,8 +60,9 @@ what-changed = record {
   one-number = pair-one;
   told-whole = λ l r a. whole l r a (linesOf l r) (λ x m. line-of l r m);
   every-call = every-call;
+  asked-next = λ l r a x e. (told-id x, above-id a (linesOf l r) x e);
   exact = λ l r s. lines-exact l r (s .left) (s .right) (s .left-bytes) (s .right-bytes);
   no-line = λ l r s. no-line l r (s .left) (s .right) (s .left-bytes) (s .right-bytes);
   rebuilt = λ l r s. rebuilt-right l r (s .left) (s .right) (s .left-bytes) (s .right-bytes);
-  own-record = λ l r s. own-record r (s .right);
+  own-record = own-record;
 }

@@ -8,12 +8,14 @@
 --   NoLine l r        ==  there is no line exactly where l and r have the same set of records in that way
 --   toldThen x next   ==  the line x and what next tells from its ID on; nothing where there is no line
 --   called l r k a    ==  what k calls tell: the first asks for the first line above a, each other for the first above the line before it
---   EveryCall l r     ==  calls from 0 on tell all lines, one after another, and then that there is none
-use Prim.Native.Nat.{ℕ, zero, suc, _<_}
+--   EveryCall l r     ==  calls from 0 on tell all lines, one after another (all); a call tells that there is none exactly where no line is above the
+--                         number asked for, so behind the last line and not before (ends); there are at most 255 lines, so that 256 calls tell that too (few)
+use Prim.Native.Nat.{ℕ, zero, suc, _≤_, _<_}
 use mathlib.Core.Path.{_≡_}
 use mathlib.Core.Option.{Option, none, some}
 use mathlib.Core.Logic.{_↔_}
 use mathlib.Core.List.{List, [], _∷_, map}
+use lib.ListN.{length}
 use Rattle.ground.specs.Numbers.{byte}
 use Rattle.ground.specs.Lists.{Some}
 use Rattle.ground.specs.Rising.{Rising}
@@ -63,3 +65,5 @@ called l r (suc k) a = toldThen (firstAbove a (linesOf l r)) (called l r k)
 
 pub record EveryCall (l r : List ℕ) : Type 0 where
   pub all : called l r (suc lastId) 0 ≡ linesOf l r
+  pub ends : (a : ℕ) → (firstAbove a (linesOf l r) ≡ none) ↔ ((x : Line) → x ∈ linesOf l r → lineId x ≤ a)
+  pub few : length (linesOf l r) ≤ lastId

@@ -2,15 +2,17 @@
 --   record-first, record-none  ==  the record of an ID, where it stands first; none, where it stands nowhere
 --   line-own, line-few  ==  a line of an ID bears it, and an ID has at most one
 --   passed          ==  lines whose IDs are not above a number are passed over
---   told-above       ==  an answer that tells an ID tells one above the number asked for
+--   told-id         ==  what an answer tells as the ID of a line is that line's
+--   above-id, told-above  ==  the line told has an ID above the number asked for, and an answer that tells an ID tells one above it
+--   none-above      ==  none is told exactly where no line's ID is above it
 --   lines-none, lines-some  ==  the first line above a number: there is none where no ID above it has one; the line of an ID where no ID
 --                           between them has one
 use Prim.Native.Nat.{ℕ, zero, suc, _+_, _≤_, _<_}
-use mathlib.Core.Path.{_≡_, refl, sym, ap, _∙_}
+use mathlib.Core.Path.{_≡_, refl, sym, ap, _∙_, subst}
 use mathlib.Core.Bool.{Bool, true, false}
 use mathlib.Core.Option.{Option, none, some}
-use mathlib.Core.Logic.{⊎-elim}
-use mathlib.Core.List.{List, [], _∷_, _++_, List·Memᴰ·head, List·Memᴰ·tail, List·Memᴰ·not-nil, List·Memᴰ·cases-cons}
+use mathlib.Core.Logic.{_⊎_, inl, inr, ⊎-elim, _↔_}
+use mathlib.Core.List.{List, [], _∷_, _++_, append-nil, List·Memᴰ·head, List·Memᴰ·tail, List·Memᴰ·not-nil, List·Memᴰ·cases-cons}
 use lib.Dec.{ltb}
 use native.Mathlib.Omega.{arith}
 use native.Mathlib.Nat.{eq-or-lt-of-le}
@@ -19,6 +21,7 @@ use Rattle.ground.specs.Pick.{pick, yes, no, Reads, decided, reads-lt}
 use Rattle.ground.specs.Places.{firstIn, first-some, first-none}
 use Rattle.graph.specs.Members.{_∈_}
 use Rattle.graph.specs.Borne.{bears}
+use Rattle.layout.specs.FieldsLaws.{none-some, some-one}
 use Rattle.legal.specs.Sheet.{countIn, recordAt, idAt}
 use Rattle.differences.specs.InTurn.{inTurn, AtMostOne}
 use Rattle.differences.specs.InTurn.AtMostOne.{nothing, one}
@@ -68,26 +71,45 @@ module _ (l r : List ℕ) (i : ℕ) where
       go none (some b) = one
       go (some a) (some b) = both (differing a b)
 
+pub told-id : (x : Line) → idTold (differenceOf (some x)) ≡ lineId x
+told-id (leftOnly i) = refl
+told-id (rightOnly i) = refl
+told-id (changed i ns) = refl
+
 module _ (a : ℕ) where
   pub passed : (ls rest : List Line) → ((x : Line) → x ∈ ls → lineId x ≤ a) → firstAbove a (ls ++ rest) ≡ firstAbove a rest
   unfolding firstAbove
   passed [] rest h = refl
   passed (x ∷ ls) rest h = no _ _ (le-ltb a (lineId x) (h x (List·Memᴰ·head refl))) ∙ passed ls rest (λ y m. h y (List·Memᴰ·tail m))
 
-  pub told-above : (ls : List Line) → (idTold (differenceOf (firstAbove a ls)) ≡ 0 → ⊥) → a < idTold (differenceOf (firstAbove a ls))
+  pub above-id : (ls : List Line) (x : Line) → firstAbove a ls ≡ some x → a < lineId x
   unfolding firstAbove
-  told-above [] n = absurd (n refl)
-  told-above (x ∷ ls) n = go (ltb a (lineId x)) (reads-lt a (lineId x)) (told-above ls) n
+  above-id [] x e = absurd (none-some e)
+  above-id (y ∷ ls) x e = go (ltb a (lineId y)) (reads-lt a (lineId y)) (above-id ls x) e
     where
-      of-line : (x : Line) → idTold (differenceOf (some x)) ≡ lineId x
-      of-line (leftOnly i) = refl
-      of-line (rightOnly i) = refl
-      of-line (changed i ns) = refl
+      go : (b : Bool) → Reads b (a < lineId y) → (firstAbove a ls ≡ some x → a < lineId x) → pick b (some y) (firstAbove a ls) ≡ some x → a < lineId x
+      go true r ih q = subst (λ (z : Line). a < lineId z) (some-one q) (r .says refl)
+      go false r ih q = ih q
 
-      go : (b : Bool) → Reads b (a < lineId x) → ((idTold (differenceOf (firstAbove a ls)) ≡ 0 → ⊥) → a < idTold (differenceOf (firstAbove a ls)))
-          → (idTold (differenceOf (pick b (some x) (firstAbove a ls))) ≡ 0 → ⊥) → a < idTold (differenceOf (pick b (some x) (firstAbove a ls)))
-      go true r ih n = rw (of-line x) (r .says refl)
-      go false r ih n = ih n
+  pub none-above : (ls : List Line) → (firstAbove a ls ≡ none) ↔ ((x : Line) → x ∈ ls → lineId x ≤ a)
+  unfolding firstAbove
+  none-above ls = (to ls, λ h. ap (firstAbove a) (sym (append-nil ls)) ∙ passed ls [] h)
+    where
+      to : (ks : List Line) → firstAbove a ks ≡ none → (x : Line) → x ∈ ks → lineId x ≤ a
+      to [] e x m = absurd (List·Memᴰ·not-nil m)
+      to (y ∷ ks) e x m = go (ltb a (lineId y)) (reads-lt a (lineId y)) (to ks) e (List·Memᴰ·cases-cons m)
+        where
+          go : (b : Bool) → Reads b (a < lineId y) → (firstAbove a ks ≡ none → (z : Line) → z ∈ ks → lineId z ≤ a) → pick b (some y) (firstAbove a ks) ≡ none → (x ≡ y) ⊎ x ∈ ks → lineId x ≤ a
+          go true r ih q k = absurd (none-some (sym q))
+          go false r ih q (inl z) = let n = r .denies refl in let i : lineId x ≡ lineId y = ap lineId z in omega arith
+          go false r ih q (inr k) = ih q x k
+
+  pub told-above : (ls : List Line) → (idTold (differenceOf (firstAbove a ls)) ≡ 0 → ⊥) → a < idTold (differenceOf (firstAbove a ls))
+  told-above ls n = go (firstAbove a ls) (above-id ls) n
+    where
+      go : (o : Option Line) → ((x : Line) → o ≡ some x → a < lineId x) → (idTold (differenceOf o) ≡ 0 → ⊥) → a < idTold (differenceOf o)
+      go none h n = absurd (n refl)
+      go (some x) h n = rw (told-id x) (h x refl)
 
   module _ (t : ℕ → List Line) (own : (i : ℕ) (x : Line) → x ∈ t i → lineId x ≡ i) where
     -- what an ID that is not above the number has is passed over

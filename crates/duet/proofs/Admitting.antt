@@ -1,9 +1,9 @@
 -- A microphone on a side that is free: each way out of the code. The draft z has 1,024 bytes, as many of them are lent as the
 -- sheet d has, and y is what it holds then.
 --   away       ==  the reader's refusals and 62
---   let-in     ==  an acceptance
+--   settled    ==  an acceptance
 --   draft-holds, sheet-holds  ==  the records fit in the draft and in the sheet
-use Prim.Native.Nat.{ℕ, _+_, _*_, _-_, _≤_, _<_, min}
+use Prim.Native.Nat.{ℕ, _+_, _*_, _≤_, min}
 use mathlib.Core.Path.{_≡_, refl, sym, ap, _∙_}
 use mathlib.Core.Bool.{Bool, true, false}
 use mathlib.Core.List.{List, _++_}
@@ -12,7 +12,8 @@ use lib.Dec.{eqb, leb}
 use lib.ListN.{length, take, drop}
 use lib.Seq.{length-take-le}
 use Rattle.ground.specs.declared.Refusal.{Refusal}
-use Rattle.ground.specs.Pick.{pick, Reads, reads-eq}
+use borrow.Author.Tests.{eq-eqb, ne-eqb}
+use Rattle.ground.specs.Pick.{pick, yes, no, Reads, reads-eq}
 use Rattle.ground.specs.Refuse.{none}
 use Rattle.records.specs.Records.{recordSize}
 use Rattle.topology.specs.declared.Reading.{Reading}
@@ -24,9 +25,8 @@ use Rattle.sides.specs.declared.Side.{Side}
 use Rattle.sides.specs.Sides.{mostTogether, admissionBy}
 use Rattle.duet.specs.declared.Duet.{Duet}
 use Rattle.duet.specs.declared.Admitted.{Admitted}
-use Rattle.duet.specs.Box.{withSocket}
 use Rattle.duet.specs.Plugging.{Plugging, admittedBy, turnedAway, welcomed, Settled, plugAnswer, sheetAfter, AdmittedIn}
-use Rattle.duet.specs.Plugging.Plugging.{refused, taken}
+use Rattle.duet.specs.Plugging.Plugging.{refused, let-in}
 use Rattle.duet.specs.PluggingLaws.{turned}
 use Rattle.records.specs.Sheet.{wholeSheet}
 use Rattle.duet.specs.Drafts.{Drafted}
@@ -34,19 +34,21 @@ use Rattle.duet.proofs.Drafted.{draft-reading, records-inside, records-
 
 -- what is judged of the numbers is what the reading comes to
 record Judged (r : Reading) (o : Plugging) (x : Refusal) : Type 0 where
-  accepts : x .number ≡ 0 → (r .number ≡ 0) × (o ≡ taken r)
+  accepts : x .number ≡ 0 → (r .number ≡ 0) × (o ≡ let-in r)
   refuses : (x .number ≡ 0 → ⊥) → o ≡ refused (x .number) (x .place)
 
-judged : (met : ℕ) (r : Reading) → Judged r (admittedBy met r) (admissionBy (r .number) (r .place) (r .controls) met)
-unfolding admissionBy admittedBy
-judged met r = go (eqb (r .number) 0) (reads-eq (r .number) 0) (leb (met + r .controls) mostTogether)
+accepted-by : (x p c n : ℕ) → admissionBy x p c n .number ≡ 0 → x ≡ 0
+unfolding admissionBy
+accepted-by x p c n = go (eqb x 0) (reads-eq x 0) (leb (n + c) mostTogether)
   where
-    go : (a : Bool) → Reads a (r .number ≡ 0) → (b : Bool)
-        → Judged r (pick a (pick b (taken r) (refused 62 0)) (refused (r .number) (r .place)))
-        (pick a (pick b none (record { number = 62; place = 0 })) (record { number = r .number; place = r .place }))
-    go true h true = record { accepts = λ e. (h .says refl, refl); refuses = λ n. absurd (n refl) }
-    go true h false = record { accepts = λ e. absurd (omega arith); refuses = λ n. refl }
-    go false h b = record { accepts = λ e. absurd (h .denies refl e); refuses = λ n. refl }
+    go : (a : Bool) → Reads a (x ≡ 0) → (b : Bool)
+        → pick a (pick b none (record { number = 62; place = 0 })) (record { number = x; place = p }) .number ≡ 0 → x ≡ 0
+    go true h b e = h .says refl
+    go false h b e = e
+
+judged : (met : ℕ) (r : Reading) → Judged r (admittedBy met r) (admissionBy (r .number) (r .place) (r .controls) met)
+unfolding admittedBy
+judged met r = record { accepts = λ e. (accepted-by (r .number) (r .place) (r .controls) met e, yes _ _ (eq-eqb _ _ e)); refuses = λ n. no _ _ (ne-eqb _ _ n) }
 
 module _ (b : Duet) (k : Side) (met : ℕ) (s z d : List ℕ) (long : length z ≡ wholeSheet) (q : Plugged) (y : List ℕ)
     (p : Drafted s (min (length d) wholeSheet) z q y) (x : Refusal) (f : x ≡ admissionBy (q .reading .number) (q .reading .place) (q .reading .controls) met) where
@@ -84,10 +86,10 @@ module _ (b : Duet) (k : Side) (met : ℕ) (s z d : List ℕ) (long : length z �
     pub draft-holds : q .reading .entities * recordSize ≤ length y
     draft-holds = rw (entities, p .draft) (records-held s (take m z) (drop m z) accepted)
 
-    pub let-in : (a : List ℕ) (r : Admitted) → Settled b k q y d r a → AdmittedIn b k (admittedBy met R) s d r a
-    let-in a r h = record { result = h .result ∙ shown ∙ sym (ap (plugAnswer b k) (told .accepts e .1)); sheet = h .sheet ∙ copied ∙ sym (ap (sheetAfter s d) (told .accepts e .1)) }
+    pub settled : (a : List ℕ) (r : Admitted) → Settled b k q y d r a → AdmittedIn b k (admittedBy met R) s d r a
+    settled a r h = record { result = h .result ∙ shown ∙ sym (ap (plugAnswer b k) (told .accepts e .1)); sheet = h .sheet ∙ copied ∙ sym (ap (sheetAfter s d) (told .accepts e .1)) }
       where
-        shown : welcomed b k q ≡ plugAnswer b k (taken R)
+        shown : welcomed b k q ≡ plugAnswer b k (let-in R)
         shown =
             ap (λ (t : Reading). welcomed b k (record { reading = t; state = q .state })) reads
             ∙ ap (λ (t : State). welcomed b k (record { reading = R; state = t })) (p .state ∙ ap stateOf same)

@@ -4,30 +4,23 @@
 --   records-held    ==  .. and in the draft
 --   records-copied  ==  they stand in the draft's front, and copied to the sheet's they are what the reader would have written
 use Prim.Native.Nat.{ℕ, _+_, _*_, _≤_, _<_, min}
-use mathlib.Core.Path.{_≡_, refl, sym, ap, _∙_}
-use mathlib.Core.Bool.{Bool, true}
-use mathlib.Core.List.{List, [], _∷_, _++_, append-assoc}
+use mathlib.Core.Path.{_≡_, sym, ap, _∙_}
+use mathlib.Core.List.{List, _++_, append-assoc}
 use mathlib.Core.Logic.{⊎-elim}
 use native.Mathlib.Omega.{arith}
-use lib.Dec.{eqb, ltb}
+use lib.Dec.{ltb}
 use lib.ListN.{length, take, drop, length-append}
 use lib.Seq.{take-at}
-use borrow.Author.Tests.{le-leb}
-use Rattle.ground.specs.declared.Refusal.{Refusal}
-use Rattle.ground.specs.Refuse.{none, refuse, keptAt}
-use Rattle.ground.specs.Pick.{pick, decided, reads-lt}
-use Rattle.layout.specs.declared.Cluster.{Cluster}
-use Rattle.entities.specs.Run.{held}
-use Rattle.cutting.specs.Survey.{surveyOf}
-use Rattle.records.specs.Records.{recordSize, recordIn, roomFor}
-use Rattle.records.specs.Sheet.{recordsFor, recordsOf, record-long}
-use Rattle.edition.specs.Edition.{ownId}
-use Rattle.edition.specs.Audio.{audio}
+use Rattle.ground.specs.Pick.{decided, reads-lt}
+use Rattle.records.specs.Records.{recordSize, records-length}
+use Rattle.records.specs.Sheet.{recordsOf, records-same}
 use Rattle.topology.specs.declared.Reading.{Reading}
-use Rattle.topology.specs.Reading.{readingOf, sheetOf}
+use Rattle.topology.specs.Reading.{clustersAt, readingOf, sheetOf}
 use Rattle.topology.specs.Verdict.{reading-whole}
 use Rattle.reader.specs.Refusals.{Shown}
-use Rattle.reader.proofs.Exactly.{accepted-exactly}
+use Rattle.reader.specs.Configuration.{Configuration}
+use Rattle.reader.proofs.Surveyed.{keptSurvey, represented}
+use Rattle.reader.proofs.Exactly.{accepted-exactly, clusters-on}
 use Rattle.reader.proofs.Shows.{number-told, answer-shows, sheet-shows, run, cluster}
 use Rattle.records.specs.Sheet.{wholeSheet}
 
@@ -42,14 +35,12 @@ module _ (s : List ℕ) where
   shown : (room : ℕ) → readingOf s room .number ≡ 0 → Shown s room
   shown room e = accepted-exactly s room .0 (sym (number-told s room) ∙ e)
 
-  records-long : (ds : List (List ℕ)) (c : ℕ → Cluster) → length (recordsOf ds c) ≡ length ds * recordSize
-  unfolding recordsFor
-  records-long [] c = omega arith
-  records-long (d ∷ ds) c =
-      let a = record-long audio d (c (ownId d)) in
-      let b = records-long ds c in
-      let e = length-append (recordIn d (c (ownId d))) (recordsOf ds c) in
-      omega arith
+  records-long : (t : Configuration s) → length (recordsOf (run s t) (cluster s t)) ≡ length (run s t) * recordSize
+  records-long t =
+      let r = represented s (t .kept) in
+      ap length (sym (records-same r (clustersAt s (keptSurvey (t .kept))) (cluster s t) (clusters-on s (t .kept) (t .connected))))
+      ∙ records-length _ _ _ _
+      ∙ ap (λ (n : ℕ). n * recordSize) (r .counted)
 
   pub records-inside : (room : ℕ) → readingOf s room .number ≡ 0 → readingOf s room .entities * recordSize ≤ room
   records-inside room e =
@@ -66,7 +57,7 @@ module _ (s : List ℕ) where
       let x = drop (length (run s (t .0)) * recordSize) z in
       let a : length (sheetOf s z ++ w) ≡ length (sheetOf s z) + length w = length-append (sheetOf s z) w in
       let b : length (sheetOf s z) ≡ length g + length x = ap length (sheet-shows s (t .0) z (t .1)) ∙ length-append g x in
-      let c : length g ≡ length (run s (t .0)) * recordSize = records-long (run s (t .0)) (cluster s (t .0)) in
+      let c : length g ≡ length (run s (t .0)) * recordSize = records-long (t .0) in
       rw n (omega arith)
 
   -- z is the lent front of the draft, w what stands behind it, d the sheet
@@ -81,5 +72,5 @@ module _ (s : List ℕ) where
       ap (λ (m : ℕ). take (m * recordSize) (sheetOf s z ++ w) ++ drop (m * recordSize) d) n
       ∙ ap (λ (x : List ℕ). take k (x ++ w) ++ drop k d) (sheet-shows s (t .0) z h)
       ∙ ap (λ (x : List ℕ). take k x ++ drop k d) (append-assoc g (drop k z) w)
-      ∙ ap (λ (x : List ℕ). x ++ drop k d) (take-at g (drop k z ++ w) k (records-long (run s (t .0)) (cluster s (t .0))))
+      ∙ ap (λ (x : List ℕ). x ++ drop k d) (take-at g (drop k z ++ w) k (records-long (t .0)))
       ∙ sym (sheet-shows s (t .0) d (omega arith))

@@ -1,2 +1,3 @@
+mod AskingLaws
 mod Drafted
 mod Admitting

@@ -3,5 +3,4 @@ pub mod Plugging
 pub mod Asking
 pub mod Drafts
 pub mod BoxLaws
-pub mod AskingLaws
 pub mod PluggingLaws

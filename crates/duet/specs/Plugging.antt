@@ -1,8 +1,9 @@
 -- A microphone comes and goes: "plugging in gives 61 if the side is taken, then the reader's, then 62 if both sides' controls would pass 192";
 -- "unplugging .. 63 for an empty side"; "Unplugging a side gives its room back."
---   Plugging          ==  what a plug-in comes to: refused n p: refusal n, at place p where it is the reader's; taken r: the reading r, whose state
+--   Plugging          ==  what a plug-in comes to: refused n p: refusal n, at place p where it is the reader's; let-in r: the reading r, whose state
 --                         is the side's from then on
---   admittedBy n r    ==  the reader's refusals, then 62, of the reading r on such a side
+--   letInUnless x r   ==  the reading r is let in, unless it is refused by x
+--   admittedBy n r    ==  .. on a side that met n controls on the other: the reader's refusals, then 62 (admissionBy, crate sides)
 --   plugOf b k s room ==  the plug-in of the configuration s on the side k of the box b, with a sheet of room bytes lent
 --   turnedAway b n p  ==  the answer of a refusal at a plug-in: "interface number 0, zero counts"
 --   duetAfter b k o   ==  the box after it: a refusal leaves it as it stood
@@ -14,12 +15,13 @@
 --   PlugsIn b k s d r a  ==  .. where it is the plug-in of the configuration s with the sheet d lent
 --   refusal b n       ==  the answer of a refusal with no place
 --   unplugAnswer b k  ==  what an unplugging answers, the box after it among it
-use Prim.Native.Nat.{ℕ, _+_, _*_}
+use Prim.Native.Nat.{ℕ, _*_}
 use mathlib.Core.Path.{_≡_}
 use mathlib.Core.Bool.{true}
 use mathlib.Core.List.{List, _++_}
-use lib.Dec.{eqb, leb}
+use lib.Dec.{eqb}
 use lib.ListN.{length, take, drop}
+use Rattle.ground.specs.declared.Refusal.{Refusal}
 use Rattle.ground.specs.Pick.{pick}
 use Rattle.records.specs.Records.{recordSize}
 use Rattle.topology.specs.declared.Reading.{Reading}
@@ -27,7 +29,7 @@ use Rattle.topology.specs.Reading.{readingOf, sheetOf}
 use Rattle.request.specs.declared.Plugged.{Plugged}
 use Rattle.request.specs.Plugged.{stateOf}
 use Rattle.sides.specs.declared.Side.{Side}
-use Rattle.sides.specs.Sides.{mostTogether}
+use Rattle.sides.specs.Sides.{admissionBy}
 use Rattle.duet.specs.declared.Duet.{Duet}
 use Rattle.duet.specs.declared.Admitted.{Admitted}
 use Rattle.duet.specs.declared.Answer.{Answer}
@@ -35,13 +37,13 @@ use Rattle.duet.specs.Box.{otherSide, socketOf, withSocket, emptySocket,
 
 pub data Plugging : Type 0 where
   refused : ℕ → ℕ → Plugging
-  taken : Reading → Plugging
+  let-in : Reading → Plugging
+
+abbrev pub letInUnless : Refusal → Reading → Plugging
+letInUnless x r = pick (eqb (x .number) 0) (let-in r) (refused (x .number) (x .place))
 
 unfoldable pub admittedBy : ℕ → Reading → Plugging
-admittedBy n r =
-    pick (eqb (r .number) 0)
-    (pick (leb (n + r .controls) mostTogether) (taken r) (refused 62 0))
-    (refused (r .number) (r .place))
+admittedBy n r = letInUnless (admissionBy (r .number) (r .place) (r .controls) n) r
 
 unfoldable pub plugOf : Duet → Side → List ℕ → ℕ → Plugging
 plugOf b k s room =
@@ -51,20 +53,20 @@ plugOf b k s room =
 
 abbrev pub duetAfter : Duet → Side → Plugging → Duet
 duetAfter b k (refused n p) = b
-duetAfter b k (taken r) = withSocket b k (record { plugged = true; state = stateOf r })
+duetAfter b k (let-in r) = withSocket b k (record { plugged = true; state = stateOf r })
 
 abbrev pub turnedAway : Duet → ℕ → ℕ → Admitted
 turnedAway b n p = record { number = n; place = p; control = 0; entities = 0; controls = 0; duet = b }
 
 abbrev pub plugAnswer : Duet → Side → Plugging → Admitted
 plugAnswer b k (refused n p) = turnedAway b n p
-plugAnswer b k (taken r) = record {
+plugAnswer b k (let-in r) = record {
   number = 0;
   place = 0;
   control = r .control;
   entities = r .entities;
   controls = r .controls;
-  duet = duetAfter b k (taken r);
+  duet = duetAfter b k (let-in r);
 }
 
 abbrev pub welcomed : Duet → Side → Plugged → Admitted
@@ -79,7 +81,7 @@ welcomed b k q = record {
 
 abbrev pub sheetAfter : List ℕ → List ℕ → Plugging → List ℕ
 sheetAfter s d (refused n p) = d
-sheetAfter s d (taken r) = sheetOf s d
+sheetAfter s d (let-in r) = sheetOf s d
 
 pub record Settled (b : Duet) (k : Side) (q : Plugged) (y d : List ℕ) (r : Admitted) (a : List ℕ) : Type 0 where
   pub result : r ≡ welcomed b k q

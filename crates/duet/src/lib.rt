@@ -81,8 +81,7 @@ fn other(side: Side) -> Side
     }
 }
 
-// The socket of a side.
-pub fn socket_of(duet: Duet, side: Side) -> Socket
+fn socket_of(duet: Duet, side: Side) -> Socket
     ensures { λ r. ⌜ r ≡ socketOf duet side ⌝ }
 {
     match side {
@@ -204,7 +203,7 @@ fn answered(duet: Duet, side: Side, answer: request::Answer) -> Answer
 }
 
 // Gives MIN, MAX, RES and CUR to one ranged control of a side. The request layer's load makes refusal 30's test of that side's table, so that here
-// it is made of the other's alone.
+// it is made of the rest of the box: the other's table, and the count of both.
 pub fn load(
     duet: Duet,
     side: Side,

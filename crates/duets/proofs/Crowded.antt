@@ -4,7 +4,7 @@
 --   count-told  ==  two runs that agree on the left side's steps and give it other answers
 use Prim.Native.Nat.{ℕ, _+_, _≤_, _<_}
 use mathlib.Core.Path.{_≡_, refl, sym, ap, _∙_}
-use mathlib.Core.Bool.{true, false}
+use mathlib.Core.Bool.{true}
 use mathlib.Core.List.{List, [], _∷_, List·Memᴰ·eq-of-singleton, List·Memᴰ·cases-cons}
 use mathlib.Core.Logic.{⊎-elim}
 use Rattle.ground.specs.Numbers.{Bytes}
@@ -63,9 +63,10 @@ use Rattle.request.specs.Plugged.{stateOf}
 use Rattle.sides.specs.declared.Side.the-variants.{Left, Right}
 use Rattle.sides.specs.Sides.{mostTogether}
 use Rattle.duet.specs.declared.Duet.{Duet}
-use Rattle.duet.specs.Box.{emptySocket, emptyDuet, controlsOn, soundDuet}
-use Rattle.duet.specs.Plugging.{Plugging, admittedBy, plugOf, duetAfter}
-use Rattle.duet.specs.Plugging.Plugging.{refused, taken}
+use Rattle.duet.specs.Box.{emptySocket, emptyDuet, controlsOn}
+use Rattle.duet.specs.PluggingLaws.{plug-cases}
+use Rattle.duet.specs.Plugging.{Plugging, plugOf, duetAfter}
+use Rattle.duet.specs.Plugging.Plugging.{refused, let-in}
 use Rattle.duets.specs.Steps.{Step, Seen, seenPlug, boxNext, seenBy, stepsOf, sentBy}
 use Rattle.duets.specs.Steps.Step.{plug}
 use Rattle.duets.specs.Isolation.{CountTold}
@@ -79,19 +80,19 @@ crowds = record { accepted = refl; many = refl }
 abbrev R : Reading
 R = readingOf crowded (length crowdedSheet)
 
-first-left : plugOf emptyDuet Left crowded (length crowdedSheet) ≡ taken R
-unfolding plugOf admittedBy controlsOn
+first-left : plugOf emptyDuet Left crowded (length crowdedSheet) ≡ let-in R
+unfolding controlsOn
 first-left =
     let n = crowds .many in
     let l : 0 + R .controls ≤ mostTogether = omega arith in
-    yes _ _ fit-empty ∙ yes _ _ (eq-eqb _ _ (crowds .accepted)) ∙ yes _ _ (le-leb _ _ l)
+    plug-cases emptyDuet Left crowded (length crowdedSheet) ∙ yes _ _ fit-empty ∙ yes _ _ (eq-eqb _ _ (crowds .accepted)) ∙ yes _ _ (le-leb _ _ l)
 
-first-right : plugOf emptyDuet Right crowded (length crowdedSheet) ≡ taken R
-unfolding plugOf admittedBy controlsOn
+first-right : plugOf emptyDuet Right crowded (length crowdedSheet) ≡ let-in R
+unfolding controlsOn
 first-right =
     let n = crowds .many in
     let l : 0 + R .controls ≤ mostTogether = omega arith in
-    yes _ _ fit-empty ∙ yes _ _ (eq-eqb _ _ (crowds .accepted)) ∙ yes _ _ (le-leb _ _ l)
+    plug-cases emptyDuet Right crowded (length crowdedSheet) ∙ yes _ _ fit-empty ∙ yes _ _ (eq-eqb _ _ (crowds .accepted)) ∙ yes _ _ (le-leb _ _ l)
 
 abbrev rightIn : Duet
 rightIn = record { left = emptySocket; right = record { plugged = true; state = stateOf R } }
@@ -103,12 +104,12 @@ right-fit : Fit rightIn
 right-fit = rw after-right at (fit-next emptyDuet (plug Right crowded crowdedSheet) fit-empty (λ i. omega arith))
 
 second-left : plugOf rightIn Left crowded (length crowdedSheet) ≡ refused 62 0
-unfolding plugOf admittedBy controlsOn
+unfolding controlsOn
 second-left =
     let n = crowds .many in
     let m = controls-counted crowded (length crowdedSheet) in
     let l : mostTogether < R .table .count + R .controls = omega arith in
-    yes _ _ right-fit ∙ yes _ _ (eq-eqb _ _ (crowds .accepted)) ∙ no _ _ (lt-leb _ _ l)
+    plug-cases rightIn Left crowded (length crowdedSheet) ∙ yes _ _ right-fit ∙ yes _ _ (eq-eqb _ _ (crowds .accepted)) ∙ no _ _ (lt-leb _ _ l)
 
 abbrev leftOnly : List Step
 leftOnly = plug Left crowded crowdedSheet ∷ []
@@ -116,7 +117,7 @@ leftOnly = plug Left crowded crowdedSheet ∷ []
 abbrev both : List Step
 both = plug Right crowded crowdedSheet ∷ plug Left crowded crowdedSheet ∷ []
 
-seen-alone : seenBy Left emptyDuet leftOnly ≡ seenPlug crowded crowdedSheet (taken R) ∷ []
+seen-alone : seenBy Left emptyDuet leftOnly ≡ seenPlug crowded crowdedSheet (let-in R) ∷ []
 unfolding seenBy
 seen-alone = ap (λ (o : Plugging). seenPlug crowded crowdedSheet o ∷ []) first-left
 

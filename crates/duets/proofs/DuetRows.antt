@@ -2,10 +2,10 @@
 --   reads-box   ==  the test of the box decides 30's sentence
 --   duet-rows   ==  THE THEOREM
 use Prim.Native.Nat.{ℕ, _+_, _≤_, _<_}
-use mathlib.Core.Path.{_≡_, refl, sym, ap, _∙_}
+use mathlib.Core.Path.{_≡_, refl, sym, ap, _∙_, subst}
 use mathlib.Core.Bool.{Bool, true, false, _&&_}
 use mathlib.Core.List.{List, []}
-use mathlib.Core.Logic.{_⊎_, inl, inr}
+use mathlib.Core.Logic.{inl, inr}
 use native.Mathlib.Omega.{arith}
 use lib.Dec.{eqb, leb}
 use lib.ListN.{length}
@@ -25,8 +25,8 @@ use Rattle.request.specs.Outcome.{Outcome, numberOf, bytesOf}
 use Rattle.request.specs.Outcome.Outcome.{refused as refuses, got, done}
 use Rattle.request.specs.Load.{loadOf}
 use Rattle.request.specs.Request.{requestOf}
-use Rattle.runs.specs.RequestRows.{Row, given, passed, NoRow, loadRows, requestRows}
-use Rattle.runs.proofs.Rows.{request-rows, load-rows}
+use Rattle.runs.specs.RequestRows.{Row, given, passed, NoRow, requestRows}
+use Rattle.runs.proofs.Rows.{request-rows, load-rows, request-row-one, load-row-one}
 use Rattle.sides.specs.declared.Side.{Side}
 use Rattle.sides.specs.declared.Side.the-variants.{Left, Right}
 use Rattle.sides.specs.declared.Addressee.{Addressee}
@@ -36,12 +36,13 @@ use Rattle.duet.specs.declared.Socket.{Socket}
 use Rattle.duet.specs.declared.Duet.{Duet}
 use Rattle.duet.specs.Box.{otherSide, socketOf, withSocket, emptySocket, controlsOn, together, soundSocket, soundDuet}
 use Rattle.duet.specs.BoxLaws.{kept-socket}
-use Rattle.duet.specs.Plugging.{Plugging, admittedBy, plugOf, duetAfter, refusal, unplugAnswer}
-use Rattle.duet.specs.Plugging.Plugging.{refused, taken}
+use Rattle.duet.specs.PluggingLaws.{plug-cases}
+use Rattle.duet.specs.Plugging.{Plugging, plugOf, duetAfter, refusal, unplugAnswer}
+use Rattle.duet.specs.Plugging.Plugging.{refused, let-in}
 use Rattle.duet.specs.Asking.{handedTo, askedOn, requestIn, loadedOn, loadIn, boxAfter, answerIn, answerFor}
-use Rattle.duets.specs.Steps.{Step, seenPlug, seenIn, boxNext}
+use Rattle.duets.specs.Steps.{Step, presentedFor, seenPlug, seenIn, boxNext}
 use Rattle.duets.specs.Steps.Step.{plug, unplug, load, request}
-use Rattle.duets.specs.DuetRows.{SoundBox, presentedFor, plugRows, unplugRows, sideLoadRows, EmptyNamed, OnSide, sideRequestRows, numberIn, lentBy, DuetRows}
+use Rattle.duets.specs.DuetRows.{SoundBox, plugRows, unplugRows, sideLoadRows, EmptyNamed, OnSide, sideRequestRows, numberIn, PlugPlace, lentBy, DuetRows}
 
 reads-socket : (x : Socket) → Reads (soundSocket x) (x .plugged ≡ true → Sound (x .state .table))
 unfolding soundSocket
@@ -65,16 +66,16 @@ reads-box b =
     both l r Right = r
 
 plug-rows : (b : Duet) (k : Side) (s : List ℕ) (room : ℕ) → plugRows b k s room (numberIn (plugOf b k s room))
-unfolding plugOf admittedBy
 plug-rows b k s room =
-    go (soundDuet b) (reads-box b) (socketOf b k .plugged) refl (eqb (readingOf s room .number) 0) (reads-eq (readingOf s room .number) 0) (leb (met + readingOf s room .controls) mostTogether) (reads-le (met + readingOf s room .controls) mostTogether)
+    rw (plug-cases b k s room)
+    (go (soundDuet b) (reads-box b) (socketOf b k .plugged) refl (eqb (readingOf s room .number) 0) (reads-eq (readingOf s room .number) 0) (leb (met + readingOf s room .controls) mostTogether) (reads-le (met + readingOf s room .controls) mostTogether))
   where
     met : ℕ
     met = controlsOn (socketOf b (otherSide k))
 
     go : (x : Bool) → Reads x (SoundBox b) → (y : Bool) → socketOf b k .plugged ≡ y → (z : Bool) → Reads z (readingOf s room .number ≡ 0)
         → (v : Bool) → Reads v (controlsOn (socketOf b (otherSide k)) + readingOf s room .controls ≤ mostTogether)
-        → plugRows b k s room (numberIn (pick x (pick y (refused 61 0) (pick z (pick v (taken (readingOf s room)) (refused 62 0)) (refused (readingOf s room .number) (readingOf s room .place)))) (refused 30 0)))
+        → plugRows b k s room (numberIn (pick x (pick y (refused 61 0) (pick z (pick v (let-in (readingOf s room)) (refused 62 0)) (refused (readingOf s room .number) (readingOf s room .place)))) (refused 30 0)))
     go false f y e z g v h = given (f .denies refl) refl
     go true f true e z g v h = passed (λ n. n (f .says refl)) (given e refl)
     go true f false e false g v h = passed (λ n. n (f .says refl)) (passed (λ t. true≠false (sym t ∙ e)) (given (g .denies refl) refl))
@@ -161,10 +162,56 @@ side-request-rows b s d room = go (soundDuet b) (reads-box b)
     go false f = given (f .denies refl) refl
     go true f = passed (λ n. n (f .says refl)) (asked-rows b s d room (asking.asking s))
 
+-- the rows say one number
+row-one : {n : ℕ} {When : Type 0} {rest : ℕ → Type 0} → ((i j : ℕ) → rest i → rest j → i ≡ j) → (i j : ℕ) → Row n When rest i → Row n When rest j → i ≡ j
+row-one h i j (given w e) (given v f) = e ∙ sym f
+row-one h i j (given w e) (passed n r) = absurd (n w)
+row-one h i j (passed n r) (given w e) = absurd (n w)
+row-one h i j (passed n r) (passed m q) = h i j r q
+
+none-one : (i j : ℕ) → NoRow i → NoRow j → i ≡ j
+none-one i j e f = e ∙ sym f
+
+on-side-one : (b : Duet) (s d : List ℕ) (room i j : ℕ) → OnSide b s d room i → OnSide b s d room j → i ≡ j
+on-side-one b s d room i j x y =
+    request-row-one (socketOf b (x .side) .state) (ownSetup (socketOf b (x .side) .state .control) s) d room i j (x .rows)
+    (subst (λ (k : Side). requestRows (socketOf b k .state) (ownSetup (socketOf b k .state .control) s) d room j) (one-side (y .side) (x .side) (sym (y .named) ∙ x .named)) (y .rows))
+
+-- the reader's place, or none
+plug-places : (b : Duet) (k : Side) (s : List ℕ) (room n p : ℕ) → plugOf b k s room ≡ refused n p → PlugPlace s room n p
+plug-places b k s room n p e =
+    go (soundDuet b) (socketOf b k .plugged) (eqb (readingOf s room .number) 0) (leb (controlsOn (socketOf b (otherSide k)) + readingOf s room .controls) mostTogether)
+    (sym (plug-cases b k s room) ∙ e)
+  where
+    go : (x y z v : Bool)
+        → pick x (pick y (refused 61 0) (pick z (pick v (let-in (readingOf s room)) (refused 62 0)) (refused (readingOf s room .number) (readingOf s room .place)))) (refused 30 0) ≡ refused n p
+        → PlugPlace s room n p
+    go false y z v e = let i : 30 ≡ n = cc in let j : 0 ≡ p = cc in inl (inl (sym i), sym j)
+    go true true z v e = let i : 61 ≡ n = cc in let j : 0 ≡ p = cc in inl (inr (inl (sym i)), sym j)
+    go true false true true e = absurd (let i : _≡_ {A = ℕ} 0 1 = cc in omega arith)
+    go true false true false e = let i : 62 ≡ n = cc in let j : 0 ≡ p = cc in inl (inr (inr (sym i)), sym j)
+    go true false false v e = let i : readingOf s room .number ≡ n = cc in let j : readingOf s room .place ≡ p = cc in inr (sym i, sym j)
+
+-- what an unplugging leaves is the other side's
+emptied : (b : Duet) (k : Side) → together (withSocket b k emptySocket) ≡ controlsOn (socketOf b (otherSide k))
+unfolding controlsOn
+emptied b Left = omega arith
+emptied b Right = omega arith
+
+room-given-back : (b : Duet) (k : Side) → unplugAnswer b k .number ≡ 0 → together (unplugAnswer b k .duet) ≡ controlsOn (socketOf b (otherSide k))
+unfolding unplugAnswer
+room-given-back b k = go (soundDuet b) (socketOf b k .plugged)
+  where
+    go : (x y : Bool) → pick x (pick y (record { number = 0; written = 0; duet = withSocket b k emptySocket }) (refusal b 63)) (refusal b 30) .number ≡ 0
+        → together (pick x (pick y (record { number = 0; written = 0; duet = withSocket b k emptySocket }) (refusal b 63)) (refusal b 30) .duet) ≡ controlsOn (socketOf b (otherSide k))
+    go true true e = emptied b k
+    go true false e = absurd (omega arith)
+    go false y e = absurd (omega arith)
+
 -- a refused step leaves all as it stood
 plug-keeps : (b : Duet) (k : Side) (s d : List ℕ) (o : Plugging) → (seenPlug s d o .number ≡ 0 → ⊥) → (duetAfter b k o ≡ b) × (seenPlug s d o .lent ≡ d)
 plug-keeps b k s d (refused n p) h = (refl, refl)
-plug-keeps b k s d (taken r) h = absurd (h refl)
+plug-keeps b k s d (let-in r) h = absurd (h refl)
 
 unplug-keeps : (b : Duet) (k : Side) → (unplugAnswer b k .number ≡ 0 → ⊥) → unplugAnswer b k .duet ≡ b
 unfolding unplugAnswer
@@ -194,4 +241,16 @@ step-keeps b (request s d l) h = answer-keeps b (addresseeOf (askedOf s)) l (req
 
 -- THE THEOREM
 pub duet-rows : DuetRows
-duet-rows = record { plugs = plug-rows; unplugs = unplug-rows; loads = side-load-rows; requests = side-request-rows; keeps = step-keeps }
+duet-rows = record {
+  plugs = plug-rows;
+  unplugs = unplug-rows;
+  loads = side-load-rows;
+  requests = side-request-rows;
+  one-plug = λ b k s room. row-one (row-one (row-one (row-one none-one)));
+  one-unplug = λ b k. row-one (row-one none-one);
+  one-load = λ b k key range w. row-one (row-one (load-row-one (socketOf b k .state) key range w));
+  one-request = λ b s d room. row-one (row-one (row-one (row-one (on-side-one b s d room))));
+  places = plug-places;
+  keeps = step-keeps;
+  room-back = room-given-back;
+}

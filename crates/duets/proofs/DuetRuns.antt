@@ -5,31 +5,23 @@ use Prim.Native.Nat.{ℕ}
 use mathlib.Core.Path.{_≡_, refl, sym, ap, _∙_}
 use mathlib.Core.Bool.{Bool, true, false}
 use mathlib.Core.List.{List, [], _∷_, _++_, List·Memᴰ, List·Memᴰ·head, List·Memᴰ·tail, List·Memᴰ·not-nil, List·Memᴰ·append-cases, List·Memᴰ·eq-of-singleton}
-use mathlib.Core.Logic.{⊎-elim, _⊎_, inl, inr}
+use mathlib.Core.Logic.{⊎-elim}
 use native.Mathlib.Omega.{arith}
 use lib.Dec.{eqb}
 use lib.ListN.{length}
-use borrow.Author.Tests.{eq-eqb}
-use Rattle.ground.specs.Pick.{pick, yes, no, shows, true≠false}
-use Rattle.ground.specs.Numbers.{Bytes, byte}
+use Rattle.ground.specs.Pick.{pick, yes, shows, true≠false}
+use Rattle.ground.specs.Numbers.{Bytes}
 use Rattle.setting.specs.declared.Range.{Range}
 use Rattle.table.specs.Keys.{Key}
 use Rattle.sound.specs.Meaning.{Sound}
 use Rattle.sound.specs.Fresh.{fresh-sound}
-use Rattle.setup.specs.declared.Part.{Part}
-use Rattle.setup.specs.declared.Asked.{Asked}
-use Rattle.setup.specs.Setup.{AsksSet, AsksGet, WellAsked, askedOf}
-use Rattle.setup.specs.Asking as asking
-use Rattle.setup.specs.Asking.{Asking}
-use Rattle.topology.specs.declared.Reading.{Reading}
+use Rattle.setup.specs.Setup.{askedOf}
 use Rattle.topology.specs.Reading.{readingOf}
 use Rattle.reader.proofs.Tables.{reader-table}
 use Rattle.request.specs.declared.State.{State}
 use Rattle.request.specs.Outcome.{Outcome}
-use Rattle.request.specs.Outcome.Outcome.{refused as refuses}
 use Rattle.request.specs.Plugged.{stateOf}
-use Rattle.request.specs.Load.{loadOf}
-use Rattle.request.specs.Request.{elsewhereBy, barredBy, requestOf}
+use Rattle.request.specs.Request.{requestOf}
 use Rattle.runs.specs.Runs as runs
 use Rattle.runs.specs.Runs.Step.{load as single-load, request as single-request}
 use Rattle.runs.proofs.Alone.{run-interface}
@@ -41,17 +33,18 @@ use Rattle.sides.specs.declared.Addressee.the-variants.{Nobody, At}
 use Rattle.sides.specs.Sides.{addresseeOf, ownSetup}
 use Rattle.duet.specs.declared.Socket.{Socket}
 use Rattle.duet.specs.declared.Duet.{Duet}
-use Rattle.duet.specs.declared.Answer.{Answer}
-use Rattle.duet.specs.Box.{socketOf, withSocket, emptySocket, emptyDuet, soundDuet}
+use Rattle.duet.specs.Box.{socketOf, withSocket, emptySocket, emptyDuet}
 use Rattle.duet.specs.BoxLaws.{own-socket}
 use Rattle.duet.specs.Plugging.{Plugging, plugOf, duetAfter, refusal, unplugAnswer}
-use Rattle.duet.specs.Plugging.Plugging.{refused, taken}
+use Rattle.duet.specs.Plugging.Plugging.{refused, let-in}
 use Rattle.duet.specs.Asking.{loadIn, requestIn, socketAfter, boxAfter, answerIn, answerFor}
 use Rattle.duets.specs.DuetRuns.Life.{none, since}
 use Rattle.duets.specs.Steps.{Step, isFor, isOf, boxNext, boxAfterRun, sentBy, Carried}
 use Rattle.duets.specs.Steps.Step.{plug, unplug, load, request}
-use Rattle.duets.specs.DuetRuns.{Life, lifePlug, lifeMore, lifeAsk, ownLife, lifeNext, lifeOf, ReadState, Lives, Lived, DuetRuns}
-use Rattle.duets.proofs.Sound.{Fit, fit-empty, fit-next, same-side, other-next, TakenIn, taken-in, load-came, request-came}
+use Rattle.duets.specs.DuetRuns.{Life, lifePlug, lifeMore, lifeAsk, ownLife, lifeNext, lifeOf, ReadState, Lived, DuetRuns}
+use Rattle.duets.proofs.Named.{at-side}
+use Rattle.duets.proofs.DuetRows.{reads-box}
+use Rattle.duets.proofs.Sound.{Fit, fit-empty, fit-next, fit-run, same-side, other-next, was-let-in, load-came, request-came}
 
 record Living (x : Socket) (st : State) (run : List runs.Step) : Type 0 where
   plugged : x .plugged ≡ true
@@ -102,8 +95,8 @@ along-plug : (b : Duet) (k : Side) (s d : List ℕ) (l : Life) → Along (socket
     → Along (socketOf (duetAfter b k o) k) (lifePlug o l)
 unfolding runs.after
 along-plug b k s d l a (refused n p) e = a
-along-plug b k s d l a (taken r) e =
-    let t = taken-in b k s (length d) r e in
+along-plug b k s d l a (let-in r) e =
+    let t = was-let-in b k s (length d) r e in
     rw (own-socket b k _) (record {
       plugged = refl;
       read = record { configuration = s; room = length d; accepted = t .accepted; state = ap stateOf (t .reading) };
@@ -162,34 +155,14 @@ lived x (since st run) a = record {
   every = runs-so st (read-sound st (a .read)) run (a .wired);
 }
 
-fit-run : (run : List Step) (b : Duet) → Fit b → Carried run → Fit (boxAfterRun b run)
-unfolding boxAfterRun
-fit-run [] b h c = h
-fit-run (x ∷ run) b h c = fit-run run (boxNext b x) (fit-next b x h (c x (List·Memᴰ·head refl))) (λ y m. c y (List·Memᴰ·tail m))
-
--- a request that is for a side asks something, and asks the same with another number
-side-asks : (s : List ℕ) (k : Side) {v : Asked} → Asking s v → addresseeOf v ≡ At k → WellAsked s
-side-asks s k (asking.none n) e = absurd (let z : _≡_ {A = ℕ} 0 1 = cc in omega arith)
-side-asks s k (asking.sets l a) e = (l, inl a)
-side-asks s k (asking.gets part l a c) e = (l, inr a)
-
-own-asks : (s : List ℕ) (m : ℕ) → WellAsked s → WellAsked (ownSetup m s)
-own-asks s m w = (refl, w .1)
-
-heard : (s : List ℕ) (m : ℕ) {v : Asked} → WellAsked (ownSetup m s) → Asking (ownSetup m s) v → barredBy v m ≡ 0
-unfolding elsewhereBy
-heard s m w (asking.none n) = absurd (n w)
-heard s m w (asking.sets l a) = yes 0 32 (eq-eqb m m refl)
-heard s m w (asking.gets part l a c) = yes 0 32 (eq-eqb m m refl)
-
 -- THE THEOREM
 pub duet-runs : DuetRuns
 duet-runs = record {
   lives = λ k run c. lived (socketOf (boxAfterRun emptyDuet run) k) (lifeOf k emptyDuet run none) (along-run k run emptyDuet fit-empty c none (empty-side k));
-  thirty = λ run c. fit-run run emptyDuet fit-empty c;
-  loads-handed = λ b k h p u ch s range w. load-came b k h (record { unit = u; channel = ch; selector = s }) range w ∙ yes _ _ p;
-  requests-handed = λ b k h p s d room e. request-came b k h s d room e ∙ yes _ _ p;
-  not-elsewhere = λ k s e m. heard s m (own-asks s m (side-asks s k (asking.asking s) e)) (asking.asking (ownSetup m s));
+  thirty = λ run c. reads-box (boxAfterRun emptyDuet run) .says (fit-run run emptyDuet fit-empty c);
+  loads-handed = λ b k h p u ch s range w. load-came b k (shows (reads-box b) h) (record { unit = u; channel = ch; selector = s }) range w ∙ yes _ _ p;
+  requests-handed = λ b k h p s d room w e. request-came b k (shows (reads-box b) h) s d room (at-side s k w e) ∙ yes _ _ p;
+  not-elsewhere = λ s w m. ((refl, w .1), refl);
   others = other-next;
 }
   where

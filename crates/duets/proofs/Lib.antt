@@ -1,4 +1,5 @@
 pub mod Sound
+pub mod Named
 pub mod Isolation
 pub mod DuetRuns
 pub mod Crowded

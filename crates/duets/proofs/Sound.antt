@@ -1,13 +1,13 @@
 -- From an empty box 30 never comes: what each step puts in a socket has nothing against it, and both sides stay within 192.
 --   Fit b          ==  30 has nothing against the box
 --   put-fit        ==  .. nor against the one with such a socket put in
---   fit-empty, fit-next  ==  the empty box is so, and each step keeps it
+--   fit-empty, fit-next, fit-run  ==  the empty box is so, each step keeps it, and so does every run
 --   other-put, other-next  ==  a step of another side, or of none, leaves a side's socket as it was
 --   same-side      ==  what the test of two sides says
 use Prim.Native.Nat.{ℕ, _+_, _≤_}
-use mathlib.Core.Path.{_≡_, refl, sym, ap, _∙_, subst}
+use mathlib.Core.Path.{_≡_, refl, sym, ap, _∙_}
 use mathlib.Core.Bool.{Bool, true, false, _&&_}
-use mathlib.Core.List.{List, []}
+use mathlib.Core.List.{List, [], _∷_, List·Memᴰ·head, List·Memᴰ·tail}
 use lib.Dec.{eqb, leb}
 use lib.ListN.{length}
 use native.Mathlib.Omega.{arith}
@@ -17,7 +17,7 @@ use Rattle.ground.specs.Numbers.{Bytes}
 use Rattle.setting.specs.declared.Range.{Range}
 use Rattle.table.specs.Keys.{Key}
 use Rattle.sound.specs.Sound.{soundOf}
-use Rattle.sound.specs.Meaning.{Sound, sound-reads}
+use Rattle.sound.specs.Meaning.{sound-reads}
 use Rattle.sound.specs.Fresh.{fresh-sound}
 use Rattle.setup.specs.Setup.{askedOf}
 use Rattle.topology.specs.declared.Reading.{Reading}
@@ -25,7 +25,7 @@ use Rattle.topology.specs.Reading.{readingOf}
 use Rattle.reader.proofs.Tables.{reader-table}
 use Rattle.reader.proofs.Shows.{controls-counted}
 use Rattle.request.specs.declared.State.{State}
-use Rattle.request.specs.Outcome.{Outcome, stateAfter}
+use Rattle.request.specs.Outcome.{Outcome}
 use Rattle.request.specs.Outcome.Outcome.{refused as refuses}
 use Rattle.request.specs.Plugged.{stateOf}
 use Rattle.request.specs.Load.{loadOf}
@@ -42,10 +42,11 @@ use Rattle.duet.specs.declared.Socket.{Socket}
 use Rattle.duet.specs.declared.Duet.{Duet}
 use Rattle.duet.specs.Box.{otherSide, socketOf, withSocket, emptySocket, emptyDuet, controlsOn, soundSocket, soundBeside, soundDuet}
 use Rattle.duet.specs.BoxLaws.{sound-split, kept-socket}
-use Rattle.duet.specs.Plugging.{Plugging, admittedBy, plugOf, duetAfter, refusal, unplugAnswer}
-use Rattle.duet.specs.Plugging.Plugging.{refused, taken}
-use Rattle.duet.specs.Asking.{handedTo, askedOn, requestIn, loadedOn, loadIn, socketAfter, boxAfter, answerIn, answerFor}
-use Rattle.duets.specs.Steps.{Step, sameSide, isFor, isOf, boxNext, sentBy}
+use Rattle.duet.specs.PluggingLaws.{plug-cases}
+use Rattle.duet.specs.Plugging.{Plugging, plugOf, duetAfter, refusal, unplugAnswer}
+use Rattle.duet.specs.Plugging.Plugging.{refused, let-in}
+use Rattle.duet.specs.Asking.{handedTo, askedOn, requestIn, loadedOn, loadIn, boxAfter, answerIn, answerFor}
+use Rattle.duets.specs.Steps.{Step, sameSide, isFor, isOf, boxNext, boxAfterRun, sentBy, Carried}
 use Rattle.duets.specs.Steps.Step.{plug, unplug, load, request}
 
 abbrev pub Fit : Duet → Type 0
@@ -128,35 +129,35 @@ other-next b k (plug j s d) e = go (plugOf b j s (length d))
   where
     go : (o : Plugging) → socketOf (duetAfter b j o) k ≡ socketOf b k
     go (refused n p) = refl
-    go (taken r) = other-put b k j _ e
+    go (let-in r) = other-put b k j _ e
 other-next b k (unplug j) e = other-unplug b k j e
 other-next b k (load j key range w) e = other-put b k j _ e
 other-next b k (request s d h) e = other-answer b k (addresseeOf (askedOf s)) (requestIn b s d (length h)) e
 
--- what was taken is the reading, and it had room
-pub record TakenIn (b : Duet) (k : Side) (s : List ℕ) (room : ℕ) (r : Reading) : Type 0 where
+-- what was let in is the reading, and it had room
+pub record Entered (b : Duet) (k : Side) (s : List ℕ) (room : ℕ) (r : Reading) : Type 0 where
   pub reading : r ≡ readingOf s room
   pub accepted : readingOf s room .number ≡ 0
   pub roomy : controlsOn (socketOf b (otherSide k)) + readingOf s room .controls ≤ mostTogether
 
-pub taken-in : (b : Duet) (k : Side) (s : List ℕ) (room : ℕ) (r : Reading) → plugOf b k s room ≡ taken r → TakenIn b k s room r
-unfolding plugOf admittedBy
-taken-in b k s room r =
+pub was-let-in : (b : Duet) (k : Side) (s : List ℕ) (room : ℕ) (r : Reading) → plugOf b k s room ≡ let-in r → Entered b k s room r
+was-let-in b k s room r e =
     go (soundDuet b) (socketOf b k .plugged) (eqb (readingOf s room .number) 0) (reads-eq _ 0) (leb (met + readingOf s room .controls) mostTogether) (reads-le _ _)
+    (sym (plug-cases b k s room) ∙ e)
   where
     met : ℕ
     met = controlsOn (socketOf b (otherSide k))
 
     go : (x y z : Bool) → Reads z (readingOf s room .number ≡ 0) → (v : Bool) → Reads v (met + readingOf s room .controls ≤ mostTogether)
-        → pick x (pick y (refused 61 0) (pick z (pick v (taken (readingOf s room)) (refused 62 0)) (refused (readingOf s room .number) (readingOf s room .place)))) (refused 30 0) ≡ taken r
-        → TakenIn b k s room r
+        → pick x (pick y (refused 61 0) (pick z (pick v (let-in (readingOf s room)) (refused 62 0)) (refused (readingOf s room .number) (readingOf s room .place)))) (refused 30 0) ≡ let-in r
+        → Entered b k s room r
     go false y z f v g e = absurd (let n : _≡_ {A = ℕ} 0 1 = cc in omega arith)
     go true true z f v g e = absurd (let n : _≡_ {A = ℕ} 0 1 = cc in omega arith)
     go true false false f v g e = absurd (let n : _≡_ {A = ℕ} 0 1 = cc in omega arith)
     go true false true f false g e = absurd (let n : _≡_ {A = ℕ} 0 1 = cc in omega arith)
     go true false true f true g e = record { reading = let q : readingOf s room ≡ r = cc in sym q; accepted = f .says refl; roomy = g .says refl }
 
-plugged-fit : (b : Duet) (k : Side) → Fit b → (s : List ℕ) (room : ℕ) (r : Reading) → TakenIn b k s room r → Fit (withSocket b k (record { plugged = true; state = stateOf r }))
+plugged-fit : (b : Duet) (k : Side) → Fit b → (s : List ℕ) (room : ℕ) (r : Reading) → Entered b k s room r → Fit (withSocket b k (record { plugged = true; state = stateOf r }))
 unfolding soundSocket controlsOn
 plugged-fit b k h s room r t =
     put-fit b k h (record { plugged = true; state = stateOf r })
@@ -229,8 +230,13 @@ fit-next b (plug k s d) h w = go (plugOf b k s (length d)) refl
   where
     go : (o : Plugging) → plugOf b k s (length d) ≡ o → Fit (duetAfter b k o)
     go (refused n p) e = h
-    go (taken r) e = plugged-fit b k h s (length d) r (taken-in b k s (length d) r e)
+    go (let-in r) e = plugged-fit b k h s (length d) r (was-let-in b k s (length d) r e)
 fit-next b (unplug k) h w = unplug-fit b k h
 fit-next b (load k key range w) h bytes =
     outcome-fit b k h (single-load key range w) (λ i. omega arith) (loadIn b k (key .unit) (key .channel) (key .selector) range w) (load-came b k h key range w)
 fit-next b (request s d y) h bytes = answered-fit b h s d y bytes (addresseeOf (askedOf s)) refl
+
+pub fit-run : (run : List Step) (b : Duet) → Fit b → Carried run → Fit (boxAfterRun b run)
+unfolding boxAfterRun
+fit-run [] b h c = h
+fit-run (x ∷ run) b h c = fit-run run (boxNext b x) (fit-next b x h (c x (List·Memᴰ·head refl))) (λ y m. c y (List·Memᴰ·tail m))

@@ -5,7 +5,7 @@ use mathlib.Core.Path.{_≡_, refl, sym, ap, _∙_}
 use mathlib.Core.Bool.{Bool, true, false}
 use mathlib.Core.List.{List, []}
 use lib.ListN.{length}
-use Rattle.ground.specs.Pick.{pick}
+use Rattle.ground.specs.Pick.{pick, shows}
 use Rattle.setting.specs.declared.Range.{Range}
 use Rattle.table.specs.Keys.{Key}
 use Rattle.deed.specs.Reply.{laid}
@@ -20,16 +20,17 @@ use Rattle.duet.specs.declared.Admitted.{Admitted}
 use Rattle.duet.specs.declared.Answer.{Answer}
 use Rattle.duet.specs.Box.{socketOf, withSocket, emptySocket, soundDuet}
 use Rattle.duet.specs.Plugging.{Plugging, plugOf, duetAfter, plugAnswer, sheetAfter, PlugsIn, refusal, unplugAnswer}
-use Rattle.duet.specs.Plugging.Plugging.{refused, taken}
-use Rattle.duet.specs.Asking.{loadIn, requestIn, boxAfter, answerIn, answerFor, AnsweredIn}
-use Rattle.duets.specs.Steps.{Seen, seenPlug, seenNumber, seenOutcome, seenIn, boxNext}
+use Rattle.duet.specs.Plugging.Plugging.{refused, let-in}
+use Rattle.duet.specs.Asking.{loadIn, requestIn, answerIn, answerFor, AnsweredIn}
+use Rattle.duets.specs.Steps.{seenPlug, seenOutcome, seenIn, boxNext}
 use Rattle.duets.specs.Steps.Step.{plug, unplug, load, request}
 use Rattle.duets.specs.StepsTold.{admittedSeen, answerSeen, StepsTold}
+use Rattle.duets.proofs.Named.{reads-side}
 
 plug-seen : (b : Duet) (k : Side) (s d : List ℕ) (o : Plugging)
     → (seenPlug s d o ≡ admittedSeen (plugAnswer b k o) (sheetAfter s d o)) × (duetAfter b k o ≡ plugAnswer b k o .duet)
 plug-seen b k s d (refused n p) = (refl, refl)
-plug-seen b k s d (taken r) = (refl, refl)
+plug-seen b k s d (let-in r) = (refl, refl)
 
 plug-told : (b : Duet) (k : Side) (s d : List ℕ) (r : Admitted) (a : List ℕ) → PlugsIn b k s d r a
     → (seenIn b (plug k s d) ≡ admittedSeen r a) × (boxNext b (plug k s d) ≡ r .duet)
@@ -75,4 +76,10 @@ request-told b s d h r a t = (
 
 -- THE THEOREM
 pub steps-told : StepsTold
-steps-told = record { plugs = plug-told; unplugs = unplug-told; loads = load-told; requests = request-told }
+steps-told = record {
+  plugs = plug-told;
+  unplugs = unplug-told;
+  loads = load-told;
+  requests = request-told;
+  named = λ k s d h. (reads-side s k .says, shows (reads-side s k));
+}

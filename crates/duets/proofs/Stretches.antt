@@ -1,39 +1,36 @@
 -- The stretch, proved: where the reader accepts, the first entity that bears an ID is the only one, and its place is its descriptor's.
 --   stretch-shown  ==  THE THEOREM
-use Prim.Native.Nat.{ℕ, _*_, _≤_, _<_}
+use Prim.Native.Nat.{ℕ, _≤_, _<_}
 use mathlib.Core.Path.{_≡_, refl, sym, ap, _∙_, subst}
-use mathlib.Core.Bool.{Bool, true, false}
 use mathlib.Core.List.{List, []}
 use mathlib.Core.Logic.{⊎-elim}
 use native.Mathlib.Omega.{arith}
 use lib.Dec.{eqb}
 use lib.ListN.{length, getD}
-use borrow.Author.Tests.{eq-eqb, ne-eqb, le-leb}
+use borrow.Author.Tests.{eq-eqb, ne-eqb}
 use Rattle.ground.specs.declared.Place.{Place}
 use Rattle.ground.specs.declared.Place.the-variants as place
 use Rattle.ground.specs.declared.Refusal.{Refusal}
 use Rattle.ground.specs.Pick.{yes, no, decided, reads-eq}
 use Rattle.ground.specs.Lists.{member-at, member-index}
-use Rattle.ground.specs.Places.{first-some, first-none}
-use Rattle.ground.specs.Refuse.{none, refuse, keptAt}
+use Rattle.ground.specs.Places.{finding, first-some, first-none}
+use Rattle.ground.specs.Places as places
+use Rattle.ground.specs.Refuse.{none}
 use Rattle.graph.specs.Members.{_∈_}
 use Rattle.edition.specs.Edition.{ownId}
 use Rattle.edition.specs.Audio.{audio}
 use Rattle.entities.specs.declared.Run.{Run}
-use Rattle.entities.specs.Run.{held, idAt, placeAt}
+use Rattle.entities.specs.Run.{held, placeAt}
 use Rattle.entities.specs.Represents.{Represents}
 use Rattle.cutting.specs.declared.Survey.{Survey}
-use Rattle.cutting.specs.Survey.{surveyOf}
-use Rattle.cutting.specs.Rules1to9.{Kept}
 use Rattle.ids.specs.Breach.{bears}
 use Rattle.ids.specs.OwnIds.{own-ids}
-use Rattle.records.specs.Records.{recordSize, roomFor}
 use Rattle.topology.specs.declared.Finding.{Finding}
 use Rattle.topology.specs.declared.Reading.{Reading}
-use Rattle.topology.specs.Reading.{clustersAt, roomJudged, verdictOf, findingWith, findingOf, refusedReading, readingOf}
+use Rattle.topology.specs.Reading.{verdictOf, findingWith, findingOf, refusedReading, readingOf}
 use Rattle.topology.specs.Verdict.{finding-refusal, finding-taken, verdict-refused, verdict-whole}
 use Rattle.reader.specs.Configuration.{runOf, placeOfRun, Configuration}
-use Rattle.reader.proofs.Surveyed.{entitiesOf, survey-kept, represented}
+use Rattle.reader.proofs.Surveyed.{entitiesOf, survey-kept, run-cut, represented}
 use Rattle.reader.proofs.Exactly.{accepted-exactly}
 use Rattle.reader.proofs.Shows.{number-told}
 use Rattle.extent.specs.declared.Located.{Located}
@@ -108,6 +105,31 @@ module _ (s : List ℕ) where
         let e : locatedIn s (ownId (getD ds i [])) ≡ From (placeAt run i) = located-in (ownId (getD ds i [])) ∙ ap known (bears-first i l) in
         (ap refusalOf e, ap (bytesAt s) e ∙ r .bytes i l)
 
+    some-bytes : (x : ℕ) → refusalOf (locatedIn s x) .number ≡ 0 → bytesAt s (locatedIn s x) ≡ [] → ⊥
+    unfolding entityPlace
+    some-bytes x z e =
+        go (finding (bears run x) (λ i. place.At (placeAt run i)) place.Nowhere (held run))
+        (sym (ap (λ (y : Located). refusalOf y .number) (located-in x)) ∙ z)
+        (sym (ap (bytesAt s) (located-in x)) ∙ e)
+      where
+        go : {y : Place} → places.Finding (bears run x) (λ i. place.At (placeAt run i)) place.Nowhere (held run) y
+            → refusalOf (known y) .number ≡ 0 → bytesAt s (known y) ≡ [] → ⊥
+        go (places.nothing k) f g = omega arith
+        go (places.first {i} k) f g =
+            let l : i < length ds = (let c = r .counted in let m = k .inside in omega arith) in
+            let w = run-cut s (t .kept) (getD ds i []) (member-at [] ds i l) .long in
+            let v : length (getD ds i []) ≡ 0 = ap length (sym (r .bytes i l) ∙ g) in
+            omega arith
+
+  apart : (x : ℕ) → refusalOf (locatedIn s x) .number ≡ 0 → bytesAt s (locatedIn s x) ≡ [] → ⊥
+  unfolding locatedBy
+  apart x z =
+      ⊎-elim
+      (λ (k : found .refusal .number ≡ 0).
+      some-bytes (accepted-exactly s wholeSheet .0 (roomy wholeSheet (omega arith) k) .0) x z)
+      (λ (n : found .refusal .number ≡ 0 → ⊥). absurd (n (sym (ap (λ (y : Located). refusalOf y .number) (no _ _ (ne-eqb _ _ n))) ∙ z)))
+      (decided (eqb (found .refusal .number) 0) (reads-eq (found .refusal .number) 0))
+
   empties : (y : Located) → (refusalOf y .number ≡ 0 → ⊥) → bytesAt s y ≡ []
   empties (Refused n p) h = refl
   empties (From p) h = absurd (h refl)
@@ -121,4 +143,5 @@ stretch-shown s = record {
   unknown = λ t x h. located-in s t x ∙ ap known (none-bears s t x h);
   by-the-reader = judged-so s;
   empty = λ x h. empties s (locatedIn s x) h;
+  told-apart = apart s;
 }

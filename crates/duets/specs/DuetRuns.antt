@@ -9,10 +9,10 @@
 --   Lives x st run   ==  the socket x has a microphone, whose state is what the run leaves of st, a state as it is read; and of st and the run all is
 --                        true that demand 2 asks of the request layer (EveryRun, crate demands): each next answer is the one its definition gives
 --   Lived x l        ==  .. where the life is such; a socket of no life is empty
---   DuetRuns         ==  lives: so it is of both sides after every run whose data are bytes. thirty: 30 has nothing against the box then.
---                        loads-handed, requests-handed: a load on a side and a request for it are the request layer's, on that side's state, the request
---                        with the microphone's own number, by which it is never refused by 31 or 32 (not-elsewhere). others: a step that is not a side's
---                        leaves that side's socket as it was, in every box whatever
+--   DuetRuns         ==  lives: so it is of both sides after every run whose data are bytes. thirty: 30 has nothing against the box then; so "It holds
+--                        at most 192 controls for both sides together". loads-handed, requests-handed: a load on a side and a request that presents its
+--                        number are the request layer's, on that side's state, the request with the microphone's own number, for which neither 31 nor 32
+--                        is given there (not-elsewhere). others: a step that is not a side's leaves that side's socket as it was, in every box whatever
 use Prim.Native.Nat.{ℕ}
 use mathlib.Core.Path.{_≡_}
 use mathlib.Core.Bool.{true, false}
@@ -20,27 +20,28 @@ use mathlib.Core.List.{List, [], _∷_, _++_}
 use lib.Dec.{eqb}
 use lib.ListN.{length}
 use Rattle.ground.specs.Pick.{pick}
+use Rattle.ground.specs.Numbers.{byte}
 use Rattle.setting.specs.declared.Range.{Range}
-use Rattle.setup.specs.Setup.{askedOf}
+use Rattle.setup.specs.Setup.{WellAsked}
 use Rattle.topology.specs.Reading.{readingOf}
 use Rattle.request.specs.declared.State.{State}
 use Rattle.request.specs.Plugged.{stateOf}
 use Rattle.request.specs.Load.{loadOf}
-use Rattle.request.specs.Request.{barredBy, requestOf}
+use Rattle.request.specs.Request.{requestOf}
 use Rattle.runs.specs.Runs as runs
 use Rattle.runs.specs.Runs.Step.{load as single-load, request as single-request}
 use Rattle.demands.specs.Demand2.{EveryRun}
 use Rattle.sides.specs.declared.Side.{Side}
-use Rattle.sides.specs.declared.Addressee.the-variants.{At}
-use Rattle.sides.specs.Sides.{addresseeOf, ownSetup}
+use Rattle.sides.specs.Sides.{ownSetup}
 use Rattle.duet.specs.declared.Socket.{Socket}
 use Rattle.duet.specs.declared.Duet.{Duet}
-use Rattle.duet.specs.Box.{socketOf, emptyDuet, soundDuet}
+use Rattle.duet.specs.Box.{socketOf, emptyDuet}
 use Rattle.duet.specs.Plugging.{Plugging, plugOf, unplugAnswer}
-use Rattle.duet.specs.Plugging.Plugging.{refused, taken}
+use Rattle.duet.specs.Plugging.Plugging.{refused, let-in}
 use Rattle.duet.specs.Asking.{loadIn, requestIn}
-use Rattle.duets.specs.Steps.{Step, isOf, boxNext, boxAfterRun, Carried}
+use Rattle.duets.specs.Steps.{Step, presentedFor, isOf, boxNext, boxAfterRun, Carried}
 use Rattle.duets.specs.Steps.Step.{plug, unplug, load, request}
+use Rattle.duets.specs.DuetRows.{SoundBox}
 
 pub data Life : Type 0 where
   none : Life
@@ -48,7 +49,7 @@ pub data Life : Type 0 where
 
 abbrev pub lifePlug : Plugging → Life → Life
 lifePlug (refused n p) l = l
-lifePlug (taken r) l = since (stateOf r) []
+lifePlug (let-in r) l = since (stateOf r) []
 
 abbrev pub lifeMore : Life → runs.Step → Life
 lifeMore none x = none
@@ -89,10 +90,10 @@ Lived x (since st run) = Lives x st run
 
 pub record DuetRuns : Type 0 where
   pub lives : (k : Side) (run : List Step) → Carried run → Lived (socketOf (boxAfterRun emptyDuet run) k) (lifeOf k emptyDuet run none)
-  pub thirty : (run : List Step) → Carried run → soundDuet (boxAfterRun emptyDuet run) ≡ true
-  pub loads-handed : (b : Duet) (k : Side) → soundDuet b ≡ true → socketOf b k .plugged ≡ true → (u ch s : ℕ) (range : Range) (w : ℕ)
+  pub thirty : (run : List Step) → Carried run → SoundBox (boxAfterRun emptyDuet run)
+  pub loads-handed : (b : Duet) (k : Side) → SoundBox b → socketOf b k .plugged ≡ true → (u ch s : ℕ) (range : Range) (w : ℕ)
       → loadIn b k u ch s range w ≡ loadOf (socketOf b k .state) u ch s range w
-  pub requests-handed : (b : Duet) (k : Side) → soundDuet b ≡ true → socketOf b k .plugged ≡ true → (s d : List ℕ) (room : ℕ) → addresseeOf (askedOf s) ≡ At k
+  pub requests-handed : (b : Duet) (k : Side) → SoundBox b → socketOf b k .plugged ≡ true → (s d : List ℕ) (room : ℕ) → WellAsked s → byte s 4 ≡ presentedFor k
       → requestIn b s d room ≡ requestOf (socketOf b k .state) (ownSetup (socketOf b k .state .control) s) d room
-  pub not-elsewhere : (k : Side) (s : List ℕ) → addresseeOf (askedOf s) ≡ At k → (m : ℕ) → barredBy (askedOf (ownSetup m s)) m ≡ 0
+  pub not-elsewhere : (s : List ℕ) → WellAsked s → (m : ℕ) → WellAsked (ownSetup m s) × (byte (ownSetup m s) 4 ≡ m)
   pub others : (b : Duet) (k : Side) (x : Step) → isOf k x ≡ false → socketOf (boxNext b x) k ≡ socketOf b k

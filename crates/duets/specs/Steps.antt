@@ -2,7 +2,9 @@
 --   Step              ==  a plug-in on a side of a configuration with a sheet lent; an unplugging; a load on a side; a request: the setup, the data
 --                         of a Set and the lent reply
 --   sameSide k j      ==  the two are one side; isFor k a: the addressee a is the side k
+--   presentedFor k    ==  the presented number of the side k: "Presented interface 0 is the left AudioControl, 1 the right"
 --   isOf k step       ==  the step is the side k's; which request is a side's is told by the presented number, and one that 31 refuses is no side's
+--                         (`named` of StepsTold.antt says so of its bytes)
 --   Seen              ==  what a step's caller sees: number and place, the microphone's AudioControl number, the counts of entities and controls, how
 --                         many bytes of the reply were written, and what the lent sheet or reply holds then
 --   seenPlug s d o, seenOutcome h o, seenNumber n  ==  .. of a plug-in that comes to o, of a load or a request that comes to o, of an unplugging
@@ -33,7 +35,7 @@ use Rattle.sides.specs.Sides.{addresseeOf}
 use Rattle.duet.specs.declared.Duet.{Duet}
 use Rattle.duet.specs.Box.{otherSide, socketOf, controlsOn}
 use Rattle.duet.specs.Plugging.{Plugging, plugOf, duetAfter, unplugAnswer}
-use Rattle.duet.specs.Plugging.Plugging.{refused, taken}
+use Rattle.duet.specs.Plugging.Plugging.{refused, let-in}
 use Rattle.duet.specs.Asking.{loadIn, requestIn, boxAfter, answerFor}
 
 pub data Step : Type 0 where
@@ -47,6 +49,10 @@ sameSide Left Left = true
 sameSide Left Right = false
 sameSide Right Left = false
 sameSide Right Right = true
+
+abbrev pub presentedFor : Side → ℕ
+presentedFor Left = 0
+presentedFor Right = 1
 
 abbrev pub isFor : Side → Addressee → Bool
 isFor k (Nobody n) = false
@@ -69,7 +75,7 @@ pub record Seen : Type 0 where
 
 abbrev pub seenPlug : List ℕ → List ℕ → Plugging → Seen
 seenPlug s d (refused n p) = record { number = n; place = p; interface = 0; entities = 0; controls = 0; written = 0; lent = d }
-seenPlug s d (taken r) = record {
+seenPlug s d (let-in r) = record {
   number = 0;
   place = 0;
   interface = r .control;

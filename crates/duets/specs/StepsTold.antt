@@ -1,18 +1,23 @@
 -- What a step's caller sees is what the function answers, and the next box is the answer's: so the theorems over runs are of the code.
 --   admittedSeen r a, answerSeen r a  ==  what is seen of an answer r, where the lent sheet or reply holds a at exit
---   StepsTold        ==  of every result that the contract of a plug-in, an unplugging, a load and a request allows
+--   StepsTold        ==  of every result that the contract of a plug-in, an unplugging, a load and a request allows; and whose a request is, by its
+--                        bytes (named): a side's are those that 31 does not refuse and whose byte 4 is the side's presented number
 use Prim.Native.Nat.{ℕ}
 use mathlib.Core.Path.{_≡_}
+use mathlib.Core.Bool.{true}
 use mathlib.Core.List.{List, []}
+use mathlib.Core.Logic.{_↔_}
+use Rattle.ground.specs.Numbers.{byte}
 use Rattle.setting.specs.declared.Range.{Range}
 use Rattle.table.specs.Keys.{Key}
+use Rattle.setup.specs.Setup.{WellAsked}
 use Rattle.sides.specs.declared.Side.{Side}
 use Rattle.duet.specs.declared.Duet.{Duet}
 use Rattle.duet.specs.declared.Admitted.{Admitted}
 use Rattle.duet.specs.declared.Answer.{Answer}
 use Rattle.duet.specs.Plugging.{PlugsIn, unplugAnswer}
 use Rattle.duet.specs.Asking.{loadIn, answerIn, AnsweredIn}
-use Rattle.duets.specs.Steps.{Seen, seenIn, boxNext}
+use Rattle.duets.specs.Steps.{presentedFor, isOf, Seen, seenIn, boxNext}
 use Rattle.duets.specs.Steps.Step.{plug, unplug, load, request}
 
 abbrev pub admittedSeen : Admitted → List ℕ → Seen
@@ -38,3 +43,4 @@ pub record StepsTold : Type 0 where
       → (seenIn b (load k key range w) .number ≡ r .number) × ((seenIn b (load k key range w) .written ≡ r .written) × (boxNext b (load k key range w) ≡ r .duet))
   pub requests : (b : Duet) (s d h : List ℕ) (r : Answer) (a : List ℕ) → AnsweredIn b s d h r a
       → (seenIn b (request s d h) ≡ answerSeen r a) × (boxNext b (request s d h) ≡ r .duet)
+  pub named : (k : Side) (s d h : List ℕ) → (isOf k (request s d h) ≡ true) ↔ (WellAsked s × (byte s 4 ≡ presentedFor k))

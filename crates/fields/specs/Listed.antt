@@ -8,6 +8,8 @@
 --   entityFrom x s k     ==  the entity whose numbers are x, whose sources are s and whose control bytes or masks are k
 --   listedWith v x       ==  the entity x, whose sources and control bytes or masks stand in the lent slice v
 --   blankItem            ==  a spare place: no entity, all zeros
+--   spanFrom q x, movedBy q x  ==  the part x, and the parts of the entity x, moved q places on: what was read of a descriptor, in a slice in which it
+--                            stands at place q
 --   foundWith k d        ==  the entity whose fields stand in d by the layout k, whether or not d has that layout
 --   foundAs o            ==  the entity of the fields o; wrong where there are none
 --   foundIn d            ==  the entity that the layouts find in the descriptor d; wrong where they find none
@@ -59,6 +61,12 @@ listedWith v x = entityFrom (x .numbers) (spanOf v (x .sources)) (spanOf v (x .c
 
 abbrev pub blankItem : Item
 blankItem = record { numbers = Unknown; sources = record { from = 0; end = 0 }; controls = record { from = 0; end = 0 } }
+
+abbrev pub spanFrom : ℕ → Span → Span
+spanFrom q x = record { from = q + x .from; end = q + x .end }
+
+abbrev pub movedBy : ℕ → Item → Item
+movedBy q x = record { numbers = x .numbers; sources = spanFrom q (x .sources); controls = spanFrom q (x .controls) }
 
 abbrev pub foundAs : Option Fields → Listed
 foundAs none = wrong

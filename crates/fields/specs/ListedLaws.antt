@@ -7,21 +7,29 @@
 --                       its fields are found
 --   mixer-some, feature-some  ==  such a descriptor has a byte
 --   read-one        ==  two results that the reader's contract allows are equal
+--   read-some       ==  and there is one, of every descriptor
+--   moved-same      ==  read of a descriptor and moved to where that stands in a slice, an entity is the same in the slice
 use Prim.Native.Nat.{ℕ, _+_, _-_, _*_, _/_, _%_, _≤_, _<_}
 use native.Mathlib.Omega.{arith}
-use mathlib.Core.Path.{_≡_, refl, sym, ap, _∙_}
+use mathlib.Core.Path.{_≡_, refl, sym, ap, subst, _∙_}
 use mathlib.Core.Option.{Option, none, some}
-use mathlib.Core.List.{List}
-use lib.ListN.{length}
-use Rattle.ground.specs.Numbers.{byte}
-use Rattle.ground.specs.Lists.{part}
+use mathlib.Core.Bool.{Bool, true, _&&_}
+use mathlib.Core.List.{List, _++_, append-nil}
+use lib.ListN.{length, take, drop}
+use lib.Seq.{drop-drop, drop-append-seam}
+use Rattle.ground.specs.Numbers.{byte, Bytes}
+use Rattle.ground.specs.Lists.{part, drop-take, take-append}
+use Rattle.ground.specs.Pick.{within, reads-and, reads-true}
 use Rattle.layout.specs.declared.Cluster.{Cluster}
 use Rattle.layout.specs.declared.Entity.{Entity}
 use Rattle.layout.specs.declared.Entity.the-variants as told
-use Rattle.layout.specs.Format.{Format, TwoBytes, Value, wordOf, twoOf, valueAt}
+use Rattle.layout.specs.Format as form
+use Rattle.layout.specs.Format.{Format, TwoBytes, Value, wordOf, twoOf, fits, valueAt}
 use Rattle.layout.specs.Layouts as kind
 use Rattle.layout.specs.Layouts.{Kind, formatOf}
 use Rattle.layout.specs.Layout.{entityOf, entityIn}
+use Rattle.layout.specs.LayoutLaws as entity
+use Rattle.layout.specs.LayoutLaws.{Told}
 use Rattle.layout.specs.Fields as fields
 use Rattle.layout.specs.Fields.{Fields, layoutBy, fieldsAt, fieldsOf}
 use Rattle.layout.specs.FieldsLaws.{found-by, none-some, some-one}
@@ -30,7 +38,7 @@ use Rattle.fields.specs.declared.Item.{Item}
 use Rattle.fields.specs.declared.Numbers.{Numbers}
 use Rattle.fields.specs.declared.Numbers.the-variants.{Unknown, Input, Output, Mixer, Selector, Feature, Printed}
 use Rattle.fields.specs.declared.Span.{Span}
-use Rattle.fields.specs.Listed.{Listed, laid, wrong, printed, entityFrom, listedWith, foundWith, foundAs, foundIn, blankItem, noSpan, sourcesAt, controlsAt, spanBy, sourcesIn, controlsIn, KindRead, ReadAs}
+use Rattle.fields.specs.Listed.{Listed, laid, wrong, printed, spanOf, entityFrom, listedWith, foundWith, foundAs, foundIn, blankItem, spanFrom, movedBy, noSpan, sourcesAt, controlsAt, spanBy, sourcesIn, controlsIn, KindRead, ReadAs}
 
 abbrev pub two : List ℕ → ℕ → TwoBytes
 two d k = record { low = byte d k; high = byte d (k + 1) }
@@ -232,3 +240,82 @@ read-one d r q a b =
     let s : r .sources ≡ q .sources = a .sources ∙ sym (b .sources) in
     let c : r .controls ≡ q .controls = a .controls ∙ sym (b .controls) in
     made-same (r .numbers) (q .numbers) (r .sources) (q .sources) (r .controls) (q .controls) n s c
+
+-- ---- every descriptor can be read
+
+module _ (d : List ℕ) (b : Bytes d) where
+  pair : (k : ℕ) → twoOf (byte d k + byte d (k + 1) * 256) ≡ two d k
+  pair k = two-own d k (byte d k) (byte d (k + 1)) (b k) refl refl
+
+  readable : {e : Entity} → e ≡ entityOf d → Told d e → (r : Item) × ReadAs d r
+  readable {e} q (entity.unknown n) = (blankItem, found-unknown d e q blankItem refl refl)
+  readable {e} q (entity.input k m) =
+      let x = plainItem (Input (byte d 3) (byte d 4 + byte d (4 + 1) * 256) (byte d 6) (byte d 7) (byte d 8 + byte d (8 + 1) * 256) (byte d 10) (byte d 11)) in
+      (x, found-input d e q x _ _ _ refl (input-found d x _ _ _ _ _ _ _ refl refl (pair 4) refl refl (pair 8) refl refl))
+  readable {e} q (entity.output k m) =
+      let x = plainItem (Output (byte d 3) (byte d 4 + byte d (4 + 1) * 256) (byte d 6) (byte d 7) (byte d 8)) in
+      (x, found-output d e q x _ _ _ refl (output-found d x _ _ _ _ _ refl refl (pair 4) refl refl refl))
+  readable {e} q (entity.mixer k p m) =
+      let n = byte d 4 in
+      (_, found-mixer d e q _ _ _ _ refl (mixer-found d n (byte d 3) (byte d (5 + n)) (byte d (6 + n) + byte d (6 + n + 1) * 256) (byte d (8 + n)) (byte d (length d - 1)) refl refl refl (pair (6 + n)) refl refl))
+  readable {e} q (entity.selector k p m) = (_, found-selector d e q _ _ _ refl (selector-found d (byte d 4) (byte d 3) (byte d (5 + byte d 4)) refl refl refl))
+  readable {e} q (entity.feature k p m) = (_, found-feature d e q _ _ _ _ refl (feature-found d (byte d 3) (byte d 4) (byte d 5) (byte d (length d - 1)) refl refl refl refl))
+
+  pub read-some : (r : Item) × ReadAs d r
+  read-some = readable refl (entity.told d)
+
+-- ---- its parts end inside it
+
+passed : (a b : Bool) → (a && b) ≡ true → b ≡ true
+passed a b e = reads-and a b (reads-true a) (reads-true b) .says e .1
+
+sources-inside : (F : Format) (d : List ℕ) (k : ℕ) → fits F d k ≡ true → sourcesAt F d k .end ≤ length d
+sources-inside form.last d k e = omega arith
+sources-inside form.rest d k e = omega arith
+sources-inside (form.byte F) d k e = sources-inside F d (k + 1) e
+sources-inside (form.source F) d k e = sources-inside F d (k + 1) e
+sources-inside (form.ranged low high F) d k e = sources-inside F d (k + 1) (passed (within low (byte d k) high) _ e)
+sources-inside (form.word F) d k e = sources-inside F d (k + 2) e
+sources-inside (form.sources low high F) d k e = let h = fits-inside F d (k + 1 + byte d k) (passed (within low (byte d k) high) _ e) in omega arith
+
+controls-inside : (F : Format) (d : List ℕ) (k : ℕ) → controlsAt F d k .end ≤ length d
+controls-inside form.last d k = omega arith
+controls-inside form.rest d k = omega arith
+controls-inside (form.byte F) d k = controls-inside F d (k + 1)
+controls-inside (form.source F) d k = controls-inside F d (k + 1)
+controls-inside (form.ranged low high F) d k = controls-inside F d (k + 1)
+controls-inside (form.word F) d k = controls-inside F d (k + 2)
+controls-inside (form.sources low high F) d k = controls-inside F d (k + 1 + byte d k)
+
+span-inside : (place : Format → List ℕ → ℕ → Span) (d : List ℕ) → ((F : Format) → fits F d 3 ≡ true → place F d 3 .end ≤ length d)
+    → (o : Option Fields) → fieldsOf d ≡ o → spanBy place d o .end ≤ length d
+span-inside place d h none e = omega arith
+span-inside place d h (some f) e =
+    let t = found-by d f e in
+    let own : layoutBy f ≡ t .kind = ap layoutBy (sym (t .same)) ∙ layout-own (t .kind) (valueAt (formatOf (t .kind)) d 3) in
+    h (formatOf (layoutBy f)) (subst (λ (k : Kind). fits (formatOf k) d 3 ≡ true) (sym own) (t .passes))
+
+-- ---- so they are the same parts of any slice in which it stands
+
+part-front : (d back : List ℕ) (a e : ℕ) → e ≤ length d → part (d ++ back) a e ≡ part d a e
+part-front d back a e h =
+    let z : e - length d ≡ 0 = omega arith in
+    sym (drop-take a e (d ++ back))
+    ∙ ap (drop a) (take-append e d back ∙ ap (λ (n : ℕ). take e d ++ take n back) z ∙ append-nil (take e d))
+    ∙ drop-take a e d
+
+part-moved : (front d back : List ℕ) (a e : ℕ) → e ≤ length d → part (front ++ (d ++ back)) (length front + a) (length front + e) ≡ part d a e
+part-moved front d back a e h =
+    let z : length front + e - (length front + a) ≡ e - a = omega arith in
+    ap (λ (n : ℕ). take n (drop (length front + a) (front ++ (d ++ back)))) z
+    ∙ ap (take (e - a)) (sym (drop-drop a (length front) (front ++ (d ++ back))) ∙ ap (drop a) (drop-append-seam front (d ++ back)))
+    ∙ part-front d back a e h
+
+pub moved-same : (front d back : List ℕ) (r : Item) → ReadAs d r → listedWith (front ++ (d ++ back)) (movedBy (length front) r) ≡ foundIn d
+unfolding sourcesIn controlsIn
+moved-same front d back r h =
+    let s : r .sources .end ≤ length d = subst (λ (x : Span). x .end ≤ length d) (sym (h .sources)) (span-inside sourcesAt d (λ F e. sources-inside F d 3 e) (fieldsOf d) refl) in
+    let c : r .controls .end ≤ length d = subst (λ (x : Span). x .end ≤ length d) (sym (h .controls)) (span-inside controlsAt d (λ F e. controls-inside F d 3) (fieldsOf d) refl) in
+    ap (λ (x : List ℕ). entityFrom (r .numbers) x (spanOf (front ++ (d ++ back)) (spanFrom (length front) (r .controls)))) (part-moved front d back (r .sources .from) (r .sources .end) s)
+    ∙ ap (entityFrom (r .numbers) (spanOf d (r .sources))) (part-moved front d back (r .controls .from) (r .controls .end) c)
+    ∙ h .fields

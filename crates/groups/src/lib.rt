@@ -1,5 +1,5 @@
-// Groups and the header (document 01). What it promises to the layer above: the lowest number of the rules 1 to 7 that a configuration
-// breaks, with its place; and where the AudioControl group's parts stand, if it keeps them.
+// Groups and the header (document 01; document 02, No. 12). What it promises to the layer above: the lowest number of the rules 1 to 7, or of 1 to
+// 6 of the 3.0 edition, that a configuration breaks, with its place; and where the AudioControl group's parts stand, if it keeps them.
 ghost use mathlib.Core.Path.{_≡_};
 ghost use mathlib.Core.Bool.{_&&_, not};
 ghost use Prim.Native.Nat.{_+_, _≤_};
@@ -29,7 +29,7 @@ pub struct Frame {
     pub end: usize,
 }
 
-// What the rules 1 to 7 say of a configuration: the refusal, and the frame where nothing is refused; where something is, a frame of zeros.
+// What these rules say of a configuration: the refusal, and the frame where nothing is refused; where something is, a frame of zeros.
 pub struct Framing {
     pub refusal: Refusal,
     pub frame: Frame,

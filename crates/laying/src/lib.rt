@@ -14,7 +14,7 @@ use fields::Item;
 use fields::Numbers;
 
 // The most bytes that a descriptor may have: its length is one byte.
-const MOST_LONG: usize = 255;
+pub const MOST_LONG: usize = 255;
 
 // Byte 1 of every descriptor of the run.
 const CLASS: u8 = 0x24;

@@ -5,12 +5,14 @@
 --   inputOf d, outputOf d, mixerOf d, selectorOf d, featureOf d, clockOf d  ==  the same by the layout in the name
 --   entityIn o d   ==  by the layout o, if there is one
 --   entityOf d     ==  what the reader makes of d: by the layout whose subtype is byte 2
+--   layoutNumber e ==  the refusal of each case: 9, "an entity's layout is wrong", for Unknown; 0, none, for the six kinds
 --   isUnknown e    ==  the layout was wrong
 use Prim.Native.Nat.{ℕ}
-use mathlib.Core.Bool.{Bool, true, false}
+use mathlib.Core.Bool.{Bool}
 use mathlib.Core.Option.{Option, none, some}
 use mathlib.Core.List.{List}
 use lib.ListN.{length}
+use lib.Dec.{eqb}
 use Rattle.ground.specs.Pick.{pick}
 use Rattle.ground.specs.Numbers.{byte}
 use Rattle.layout.specs.Format.{wordOf, Value, fits, valueAt}
@@ -55,11 +57,14 @@ entityIn (some k) d = entityBy k d
 unfoldable pub entityOf : List ℕ → Entity
 entityOf d = entityIn (kindBy (byte d 2)) d
 
+abbrev pub layoutNumber : Entity → ℕ
+layoutNumber Unknown = 9
+layoutNumber (Input k c) = 0
+layoutNumber (Output s k) = 0
+layoutNumber (Mixer p c) = 0
+layoutNumber (Selector p) = 0
+layoutNumber (Feature s) = 0
+layoutNumber Clock = 0
+
 unfoldable pub isUnknown : Entity → Bool
-isUnknown Unknown = true
-isUnknown (Input k c) = false
-isUnknown (Output s k) = false
-isUnknown (Mixer p c) = false
-isUnknown (Selector p) = false
-isUnknown (Feature s) = false
-isUnknown Clock = false
+isUnknown e = eqb (layoutNumber e) 9

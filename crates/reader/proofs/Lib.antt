@@ -2,3 +2,4 @@ pub mod Surveyed
 pub mod Exactly
 pub mod Shows
 pub mod Tables
+pub mod Plainly

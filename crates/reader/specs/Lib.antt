@@ -1,2 +1,3 @@
 pub mod Configuration
 pub mod Refusals
+pub mod Plainly

@@ -1,34 +1,23 @@
 -- What the reader of the 3.0 edition works with where its rules up to 9 are kept: the run is that of the cutting, and stands for its descriptors.
 --   entitiesThird k  ==  the entities of the run, as the reader hands them on
---   run-any          ==  what a node holds does not hang on the cluster descriptors
 --   run-kept         ==  the reader's run is those entities
 --   represented      ==  they stand for the run's descriptors
-use Prim.Native.Nat.{ℕ, _+_}
-use mathlib.Core.Path.{_≡_, refl, sym, ap, _∙_}
-use mathlib.Core.List.{List, [], _∷_, _++_, flatten}
-use lib.ListN.{length, take}
-use Rattle.ground.specs.Lists.{pad}
+use Prim.Native.Nat.{ℕ}
+use mathlib.Core.Path.{_≡_, ap, _∙_}
+use mathlib.Core.List.{List, [], _++_, flatten}
+use lib.ListN.{take}
 use Rattle.scan.specs.Cutting.{rest}
 use Rattle.edition3.specs.Third.{third}
-use Rattle.entities.specs.declared.Node.{Node}
 use Rattle.entities.specs.declared.Run.{Run}
-use Rattle.entities.specs.Run.{mostEntities, nodeOf, nodesFrom, blankNode, runIn}
+use Rattle.entities.specs.Run.{runIn}
 use Rattle.entities.specs.Represents.{Represents}
 use Rattle.entities.specs.RepresentsLaws.{run-represents}
+use Rattle.run3.specs.AnyBuffer.{run-any}
 use Rattle.groups.specs.Reading.{frameOf}
 use Rattle.cutting.specs.Survey.{runOf}
 use Rattle.cutting.specs.Context.{run-place, run-is, run-stands, run-cut}
 use Rattle.third.specs.Judgement.{runFor}
 use Rattle.reader3.specs.ThirdConfiguration.{KeptThird, runIn3, placeIn3, clustersIn}
-
-nodes-any : (ks : List (List ℕ)) (p : ℕ) (ds : List (List ℕ)) → nodesFrom (third ks) p ds ≡ nodesFrom (third []) p ds
-unfolding nodesFrom nodeOf
-nodes-any ks p [] = refl
-nodes-any ks p (d ∷ ds) = ap (λ (l : List Node). nodeOf (third []) p d ∷ l) (nodes-any ks (p + length d) ds)
-
-pub run-any : (ks : List (List ℕ)) (p : ℕ) (ds : List (List ℕ)) → runIn (third ks) p ds ≡ runIn (third []) p ds
-unfolding runIn
-run-any ks p ds = ap (λ (l : List Node). record { count = length ds; nodes = pad blankNode mostEntities l }) (nodes-any ks p ds)
 
 abbrev pub entitiesThird : {s b : List ℕ} → KeptThird s b → Run
 entitiesThird k = runIn (third []) (placeIn3 k) (runIn3 k)

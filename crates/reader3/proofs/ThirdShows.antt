@@ -3,35 +3,32 @@
 --   third-demand       ==  THE THEOREM, field by field of ThirdDemand
 use Prim.Native.Nat.{ℕ, _+_, _*_, _≤_, _<_}
 use mathlib.Core.Path.{_≡_, refl, sym, ap, _∙_, subst}
-use mathlib.Core.Bool.{Bool, true, false, _&&_}
+use mathlib.Core.Bool.{Bool, true, false}
 use mathlib.Core.List.{List, [], _++_}
-use mathlib.Core.Logic.{_↔_, ⊎-elim}
+use mathlib.Core.Logic.{_↔_}
 use lib.ListN.{length, getD, take, drop, length-take, List·getD-eq-default}
 use lib.Seq.{getD-append-add}
 use lib.Dec.{eqb}
 use native.Mathlib.Omega.{arith}
 use borrow.Author.Tests.{eq-eqb, ne-eqb, eqb-true, eqb-false}
 use Rattle.ground.specs.declared.Refusal.{Refusal}
-use Rattle.ground.specs.Pick.{pick, yes, no, decided, reads-eq, reads-and}
+use Rattle.ground.specs.Pick.{yes, no}
 use Rattle.ground.specs.Numbers.{byte}
-use Rattle.ground.specs.Lists.{member-at, pad, pad-at, reads-any}
+use Rattle.ground.specs.Lists.{member-at, pad, pad-at}
 use Rattle.graph.specs.Members.{_∈_}
 use Rattle.layout.specs.declared.Cluster.{Cluster}
 use Rattle.layout.specs.Layouts.{mostPins}
 use Rattle.layout.specs.Layout.{noCluster}
 use Rattle.layout3.specs.declared.Entity.{Entity}
 use Rattle.layout3.specs.Layouts.{LaidOut}
-use Rattle.layout3.specs.Layout.{entityOf}
 use Rattle.layout3.specs.Facts.{factsOf}
 use Rattle.layout3.specs.LayoutLaws.{Told, told, unknown, input, output, mixer, selector, feature, clock, pins-few, sources-laid}
 use Rattle.scan.specs.Cutting.{oneByte}
 use Rattle.scan.specs.PieceLaws.{cut-one}
-use Rattle.buffer.specs.Clusters.{twoBytes, clusterId, channelsOf}
-use Rattle.buffer.specs.Reading as buffer
+use Rattle.buffer.specs.Clusters.{twoBytes}
 use Rattle.buffer.specs.BufferLaws.{buffer-pieces}
 use Rattle.edition.specs.Edition.{ownId, sources}
-use Rattle.edition3.specs.Third.{saidBy, firstOf, channelsIn, Few, mixerLength, Keeps, givesOut, third, Rule52}
-use Rattle.links3.specs.Rules.{ClocksNamed}
+use Rattle.edition3.specs.Third.{saidBy, third}
 use Rattle.entities.specs.declared.Run.{Run}
 use Rattle.entities.specs.Run.{runIn}
 use Rattle.entities.specs.Represents.{Represents}
@@ -39,24 +36,25 @@ use Rattle.groups.specs.Reading.{frameOf}
 use Rattle.cutting.specs.Context.{run-is}
 use Rattle.ranks.specs.Order.{ordered}
 use Rattle.sweep3.specs.Sweep.{givenIds}
-use Rattle.clusters.specs.Rule13.{entering, Connected}
+use Rattle.clusters.specs.Rule13.{Connected}
 use Rattle.clusters.specs.Topology.{clusters-one}
 use Rattle.clusters3.specs.Shown.{shownCluster, clustersBy}
 use Rattle.clusters3.specs.Rule13Laws.{third-shown}
-use Rattle.clusters3.specs.InBuffer.{cluster-named, cluster-in-buffer}
+use Rattle.clusters3.specs.InBuffer.{cluster-in-buffer}
 use Rattle.records.specs.Records.{headSize, recordSize, frontOf, recordFor, shownIn}
 use Rattle.records.specs.Sheet.{recordsFor, Rule16, wholeSheet, shown-same, record-long, record-at}
 use Rattle.third.specs.declared.SheetAnswer.{SheetAnswer}
 use Rattle.third.specs.Judgement.{runFor, clustersShown, thirdVerdict, sheetRefused, sheetTaken, thirdAnswer, thirdSheet}
-use Rattle.reader3.specs.ThirdConfiguration.{placeIn3, ThirdConfiguration}
+use Rattle.reader3.specs.ThirdConfiguration.{runIn3, placeIn3, clustersIn, ThirdConfiguration}
 use Rattle.reader3.specs.ThirdRefusals.{RefusedThird}
 use Rattle.reader3.specs.ThirdRecord.{ShownKind, fedIn, ThirdRecord}
 use Rattle.reader3.specs.ThirdRecord as shown
-use Rattle.reader3.specs.Plainly.{ClockNamed, Plainly}
-use Rattle.reader3.specs.Plainly as plain
-use Rattle.reader3.specs.BothEditions.{thirdRun, thirdCluster, thirdBuffer, RefusedSheet, ThirdDemand}
+use Rattle.reader3.specs.PlainConfiguration.{PlainConfiguration}
+use Rattle.reader3.specs.BothEditions.{thirdRun, thirdCluster, thirdBuffer, RefusedSheet, PlainAlike, ThirdDemand}
 use Rattle.reader3.proofs.KeptRun.{entitiesThird, run-kept, represented}
 use Rattle.reader3.proofs.ThirdExactly.{third-accepted, third-refused}
+use Rattle.reader3.proofs.PlainSources.{clock-kind}
+use Rattle.reader3.proofs.InPlainWords.{plainly, rule13-plainly, broken-plainly, third-plain, plain-exactly}
 
 -- the answer's number and place are the verdict's
 module _ (s b : List ℕ) (room : ℕ) where
@@ -146,20 +144,6 @@ kind-shown d o = of (told d)
     of (feature l k i) = at k shown.feature
     of (clock l k i) = at k shown.clock
 
--- what is shown as 0B is a Clock Source of 001
-clock-kind : (d : List ℕ) → LaidOut d → saidBy d .kind ≡ 0x0B → byte d 2 ≡ 0x0B
-unfolding factsOf
-clock-kind d o = of (told d)
-  where
-    of : {e : Entity} → Told d e → factsOf e .kind ≡ 0x0B → byte d 2 ≡ 0x0B
-    of (unknown n) e = absurd (n o)
-    of (input l k i) e = absurd (omega arith)
-    of (output l k i) e = absurd (omega arith)
-    of (mixer l k q i) e = absurd (omega arith)
-    of (selector l k q i) e = absurd (omega arith)
-    of (feature l k i) e = absurd (omega arith)
-    of (clock l k i) e = k
-
 module _ (ks : List (List ℕ)) (d c : List ℕ) (o : LaidOut d) where
   fed-is : sources (third ks) d ≡ fedIn o
   fed-is = sources-laid d o
@@ -193,56 +177,6 @@ module _ (ks : List (List ℕ)) (d c : List ℕ) (o : LaidOut d) where
     source = λ j h. source-byte j (let m = few in omega arith);
     unused = λ j h l. source-byte j l ∙ List·getD-eq-default (fedIn o) 0 h;
   }
-
--- what an entity keeps and gives out, in bytes
-module _ {ks ds : List (List ℕ)} (c : Connected (third ks) ds) (clocks : ClocksNamed ds) (known : Rule52 ks ds) (laid : (e : List ℕ) → e ∈ ds → LaidOut e) (d : List ℕ) (m : d ∈ ds) where
-  abbrev cs : List (List ℕ)
-  cs = entering (third ks) (c .cluster) d
-
-  -- what d gives out and keeps, where it is x
-  module _ (x : Entity) (e : entityOf d ≡ x) where
-    own : factsOf x .declares ≡ true → c .cluster (ownId d) ≡ buffer.clusterIn ks (factsOf x .cluster)
-    unfolding givesOut
-    own q = c .given-out d m ∙ ap (λ (y : Entity). pick (factsOf y .declares) (buffer.clusterIn ks (factsOf y .cluster)) (firstOf cs)) e ∙ yes _ _ q
-
-    passed : factsOf x .declares ≡ false → c .cluster (ownId d) ≡ firstOf cs
-    unfolding givesOut
-    passed q = c .given-out d m ∙ ap (λ (y : Entity). pick (factsOf y .declares) (buffer.clusterIn ks (factsOf y .cluster)) (firstOf cs)) e ∙ no _ _ q
-
-    bears : factsOf x .declares ≡ true → clusterId (c .cluster (ownId d)) ≡ factsOf x .cluster
-    bears q = cluster-named ks ds c known d m (ap (λ (y : Entity). factsOf y .declares) e ∙ q) .1 ∙ ap (λ (y : Entity). factsOf y .cluster) e
-
-    keeps : Keeps ks x (length d) cs
-    keeps = subst (λ (y : Entity). Keeps ks y (length d) cs) e (c .fits d m)
-
-    clocked : factsOf x .clocked ≡ true → ClockNamed ds (factsOf x .clock)
-    clocked q = ⊎-elim (λ h. h) (λ n. absurd (clocks d m (ap (λ (y : Entity). factsOf y .clocked) e ∙ q, none n))) (decided _ (reads-any (λ y. eqb (ownId y) k && eqb (byte y 2) 0x0B) (λ y. (ownId y ≡ k) × (byte y 2 ≡ 0x0B)) (λ y. reads-and _ _ (reads-eq (ownId y) k) (reads-eq (byte y 2) 0x0B)) ds))
-      where
-        k : ℕ
-        k = factsOf x .clock
-
-        none : (ClockNamed ds k → ⊥) → (y : List ℕ) → y ∈ ds → ownId y ≡ saidBy d .clock → saidBy y .kind ≡ 0x0B → ⊥
-        none n y i f g = n (record { one = y; among = i; has = (f ∙ ap (λ (z : Entity). factsOf z .clock) e, clock-kind y (laid y i) g) })
-
-  -- with no pin nothing enters
-  no-pin : saidBy d .pins ≡ 0 → firstOf cs ≡ []
-  unfolding firstOf
-  no-pin z = rw z refl
-
-  plainly : Plainly ks ds (c .cluster) d
-  unfolding Keeps factsOf
-  plainly = go (told d) refl
-    where
-      go : {x : Entity} → Told d x → entityOf d ≡ x → Plainly ks ds (c .cluster) d
-      go (unknown n) e = absurd (n (laid d m))
-      go (input o k l) e = plain.input k (bears _ e refl) (subst (λ (y : List ℕ). Few (channelsOf y)) (sym (own _ e refl)) (keeps _ e)) (clocked _ e refl)
-      go (output o k l) e = plain.output k (passed _ e refl) (clocked _ e refl)
-      go (mixer o k q l) e =
-          let h = subst (λ (y : List ℕ). Few (channelsOf y) × (length d ≡ mixerLength (byte d 4) (channelsOf y) (channelsIn cs))) (sym (own _ e refl)) (keeps _ e) in
-          plain.mixer k (bears _ e refl) (h .0) (h .1)
-      go (selector o k q l) e = plain.selector k (passed _ e refl) (keeps _ e)
-      go (feature o k l) e = plain.feature k (passed _ e refl) (keeps _ e)
-      go (clock o k l) e = plain.clock k (passed _ e refl ∙ no-pin (ap (λ (y : Entity). factsOf y .pins) e))
 
 module _ (s b : List ℕ) (t : ThirdConfiguration s b) where
   laid : (i : ℕ) → i < length (thirdRun t) → LaidOut (getD (thirdRun t) i [])
@@ -286,17 +220,41 @@ module _ (s b : List ℕ) (t : ThirdConfiguration s b) where
   room-enough : (room : ℕ) → wholeSheet ≤ room → Rule16 (thirdRun t) room
   room-enough room h = let m = t .kept .rule8 .1 in omega arith
 
+module _ (s b d : List ℕ) (h : wholeSheet ≤ length d) where
+  accepted : (thirdAnswer s b (length d) .number ≡ 0) ↔ ThirdConfiguration s b
+  accepted = (
+    λ e. third-accepted s b (length d) .0 (sym (answer-number s b (length d)) ∙ e) .0,
+    λ t. answer-number s b (length d) ∙ accepted-for s b t (length d) (room-enough s b t (length d) h),
+  )
+
+  accepted-plainly : (thirdAnswer s b (length d) .number ≡ 0) ↔ PlainConfiguration s b
+  accepted-plainly = (λ e. plain-exactly s b .0 (accepted .0 e), λ t. accepted .1 (plain-exactly s b .1 t))
+
+module _ (s b : List ℕ) (t : ThirdConfiguration s b) (p : PlainConfiguration s b) where
+  one-plainly : PlainAlike t p
+  unfolding third-plain
+  one-plainly = let u = third-plain p in record {
+    cutting = one-cutting s b t u;
+    buffer = one-buffer s b t u;
+    descriptors = one-descriptors s b t u;
+    clusters = one-clusters s b t u;
+  }
+
 pub third-demand : (s b : List ℕ) → ThirdDemand s b
 third-demand s b = record {
-  accepted = λ d h. (λ e. third-accepted s b (length d) .0 (sym (answer-number s b (length d)) ∙ e) .0, λ t. answer-number s b (length d) ∙ accepted-for s b t (length d) (room-enough s b t (length d) h));
+  accepted = accepted s b;
+  accepted-plainly = accepted-plainly s b;
   refused = refused-both s b;
   refuses = refuses s b;
   one-cutting = one-cutting s b;
   one-buffer = one-buffer s b;
   one-descriptors = one-descriptors s b;
   one-clusters = one-clusters s b;
+  one-plainly = one-plainly s b;
   from-buffer = λ t d m n. cluster-in-buffer (thirdBuffer t) (thirdRun t) (t .connected) (t .rule52) d m (t .kept .rule9 d m) (λ e. n (clock-kind d (t .kept .rule9 d m) e));
-  plainly = λ t d m. plainly (t .connected) (t .clocks) (t .rule52) (t .kept .rule9) d m;
+  plainly = λ t. plainly (thirdBuffer t) (thirdRun t) (t .kept .rule51 .ids) (t .kept .rule9) (t .connected) (t .clocks) (t .rule52);
+  rule13-plainly = λ k. rule13-plainly (clustersIn k) (runIn3 k) (k .rule51 .ids) (k .rule9);
+  broken-plainly = λ k. broken-plainly (clustersIn k) (runIn3 k) (k .rule51 .ids) (k .rule9);
   answer-shows = answer-shows s b;
   sheet-shows = sheet-shows s b;
   record-shows = record-shows s b;

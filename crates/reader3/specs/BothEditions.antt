@@ -2,16 +2,19 @@
 -- for Audio 1.0.
 --   thirdRun t, thirdCluster t, thirdBuffer t  ==  of the configuration t: the run's descriptors, the clusters on IDs, the cluster descriptors of the buffer
 --   RefusedSheet s b d  ==  what the reader answers and leaves where it refuses: number and place are those of the table, no entity, the sheet as it stood
+--   PlainAlike t p      ==  the plain configuration p has the cuttings, the run's descriptors and the clusters of t
 --   ThirdDemand s b     ==  accepted: with 1,024 bytes or more lent the number is 0 exactly where the bytes are a configuration and a cluster buffer of the edition
+--                           accepted-plainly: .. exactly where they are such in plain words, with no search
 --                           refused: number and place are exactly those of the table; refuses: and what a refusal leaves
 --                           one-cutting, one-buffer, one-descriptors, one-clusters: what keeps the rules is one: the cutting of the configuration, that of the buffer,
---                           the run's descriptors byte by byte, the cluster on each ID
---                           from-buffer: the cluster on the output of each entity but a Clock Source is one of the buffer's descriptors; plainly: what each
---                           entity keeps and gives out, in bytes
+--                           the run's descriptors byte by byte, the cluster on each ID; one-plainly: and what keeps them in plain words is the same
+--                           from-buffer: the cluster on the output of each entity but a Clock Source is one of the buffer's descriptors
+--                           plainly: what each entity gives out and keeps, in bytes; rule13-plainly, broken-plainly: so the row 13 of the table, which stands
+--                           behind 52: the rule, and who breaks it
 --                           answer-shows, sheet-shows, record-shows, record-bytes: the answer, and the sheet, which shows them
 --   EitherConfiguration s b  ==  the bytes are a configuration of the 3.0 edition, whose protocol byte is 0x30, or one of Audio 1.0 with another
---   Choice s b          ==  THE CHOICE: by the protocol byte of the AudioControl interface, at offset 7, 0x30 or another; where no AudioControl interface stands
---                           behind the rules 1 to 4, which are the same for both, as by Audio 1.0. either-accepted: so demand 3 of both editions together
+--   Choice s b          ==  THE CHOICE: by the protocol byte of the AudioControl interface, at offset 7, 0x30 or another; where the rules 1
+--                           to 4 are not kept both editions refuse alike, and the answer is Audio 1.0's (unopened). either-accepted: so demand 3 of both editions together
 use Prim.Native.Nat.{ℕ, _*_, _≤_, _<_}
 use mathlib.Core.Path.{_≡_}
 use mathlib.Core.List.{List, [], _++_}
@@ -20,19 +23,21 @@ use lib.ListN.{length, getD, take, drop}
 use Rattle.ground.specs.Numbers.{byte}
 use Rattle.graph.specs.Members.{_∈_}
 use Rattle.edition.specs.Edition.{ownId}
-use Rattle.edition3.specs.Third.{third}
+use Rattle.edition3.specs.Third.{third, Rule52}
 use Rattle.cutting.specs.Rules1to9.{Opened}
+use Rattle.clusters.specs.Rule13.{Rule13, Broken}
 use Rattle.clusters3.specs.Shown.{shownCluster}
 use Rattle.records.specs.Records.{recordSize, recordFor}
 use Rattle.records.specs.Sheet.{recordsFor, Rule16, wholeSheet}
 use Rattle.topology.specs.Reading.{readingOf, sheetOf}
 use Rattle.third.specs.Judgement.{thirdAnswer, thirdSheet}
 use Rattle.protocol.specs.Protocol.{version3, sheetReading, eitherReading, eitherSheet}
-use Rattle.reader3.specs.ThirdConfiguration.{runIn3, clustersIn, ThirdConfiguration}
+use Rattle.reader3.specs.ThirdConfiguration.{KeptThird, runIn3, clustersIn, ThirdConfiguration}
 use Rattle.reader3.specs.ThirdRefusals.{RefusedThird}
 use Rattle.reader.specs.Configuration.{Configuration}
 use Rattle.reader3.specs.ThirdRecord.{ThirdRecord}
-use Rattle.reader3.specs.Plainly.{Plainly}
+use Rattle.reader3.specs.Plainly.{Plainly, KeptPlainly, BrokenPlainly}
+use Rattle.reader3.specs.PlainConfiguration.{PlainConfiguration}
 
 module _ {s b : List ℕ} (t : ThirdConfiguration s b) where
   abbrev pub thirdRun : List (List ℕ)
@@ -49,8 +54,15 @@ pub record RefusedSheet (s b d : List ℕ) : Type 0 where
   pub no-entities : thirdAnswer s b (length d) .entities ≡ 0
   pub sheet : thirdSheet s b d ≡ d
 
+pub record PlainAlike {s b : List ℕ} (t : ThirdConfiguration s b) (p : PlainConfiguration s b) : Type 0 where
+  pub cutting : t .kept .opened .descriptors ≡ p .opened .descriptors
+  pub buffer : thirdBuffer t ≡ p .rule51 .pieces
+  pub descriptors : thirdRun t ≡ p .rule6 .run
+  pub clusters : (d : List ℕ) → d ∈ thirdRun t → thirdCluster t (ownId d) ≡ p .cluster (ownId d)
+
 pub record ThirdDemand (s b : List ℕ) : Type 0 where
   pub accepted : (d : List ℕ) → wholeSheet ≤ length d → (thirdAnswer s b (length d) .number ≡ 0) ↔ ThirdConfiguration s b
+  pub accepted-plainly : (d : List ℕ) → wholeSheet ≤ length d → (thirdAnswer s b (length d) .number ≡ 0) ↔ PlainConfiguration s b
   pub refused : (room n p : ℕ) → (n ≡ 0 → ⊥)
       → ((thirdAnswer s b room .number ≡ n) × (thirdAnswer s b room .place ≡ p)) ↔ RefusedThird s b room n p
   pub refuses : (d : List ℕ) → (thirdAnswer s b (length d) .number ≡ 0 → ⊥) → RefusedSheet s b d
@@ -58,8 +70,12 @@ pub record ThirdDemand (s b : List ℕ) : Type 0 where
   pub one-buffer : (t u : ThirdConfiguration s b) → thirdBuffer t ≡ thirdBuffer u
   pub one-descriptors : (t u : ThirdConfiguration s b) → thirdRun t ≡ thirdRun u
   pub one-clusters : (t u : ThirdConfiguration s b) (d : List ℕ) → d ∈ thirdRun t → thirdCluster t (ownId d) ≡ thirdCluster u (ownId d)
+  pub one-plainly : (t : ThirdConfiguration s b) (p : PlainConfiguration s b) → PlainAlike t p
   pub from-buffer : (t : ThirdConfiguration s b) (d : List ℕ) → d ∈ thirdRun t → (byte d 2 ≡ 0x0B → ⊥) → thirdCluster t (ownId d) ∈ thirdBuffer t
   pub plainly : (t : ThirdConfiguration s b) (d : List ℕ) → d ∈ thirdRun t → Plainly (thirdBuffer t) (thirdRun t) (thirdCluster t) d
+  pub rule13-plainly : (k : KeptThird s b) → Rule52 (clustersIn k) (runIn3 k) → Rule13 (third (clustersIn k)) (runIn3 k) ↔ KeptPlainly (clustersIn k) (runIn3 k)
+  pub broken-plainly : (k : KeptThird s b) → Rule52 (clustersIn k) (runIn3 k) → (d : List ℕ) → d ∈ runIn3 k
+      → Broken (third (clustersIn k)) (runIn3 k) d ↔ BrokenPlainly (clustersIn k) (runIn3 k) d
   pub answer-shows : (t : ThirdConfiguration s b) (room : ℕ) → Rule16 (thirdRun t) room → thirdAnswer s b room ≡ record { number = 0; place = 0; entities = length (thirdRun t) }
   pub sheet-shows : (t : ThirdConfiguration s b) (d : List ℕ) → Rule16 (thirdRun t) (length d)
       → thirdSheet s b d ≡ recordsFor (third (thirdBuffer t)) (thirdRun t) (λ x. shownCluster (thirdCluster t x)) ++ drop (length (thirdRun t) * recordSize) d

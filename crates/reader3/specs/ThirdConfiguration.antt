@@ -1,5 +1,6 @@
 -- Demand 3 for the 3.0 edition, what there must be (document 02, No. 12: "For this edition demand 3 reads these rules, those of the cluster buffer among them,
--- and its cutting covers that buffer too"). "Rules 7, 14, 15 and 17 are not applied." Nothing here searches.
+-- and its cutting covers that buffer too"). "Rules 7, 14, 15 and 17 are not applied." Nothing here searches but `clusterIn`, by which
+-- `third` finds the descriptor of a cluster that an entity names; PlainConfiguration says the same without it, and the two are one (ThirdDemand, accepted-plainly).
 --   KeptThird s b       ==  the rules 1 to 4, which are every edition's; the header, the run and the next group by this edition's rules 5 and 6; 8; the cutting
 --                           of the cluster buffer b, rule 51; and 9, by this edition's layouts
 --   runIn3 k, placeIn3 k, clustersIn k  ==  the run's descriptors, where the run begins, and the cluster descriptors of the buffer

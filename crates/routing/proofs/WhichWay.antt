@@ -1,5 +1,5 @@
 -- Document 02, No. 8, proved.
-use Prim.Native.Nat.{ℕ, suc, _-_, _*_, _≤_, _<_}
+use Prim.Native.Nat.{ℕ, suc, _-_, _≤_, _<_}
 use mathlib.Core.Path.{_≡_, refl, sym, ap, _∙_, subst}
 use mathlib.Core.Bool.{Bool, true, false}
 use mathlib.Core.Logic.{_⊎_, inl, inr, ⊎-elim}
@@ -8,13 +8,14 @@ use native.Mathlib.Omega.{arith}
 use native.Mathlib.Nat.{min-le-right}
 use lib.Dec.{eqb, ltb}
 use lib.ListN.{length, drop}
-use borrow.Author.Tests.{eq-eqb, ne-eqb, lt-ltb, le-ltb, le-leb}
+use borrow.Author.Tests.{eq-eqb, ne-eqb, lt-ltb, le-ltb}
 use Rattle.ground.specs.declared.Refusal.{Refusal}
 use Rattle.ground.specs.Pick.{Reads, pick, yes, no, shows, refutes, decided, reads-eq, reads-lt}
 use Rattle.ground.specs.declared.Place.{Place}
 use Rattle.ground.specs.declared.Place.the-variants.{Nowhere, At}
-use Rattle.ground.specs.Refuse.{none, refuse, refuse-on}
+use Rattle.ground.specs.Refuse.{none, refuse}
 use Rattle.ground.specs.Lists.{member-index}
+use Rattle.ground.specs.Rows.{Rows, end, row, FirstBroken}
 use Rattle.graph.specs.Members.{_∈_}
 use Rattle.graph.specs.Ranked.{ranks-all, order-short}
 use Rattle.edition.specs.Edition.{ownId}
@@ -32,7 +33,7 @@ use Rattle.cutting.specs.Survey.{surveyOf}
 use Rattle.topology.specs.Reading.{judgedThen, roomJudged, verdictOf}
 use Rattle.topology.specs.Verdict.{judged-chain, verdict-whole}
 use Rattle.reader.specs.Configuration.{runOf, Configuration}
-use Rattle.reader.specs.Refusals.{Refused}
+use Rattle.reader.specs.Refusals.{tableOfRows, Refused}
 use Rattle.reader.proofs.Surveyed.{entitiesOf, survey-kept, represented}
 use Rattle.reader.proofs.Exactly.{accepted-exactly, refused-exactly}
 use Rattle.upstream.specs.declared.Listing.{Listing}
@@ -206,6 +207,33 @@ module _ (s : List ℕ) (x room : ℕ) where
       go (inl e) = absurd (sixteen _ n p z f (sym (judged-chain s .on e (roomJudged (surveyOf s) sheet none)) ∙ given))
       go (inr m) = reader-refuses n p z (sym (judged-chain s .stays m (roomJudged (surveyOf s) sheet none)) ∙ given)
 
+-- no row of a table gives the number m at the place p
+Never : ℕ → ℕ → Rows → Type 0
+Never m p end = Unit {0}
+Never m p (row n K B behind) = (m ≡ n → B p → ⊥) × ((k : K) → Never m p (behind k))
+
+never-first : (m p : ℕ) (t : Rows) → Never m p t → FirstBroken t m p → ⊥
+unfolding Never
+never-first m p end n f = f
+never-first m p (row i K B behind) n (inl (e, b)) = n .0 e b
+never-first m p (row i K B behind) n (inr (k, f)) = never-first m p (behind k) (n .1 k) f
+
+-- of the rows only the last has the number 16, and it is kept with a whole sheet, by row 8
+never-refused : (s : List ℕ) (p : ℕ) → Never 16 p (tableOfRows s wholeSheet)
+unfolding Never
+never-refused s p = (λ x y. omega arith, λ r1. (λ x y. omega arith, λ r2. (λ x y. omega arith, λ r3. (λ x y. omega arith, λ r4. (λ x y. omega arith, λ r5. (λ x y. omega arith, λ r6. (λ x y. omega arith, λ r7. (λ x y. omega arith, λ h. (λ x y. omega arith, λ r9. (λ x y. omega arith, λ r17. (λ x y. omega arith, λ r10. (λ x y. omega arith, λ r11. (λ x y. omega arith, λ r12. (λ x y. omega arith, λ r13. (λ x y. omega arith, λ r14. (λ x y. omega arith, λ r15. (λ x y. y .1 (let few = h .1 in omega arith), λ z. tt)))))))))))))))))
+
+never-16 : (s : List ℕ) (x room : ℕ) → listingOf s x room .number ≡ 16 → ⊥
+unfolding refusedWith listed
+never-16 s x room = go (answered s x room)
+  where
+    go : {r : Listing} → RightListing s x room r → r .number ≡ 16 → ⊥
+    go (statement.by-reader {n} {p} z f) e = never-first 16 p (tableOfRows s wholeSheet) (never-refused s p) (subst (λ (m : ℕ). Refused s wholeSheet m p) e f)
+    go (statement.by-id c n) e = omega arith
+    go (statement.by-many c f h) e = omega arith
+    go (statement.by-room c f h b) e = omega arith
+    go (statement.all-routes c f h b) e = omega arith
+
 -- where a listing is refused the list stays
 ways-stay : (ws : List Way) (l : List ℕ) → (waysListing ws (length l) .number ≡ 0 → ⊥) → waysList ws l ≡ l
 unfolding waysListing waysList listed
@@ -232,6 +260,7 @@ pub which-way : WhichWay
 which-way = record {
   answered = answered;
   but-16 = but-16;
+  never-16 = never-16;
   one-answer = one-answer;
   list-holds = λ s x l c d ws f h r. holds s c x f h l r;
   list-stays = list-stays;

@@ -1,1 +1,2 @@
 pub mod Unknown
+pub mod AnyBuffer

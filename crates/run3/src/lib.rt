@@ -26,7 +26,7 @@ pub fn facts_at(config: &[u8], at: usize) -> Facts
     layout3::facts_of(layout3::read(scan::descriptor_at(config, at)))
 }
 
-// The descriptor d at a place.
+// The descriptor d at a place. What a node holds does not hang on the cluster descriptors (`run-any`), so none are given: `third []`.
 fn node_of(d: &[u8], place: usize) -> Node
     requires { ⌜ place + length (now d) < 2 ^ 64 ⌝ }
     ensures { λ r. ⌜ r ≡ nodeOf (third []) place (now (d .entry)) ⌝ }
@@ -42,7 +42,7 @@ fn node_of(d: &[u8], place: usize) -> Node
     }
 }
 
-// The descriptors that stand one after another from a place on, as entities.
+// The descriptors that stand one after another from a place on, as entities: the same whatever the cluster descriptors (`run-any`).
 pub fn read_run(s: &[u8], from: usize) -> Run
     ensures { λ r. ⌜ r ≡ runIn (third []) from (rest (now (s .entry)) from) ⌝ }
 {

@@ -1,5 +1,5 @@
 // The program `sheet3` (document 02, No. 12), for a person: reads a configuration of either edition from standard input and its cluster buffer from the file
-// `clusters` in the folder that it runs in, lends 1,024 bytes and prints as `sheet` does. A file that cannot be read is `cannot read clusters`, and nothing else.
+// `clusters` in the folder that it runs in, lends 1,024 bytes and prints as `sheet` does. A file that cannot be read, or not whole, is `cannot read clusters`, and nothing else.
 ghost use Rattle.io.specs.Counts.{Counts};
 use libc::STDIN_FILENO;
 use libc::STDOUT_FILENO;
@@ -8,13 +8,13 @@ use topology::Reading;
 // One byte more than a configuration may have: a longer input reads as that long, and is refused for it.
 const ROOM: usize = 4097;
 
-// One byte more than a step of `lend3` takes. No paper bounds the buffer, a program has to: a longer file is not taken for a good one of 8,192 bytes.
-const CLUSTERS: usize = 8193;
+// As many bytes as a step of `lend3` takes. No paper bounds the buffer, a program has to: a longer file is never taken for a whole one.
+const CLUSTERS: usize = 8192;
 
 // The bytes of the lent sheet.
 const SHEET: usize = 1024;
 
-// What was read of a file: whether it could be read, and how many bytes.
+// What was read of a file: whether that is all of it, and how many bytes.
 struct Content {
     good: bool,
     count: usize,
@@ -30,7 +30,7 @@ fn is_over(file: i32) -> bool {
     libc::read(file, &mut more) == 0
 }
 
-// The bytes of the file, as many of them as there is room for.
+// The bytes of the file; good where there was room for all of them.
 fn read_file(room: &mut [u8]) -> Content
     ensures { λ r. ⌜ Counts (r .count) (now (room .exit)) ⌝ }
 {
@@ -42,7 +42,7 @@ fn read_file(room: &mut [u8]) -> Content
         };
     }
     let count = io::read_full(file, room);
-    let good = count == room.len() || is_over(file);
+    let good = is_over(file);
     libc::close(file);
     Content { good, count }
 }

@@ -1,6 +1,7 @@
 -- Document 01, refusal 11: "a source ID is 0, unknown, or an Output Terminal's". It speaks of the run's descriptors, each a list of bytes, for
 -- any edition.
---   WrongSource ed ds x ==  a source ID x is 0, unknown in the run ds, or borne there by an entity with no output (an Output Terminal)
+--   WrongSource ed ds x ==  a source ID x is 0, unknown in the run ds, or borne there by an entity with no output (an Output Terminal; in the 3.0
+--                           edition a Clock Source too)
 --   WrongSources ed ds d  ==  a source ID of d is such
 --   Rule11 ed ds        ==  of no descriptor of the run is it so
 use Prim.Native.Nat.{ℕ}

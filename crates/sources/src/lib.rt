@@ -53,7 +53,7 @@ fn find(marks: &[u8; 256], id: u8) -> Found
     Found::Entity(mark == 2)
 }
 
-// Whether a source ID is 0, unknown, or an Output Terminal's; the else of the lookup is the refusal.
+// Whether a source ID is 0, unknown, or borne by an entity with no output: an Output Terminal, a Clock Source; the else of the lookup is the refusal.
 fn wrong_source(marks: &[u8; 256], source: u8) -> bool
     ensures { λ r. ⌜ r ≡ wrongBy (now (marks .entry)) source ⌝ }
 {

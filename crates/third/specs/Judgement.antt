@@ -1,8 +1,8 @@
 -- The rules of the 3.0 edition in their order: "the lowest number that applies is given" reads 1 to 6, 8, 51, 9, 10, 11, 12, 52, 13, 16 (document 02, No. 12).
---   runFor s f           ==  the run of the configuration s, where its frame is f
---   unlaid b d           ==  the test that d has none of the layouts
---   runRefused s b from count header  ==  the first of 8, 51 and 9 of the descriptors from place from on, count of them, the header at header
---   runJudged s b f r    ==  the same of the configuration's run; r where none applies
+--   runFor s f           ==  the run of the configuration s, where its frame is f; it does not hang on the cluster descriptors (run3, `run-any`), so none are given
+--   unlaid before d      ==  the test that d has none of the layouts
+--   runRefused s b from count header r  ==  the first of 8, 51 and 9 of the descriptors from place from on, count of them, the header at header; r where none applies
+--   runJudged s b f r    ==  the same of the configuration's run
 --   clustersJudged s b run r  ==  the first of 52 and 13 that applies; r where neither does
 --   linksJudged s b run r  ==  the first of 10, 11, 12, 52 and 13 that applies; r where none does
 --   frameJudged s b f r  ==  the first of all behind 6 that applies; r where none does
@@ -54,15 +54,13 @@ unfoldable pub runFor : List ℕ → Frame → Run
 runFor s f = runIn (third []) (f .run) (rest (take (f .end) s) (f .run))
 
 abbrev pub unlaid : List (List ℕ) → List ℕ → Bool
-unlaid b d = isUnknown (entityOf d)
+unlaid before d = isUnknown (entityOf d)
 
-unfoldable pub runRefused : List ℕ → List ℕ → ℕ → ℕ → ℕ → Refusal
-runRefused s b from count header = refuse 8 (keptAt (within 1 count mostEntities) header) (refuse 51 (breach51 b) (refuse 9 (searched unlaid s from) none))
+abbrev pub runRefused : List ℕ → List ℕ → ℕ → ℕ → ℕ → Refusal → Refusal
+runRefused s b from count header r = refuse 8 (keptAt (within 1 count mostEntities) header) (refuse 51 (breach51 b) (refuse 9 (searched unlaid s from) r))
 
 unfoldable pub runJudged : List ℕ → List ℕ → Frame → Refusal → Refusal
-runJudged s b f r =
-    refuse 8 (keptAt (within 1 (length (rest (take (f .end) s) (f .run))) mostEntities) (f .header))
-    (refuse 51 (breach51 b) (refuse 9 (searched unlaid (take (f .end) s) (f .run)) r))
+runJudged s b f r = runRefused (take (f .end) s) b (f .run) (length (rest (take (f .end) s) (f .run))) (f .header) r
 
 unfoldable pub clustersJudged : List ℕ → List ℕ → Run → Refusal → Refusal
 clustersJudged s b run r = refuse 52 (breach52 s b run) (refuse 13 (breach13 s b run (givenClusters b s run)) r)

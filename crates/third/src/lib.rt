@@ -3,6 +3,7 @@
 // entities there are; and for every lent sheet the entities' records in it, or the sheet as it stood.
 ghost use mathlib.Core.Path.{_≡_};
 ghost use lib.ListN.{length};
+ghost use Rattle.ground.specs.Refuse.{none};
 ghost use Rattle.third.specs.Judgement.{nothingFound, runRefused, clusteredIn, linkedIn, framedIn, thirdFinding, sheetRefused, thirdAnswer, thirdSheet};
 ghost use Rattle.ranks.specs.Order.{ordered};
 use entities::Run;
@@ -48,7 +49,7 @@ fn nothing_found(number: u8, place: usize) -> Finding
 
 // Rules 8, 51 and 9 of a run from a place on, count descriptors long, behind the header.
 fn judge_run(s: &[u8], clusters: &[u8], from: usize, count: usize, header: usize) -> Refusal
-    ensures { λ r. ⌜ r ≡ runRefused (now (s .entry)) (now (clusters .entry)) from count header ⌝ }
+    ensures { λ r. ⌜ r ≡ runRefused (now (s .entry)) (now (clusters .entry)) from count header none ⌝ }
 {
     if count < 1 {
         return Refusal {

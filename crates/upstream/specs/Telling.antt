@@ -5,7 +5,7 @@
 --   pathOf p         ==  the IDs of a path
 --   Standing p       ==  no more may follow than 32, and there are places for them all
 --   Further p x q    ==  q is the path p with the ID x behind it, and one less may follow
---   Ready p t        ==  p stands, and what was told so far is bounded by the routes told: 33 bytes for each
+--   Ready p t        ==  p stands, and what was told so far is bounded by the routes told, 257 at most: 33 bytes for each
 --   Progress, soFar t l  ==  how many routes were told, how many bytes they take, and the list
 --   putIn l at bs    ==  the list l with the bytes bs at a place, where they have room there; else l
 --   tell is t        ==  a route with the IDs is told, and 00 after the last; nothing once there are more routes than are listed
@@ -44,8 +44,8 @@ pub record Further (p : Path) (x : ℕ) (q : Path) : Type 0 where
 
 pub record Ready (p : Path) (t : Tally) : Type 0 where
   pub stands : Standing p
-  pub few : t .routes ≤ 257
-  pub short : t .written ≤ t .routes * 33
+  pub few : t .routes ≤ mostRoutes + 1
+  pub short : t .written ≤ t .routes * (mostDepth + 1)
 
 pub record Progress : Type 0 where
   pub routes : ℕ

@@ -99,8 +99,8 @@ ways-short named (suc n) x w m = go (ways-short named n) (named x) m
     go h (y ∷ ys) a = pins-short (waysUp named n) n h x 0 (y ∷ ys) w a
 
 record Bounded (t : Progress) : Type 0 where
-  few : t .routes ≤ 257
-  short : t .written ≤ t .routes * 33
+  few : t .routes ≤ mostRoutes + 1
+  short : t .written ≤ t .routes * (mostDepth + 1)
 
 bounded-tell : (is : List ℕ) (t : Progress) → length is ≤ 32 → Bounded t → Bounded (tell is t)
 unfolding tell

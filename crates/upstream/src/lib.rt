@@ -6,7 +6,7 @@ ghost use Prim.Native.Nat.{_+_, _*_, _≤_, _^_, _<_};
 ghost use mathlib.Core.List.{[], _∷_, _++_};
 ghost use lib.ListN.{length};
 ghost use Rattle.upstream.specs.Ways.{waysUp, behindAll};
-ghost use Rattle.upstream.specs.Telling.{sourcesBy, mostDepth, pathOf, Standing, Further, Ready, soFar, putIn, tell, tellAll};
+ghost use Rattle.upstream.specs.Telling.{sourcesBy, mostDepth, mostRoutes, pathOf, Standing, Further, Ready, soFar, putIn, tell, tellAll};
 ghost use Rattle.upstream.specs.Listing.{Counted, refusedWith, waysListing, waysList};
 use entities::Node;
 use ground::index_of;
@@ -72,7 +72,7 @@ fn step(path: Path, id: u8) -> Path
 // The IDs of a path, and 00 after the last, put into the list where they have room.
 fn put_route(list: &mut [u8], at: usize, path: Path)
     requires { ⌜ Standing path ⌝ }
-    requires { ⌜ at + 33 < 2 ^ 64 ⌝ }
+    requires { ⌜ at + (mostDepth + 1) < 2 ^ 64 ⌝ }
     ensures { λ _. ⌜ now (list .exit) ≡ putIn (now (list .entry)) at (pathOf path ++ 0 ∷ []) ⌝ }
 {
     let n = DEPTH - path.left;
@@ -90,7 +90,7 @@ fn put_route(list: &mut [u8], at: usize, path: Path)
 // One route more is counted, also where it has no room: the walk that counts is lent nothing.
 fn tell_route(path: Path, told: Tally, list: &mut [u8]) -> Tally
     requires { ⌜ Ready path told ⌝ }
-    requires { ⌜ told .routes ≤ 256 ⌝ }
+    requires { ⌜ told .routes ≤ mostRoutes ⌝ }
     ensures { λ r. ⌜ soFar r (now (list .exit)) ≡ tell (pathOf path) (soFar told (now (list .entry))) ⌝ }
 {
     put_route(list, told.written, path);
@@ -182,7 +182,8 @@ fn count(config: &[u8], firsts: &[usize; 256], counts: &[u8; 256], id: u8) -> Ta
     walk(config, firsts, counts, id, &mut none[..0])
 }
 
-// Lists every way upstream from an ID. One walk counts, another then writes.
+// Lists every way upstream from an ID. One walk counts, another then writes. Every input is taken; of tables that no reader made, in which no way
+// comes to an end, the walk may be as long as there are ways of 32 entities.
 pub fn list_ways<'a>(
     config: &[u8],
     firsts: &'a [usize; 256],

@@ -4,6 +4,7 @@
 --   count-none, count-many, wrong-layout, judged-on  ==  the ways out of judge_list
 --   entities-chain       ==  what comes behind the refusals of the entities is reached exactly where none of them is given
 --   write-refused, write-room, write-whole  ==  the ways out of write
+--   writes-one           ==  two results that the writer's contract allows are equal, and so are the two buffers
 use Prim.Native.Nat.{ℕ, _+_, _-_, _/_, _%_, _≤_, _<_}
 use mathlib.Core.Path.{_≡_, refl, sym, ap, _∙_}
 use mathlib.Core.Bool.{Bool, true, false}
@@ -28,7 +29,7 @@ use Rattle.writing.specs.declared.EntityList.{EntityList}
 use Rattle.writing.specs.declared.Wrote.{Wrote}
 use Rattle.writing.specs.declared.Judged.{Judged}
 use Rattle.fields.specs.Listed.{Listed}
-use Rattle.writing.specs.Writing.{mostNumbers, mostRun, listOf, descriptorsOf, wholeOf, writtenOf, breach8, breach9, entitiesThen, breach47, breach48, roomThen, writerVerdict, Answered, Writes, LaidRun, JudgedRun}
+use Rattle.writing.specs.Writing.{mostNumbers, mostRun, listOf, descriptorsOf, wholeOf, writtenOf, breach8, breach9, entitiesThen, breach47, breach48, roomThen, writerVerdict, answersIn, Answered, Writes, LaidRun, JudgedRun}
 use Rattle.writing.specs.LaidLaws.{listed-count}
 
 module _ (v : Refusal) (w before : List ℕ) where
@@ -157,3 +158,18 @@ module _ (ls : List Listed) (cs out : List ℕ) (r : Refusal) (size : ℕ) (t : 
     write-whole z after a h =
         let e = entities-chain (descriptorsOf ls) .on (sym (ap (λ (x : Refusal). x .number) (t .same)) ∙ z) (roomThen cs (flatten (descriptorsOf ls)) (length before)) in
         rw e (rw (f ∙ t .bytes z) at h)
+
+-- ---- the result is settled
+
+made-same : (n m p q w v : ℕ) → n ≡ m → p ≡ q → w ≡ v → _≡_ {A = Wrote} (record { number = n; place = p; written = w }) (record { number = m; place = q; written = v })
+made-same n m p q w v e f g = rw (e, f, g) refl
+
+pub writes-one : (ls : List Listed) (cs before a e : List ℕ) (r q : Wrote) → Writes ls cs before a r → Writes ls cs before e q → (r ≡ q) × (a ≡ e)
+writes-one ls cs before a e r q x y =
+    let v : answersIn r ≡ answersIn q = x .refused ∙ sym (y .refused) in (
+      made-same (r .number) (q .number) (r .place) (q .place) (r .written) (q .written)
+          (ap (λ (z : Refusal). z .number) v)
+          (ap (λ (z : Refusal). z .place) v)
+          (x .written ∙ sym (y .written)),
+      x .lent ∙ sym (y .lent),
+    )

@@ -158,7 +158,7 @@ module _ (v : List ℕ) (l : EntityList) (few : l .count ≤ 32) where
           pub turn-room : at + size ≤ length after
           turn-room = let n = laid-long in let k = told .0 in let r = room in omega arith
 
-          pub turn-fits : at + size ≤ 8160
+          pub turn-fits : at + size ≤ mostRun
           turn-fits = let n = after-long in let r = turn-room in omega arith
 
           same : part after at (at + size) ≡ d

@@ -20,7 +20,7 @@
 --   entityRows ds behind  ==  the rows 8, 9, 17 and 10 to 13, of the descriptors of a list, and the rows behind them
 --   roomRows cs run m  ==  the rows 47 and 48
 --   writerRows ls cs m  ==  all of them, and 47 and 48
-use Prim.Native.Nat.{ℕ, suc, _+_, _/_, _%_, _≤_, _<_}
+use Prim.Native.Nat.{ℕ, _+_, _*_, _/_, _%_, _≤_, _<_}
 use mathlib.Core.Path.{_≡_}
 use mathlib.Core.Bool.{Bool, _||_}
 use mathlib.Core.Logic.{_⊎_}
@@ -56,7 +56,7 @@ abbrev pub mostNumbers : ℕ
 mostNumbers = 247
 
 abbrev pub mostRun : ℕ
-mostRun = 8160
+mostRun = mostEntities * mostLong
 
 abbrev pub listOf : List ℕ → EntityList → List Listed
 listOf v l = map (listedWith v) (pad blankItem (l .count) (l .items))

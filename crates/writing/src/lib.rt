@@ -14,7 +14,7 @@ use ground::Refusal;
 pub const MOST_NUMBERS: usize = 247;
 
 // The most bytes of a run: 32 descriptors of 255.
-const MOST_RUN: usize = 8160;
+const MOST_RUN: usize = entities::MOST_ENTITIES * laying::MOST_LONG;
 
 // Byte 1 of the header, as of every descriptor of the run.
 const CLASS: u8 = 0x24;

@@ -82,12 +82,12 @@ fn sheets() -> Vec<Run> {
     let mut unknown = console();
     unknown.clusters.remove(2);
     let (headset, buffer) = (basic_headset(Basic::Taken, 2), console().buffer());
-    // What does not fit within 8,193 bytes is cut short there; what fits is not.
+    // A file of more than 8,192 bytes is never taken for a whole one, even where a descriptor ends there.
     let filled = |bytes: usize| {
         let more = cluster3(0xFFFF, 1, &vec![0; bytes - buffer.len() - 7]);
         [buffer.clone(), more].concat()
     };
-    let ends_there = [filled(STEP + 1), vec![1; 4000]].concat();
+    let ends_there = [filled(STEP), vec![1; 4000]].concat();
     let mut runs = vec![
         of("sheet3", &headset),
         of("sheet3_mono", &basic_headset(Basic::Taken, 1)),
@@ -106,7 +106,7 @@ fn sheets() -> Vec<Run> {
         sheet("sheet3_8192", console().config(), filled(STEP)),
         sheet("sheet3_8193", console().config(), filled(STEP + 1)),
         sheet("sheet3_8194", console().config(), filled(STEP + 2)),
-        sheet("sheet3_ends_at_8193", console().config(), ends_there),
+        sheet("sheet3_ends_at_8192", console().config(), ends_there),
     ];
     let mut rng = Rng::new(33);
     for index in 1..=4 {

@@ -1,10 +1,10 @@
 -- The ways of an admission.
 use borrow.Author.Needs.{needs}
-use Rattle.duet.proofs.Admitting.{away, let-in, sheet-holds, draft-holds}
+use Rattle.duet.proofs.Admitting.{away, settled, sheet-holds, draft-holds}
 use Rattle.duet.proofs.admit.Statement.{statement}
 use Rattle.duet.proofs.admit.Tie as tie
 
-ruleset laws = (away, let-in, sheet-holds, draft-holds, needs)
+ruleset laws = (away, settled, sheet-holds, draft-holds, needs)
 
 read-draft-requires : tie.Need-read-draft-requires
 read-draft-requires c κs = search laws

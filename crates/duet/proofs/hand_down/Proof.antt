@@ -1,6 +1,6 @@
 -- The ways of a request for a side.
 use borrow.Author.Needs.{needs}
-use Rattle.duet.specs.AskingLaws.{ask-thirty, ask-empty, ask-handed}
+use Rattle.duet.proofs.AskingLaws.{ask-thirty, ask-empty, ask-handed}
 use Rattle.duet.proofs.hand_down.Statement.{statement}
 use Rattle.duet.proofs.hand_down.Tie as tie
 

@@ -1,6 +1,6 @@
 -- The ways of a load.
 use borrow.Author.Needs.{needs}
-use Rattle.duet.specs.AskingLaws.{load-thirty, load-empty, load-handed}
+use Rattle.duet.proofs.AskingLaws.{load-thirty, load-empty, load-handed}
 use Rattle.duet.proofs.load.Statement.{statement}
 use Rattle.duet.proofs.load.Tie as tie
 

@@ -1,6 +1,6 @@
 -- The ways of a request.
 use borrow.Author.Needs.{needs}
-use Rattle.duet.specs.AskingLaws.{nobody-thirty, nobody-refused, side-asked}
+use Rattle.duet.proofs.AskingLaws.{nobody-thirty, nobody-refused, side-asked}
 use Rattle.duet.proofs.request.Statement.{statement}
 use Rattle.duet.proofs.request.Tie as tie
 

@@ -32,9 +32,9 @@ module _ (c b : List ℕ) (f : Frame) (s : List ℕ) (e : s ≡ part c 0 (f .end
     unfolding runFor runIn
     count-told = ap (λ (r : Run). r .count) run-told
 
-    module _ (v : Refusal) (h : v ≡ runRefused s b (f .run) (run .count) (f .header)) where
+    module _ (v : Refusal) (h : v ≡ runRefused s b (f .run) (run .count) (f .header) none) where
       judged-told : v ≡ runJudged c b f none
-      unfolding runRefused runJudged
+      unfolding runJudged
       judged-told = h ∙ rw (count-told, front) refl
 
       verdict-stays : (v .number ≡ 0 → ⊥) → v ≡ frameJudged c b f none

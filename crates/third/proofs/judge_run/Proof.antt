@@ -18,19 +18,16 @@ use Rattle.third.proofs.judge_run.Tie as tie
 
 module _ (s b : List ℕ) (from count header : ℕ) where
   abbrev Answer : Refusal
-  Answer = runRefused s b from count header
+  Answer = runRefused s b from count header none
 
   too-few : count < 1 → record { number = 8; place = header } ≡ Answer
-  unfolding runRefused
   too-few h = sym (refuse-at 8 header _ (no _ _ (refutes (reads-within 1 count mostEntities) (λ k. let l = k .0 in omega arith))))
 
   too-many : 32 < count → record { number = 8; place = header } ≡ Answer
-  unfolding runRefused
   too-many h = sym (refuse-at 8 header _ (no _ _ (refutes (reads-within 1 count mostEntities) (λ k. let l = k .1 in omega arith))))
 
   module _ (l : 1 ≤ count) (m : count ≤ 32) (r : Place) (e : r ≡ breach51 b) where
     counted : Answer ≡ refuse 51 (breach51 b) (refuse 9 (searched unlaid s from) none)
-    unfolding runRefused
     counted = refuse-on 8 _ (yes _ _ (shows (reads-within 1 count mostEntities) (l, m)))
 
     fault : (p : ℕ) → r ≡ At p → record { number = 51; place = p } ≡ Answer

@@ -1,8 +1,8 @@
 -- Loads and requests on a side: each way out of the code, once over the side.
 --   refused-answer  ==  a refusal's answer leaves the box as it stood
---   given-answer    ==  what the request layer answers on a side that has a microphone
+--   given-answer    ==  what the request layer answers on a side that has a microphone (answerOf is the word of its contract)
 --   Guarded o st    ==  o is 30 where 30 has something against the state's table, as each outcome of the request layer is
---   load-guarded, request-guarded  ==  so it is of a load and of a request
+--   load-guarded, request-guarded  ==  so it is of a load and of a request: 30 is the first row of what the request layer promises of their numbers
 --   load-thirty, load-empty, load-handed  ==  the ways of a load
 --   ask-thirty, ask-empty, ask-handed     ==  the ways of a request for a side
 --   nobody-thirty, nobody-refused, side-asked  ==  the ways of a request
@@ -10,20 +10,24 @@ use Prim.Native.Nat.{ℕ}
 use mathlib.Core.Path.{_≡_, sym, ap, _∙_}
 use mathlib.Core.Bool.{Bool, true, false, not}
 use mathlib.Core.List.{List}
+use native.Mathlib.Omega.{arith}
 use lib.ListN.{length}
 use borrow.Author.Tests.{not-true, not-false}
 use Rattle.ground.specs.Pick.{pick, yes, no}
 use Rattle.setting.specs.declared.Range.{Range}
 use Rattle.sound.specs.Sound.{soundOf}
+use Rattle.sound.specs.Meaning.{Sound, sound-reads}
 use Rattle.deed.specs.Reply.{laid}
 use Rattle.setup.specs.declared.Asked.{Asked}
 use Rattle.setup.specs.Setup.{askedOf}
 use Rattle.request.specs.declared.State.{State}
 use Rattle.request.specs.declared.Answer as request
-use Rattle.request.specs.Outcome.{Outcome, bytesOf, answerOf, Answered}
-use Rattle.request.specs.Outcome.Outcome.{refused}
+use Rattle.request.specs.Outcome.{Outcome, numberOf, bytesOf, answerOf, Answered}
+use Rattle.request.specs.Outcome.Outcome.{refused, got, done}
 use Rattle.request.specs.Load.{loadOf}
 use Rattle.request.specs.Request.{requestOf}
+use Rattle.runs.specs.RequestRows.{Row, given, passed, loadRows, requestRows}
+use Rattle.runs.proofs.Rows.{load-rows, request-rows}
 use Rattle.sides.specs.declared.Side.{Side}
 use Rattle.sides.specs.declared.Addressee.{Addressee}
 use Rattle.sides.specs.declared.Addressee.the-variants.{Nobody, At}
@@ -54,13 +58,22 @@ given-answer b k e o = ap (λ (p : Bool). answerIn-with p) (sym e)
 abbrev pub Guarded : Outcome → State → Type 0
 Guarded o st = soundOf (st .table) ≡ false → o ≡ refused 30
 
+by-number : (n : ℕ) → (n ≡ 0 → ⊥) → (o : Outcome) → numberOf o ≡ n → o ≡ refused n
+by-number n h (refused m) e = ap refused e
+by-number n h (got bytes) e = absurd (h (sym e))
+by-number n h (done t) e = absurd (h (sym e))
+
+first-row : (st : State) (o : Outcome) {rest : ℕ → Type 0} → Row 30 (Sound (st .table) → ⊥) rest (numberOf o) → Guarded o st
+first-row st o (given n e) f = by-number 30 (λ z. omega arith) o e
+first-row st o (passed n r) f = absurd (n (sound-reads (st .table) .denies f))
+
 pub load-guarded : (st : State) (u ch s : ℕ) (range : Range) (w : ℕ) → Guarded (loadOf st u ch s range w) st
-unfolding loadOf
-load-guarded st u ch s range w e = no _ _ e
+unfolding loadRows
+load-guarded st u ch s range w = first-row st (loadOf st u ch s range w) (load-rows st (record { unit = u; channel = ch; selector = s }) range w)
 
 pub request-guarded : (st : State) (s d : List ℕ) (room : ℕ) → Guarded (requestOf st s d room) st
-unfolding requestOf
-request-guarded st s d room e = no _ _ e
+unfolding requestRows
+request-guarded st s d room = first-row st (requestOf st s d room) (request-rows st s d room)
 
 module _ (b : Duet) (k : Side) (a : Bool) (h : a ≡ soundBeside b k) where
   -- the rest of the box is no table

@@ -1,0 +1,73 @@
+-- The rules 9 to 13 of document 01 said of the bytes of each descriptor of the run, kind by kind: "Entities" has kinds, offsets and lengths, "Clusters" what is
+-- given out and what is kept; document 02, No. 5, has the Selector's rule, No. 7 the pins up to 24. No layout, no entity and no list of sources that the reader makes
+-- of a descriptor stand here.
+--   pinIds d           ==  "p at 4, sources from 5": the p source IDs of a Mixer or a Selector
+--   SourceId d x       ==  x is one of the source IDs of d, which stand where its kind has them (SourcesAt)
+--   SourceNamed ds x   ==  rule 11 of the source ID x: it is not 0, and it is borne in the run ds, by what is no Output Terminal
+--   Selected cl d      ==  of a Selector: "all pins must have the same c and the same bitmap", which it gives out; it gives out pin 1's name index where no two
+--                          pins' differ, and "If their name indices differ, the Selector gives out index 0"
+--   Plainly cl d       ==  d has the length and the fields of its kind, and with the clusters cl on IDs it gives out what its kind gives out and keeps its kind's rule:
+--                          an Input Terminal's cluster is at 7..10, a Mixer's at 5+p..8+p, and both keep the rule of a declared one; an Output Terminal has the
+--                          entering one; a Feature Unit gives out its source's
+--   PlainConfiguration s  ==  the bytes s are a configuration, in these words: a cutting that keeps the rules 1 to 8, "a rank on each entity, lower at a source than
+--                          at its user, and a channel cluster on each entity's output, that keep every rule"; rule 9, and so 17, is in Plainly
+use Prim.Native.Nat.{ℕ, _+_, _≤_, _<_}
+use mathlib.Core.Path.{_≡_}
+use mathlib.Core.List.{List, map}
+use lib.ListN.{length, take, drop}
+use Rattle.ground.specs.Numbers.{byte}
+use Rattle.ground.specs.Lists.{Some}
+use Rattle.graph.specs.Members.{_∈_}
+use Rattle.layout.specs.declared.Cluster.{Cluster}
+use Rattle.layout.specs.Layout.{Pins, clusterAt}
+use Rattle.channels.specs.Declared.{ClusterKept}
+use Rattle.edition.specs.Edition.{ownId}
+use Rattle.edition.specs.Audio.{channelsIn, mixerLength, featureLength}
+use Rattle.collection.specs.Rule7.{Rule7}
+use Rattle.groups.specs.Rules5and6.{Rule5, listedOf, Rule6}
+use Rattle.cutting.specs.Rules1to9.{Rule8, Opened}
+use Rattle.ids.specs.Rule10.{Rule10}
+use Rattle.records.specs.Bytes.{SourcesAt}
+use Rattle.streaming.specs.Rule14.{Rule14}
+use Rattle.controls.specs.Rule15.{Rule15}
+
+abbrev pub pinIds : List ℕ → List ℕ
+pinIds d = take (byte d 4) (drop 5 d)
+
+abbrev pub SourceId : List ℕ → ℕ → Type 0
+SourceId d x = (k p : ℕ) × SourcesAt d k p × x ∈ take p (drop k d)
+
+abbrev pub SourceNamed : List (List ℕ) → ℕ → Type 0
+SourceNamed ds x = (x ≡ 0 → ⊥) × Some (λ e. (ownId e ≡ x) × (byte e 2 ≡ 3 → ⊥)) ds
+
+module _ (cl : ℕ → Cluster) (d : List ℕ) where
+  abbrev out : Cluster
+  out = cl (ownId d)
+
+  pub record Selected : Type 0 where
+    pub alike : (x : ℕ) → x ∈ pinIds d → (cl x .channels ≡ out .channels) × (cl x .locations ≡ out .locations)
+    pub one-name : ((x y : ℕ) → x ∈ pinIds d → y ∈ pinIds d → cl x .names ≡ cl y .names) → out .names ≡ cl (byte d 5) .names
+    pub other-names : (x y : ℕ) → x ∈ pinIds d → y ∈ pinIds d → (cl x .names ≡ cl y .names → ⊥) → out .names ≡ 0
+
+  pub data Plainly : Type 0 where
+    input : byte d 2 ≡ 2 → length d ≡ 12 → out ≡ clusterAt d 7 → ClusterKept out → Plainly
+    output : byte d 2 ≡ 3 → length d ≡ 9 → out ≡ cl (byte d 7) → Plainly
+    mixer : byte d 2 ≡ 4 → Pins (byte d 4) → out ≡ clusterAt d (5 + byte d 4) → ClusterKept out
+        → length d ≡ mixerLength (byte d 4) (out .channels) (channelsIn (map cl (pinIds d))) → Plainly
+    selector : byte d 2 ≡ 5 → Pins (byte d 4) → length d ≡ 6 + byte d 4 → Selected → Plainly
+    feature : byte d 2 ≡ 6 → (1 ≤ byte d 5) × (byte d 5 ≤ 4) → out ≡ cl (byte d 4) → length d ≡ featureLength (out .channels) (byte d 5) → Plainly
+
+pub record PlainConfiguration (s : List ℕ) : Type 0 where
+  pub opened : Opened s
+  pub rule5 : Rule5 (opened .tail)
+  pub rule6 : Rule6 (rule5 .header) (rule5 .others)
+  pub rule7 : Rule7 (opened .descriptors) (listedOf (rule5 .header))
+  pub rule8 : Rule8 (rule6 .run)
+  pub rule10 : Rule10 (rule6 .run)
+  pub rule11 : (d : List ℕ) → d ∈ rule6 .run → (x : ℕ) → SourceId d x → SourceNamed (rule6 .run) x
+  pub rank : ℕ → ℕ
+  pub ranked : (d : List ℕ) → d ∈ rule6 .run → (x : ℕ) → SourceId d x → rank x < rank (ownId d)
+  pub cluster : ℕ → Cluster
+  pub plainly : (d : List ℕ) → d ∈ rule6 .run → Plainly cluster d
+  pub rule14 : Rule14 (rule6 .run) cluster (opened .descriptors)
+  pub rule15 : Rule15 (rule6 .run) cluster
