@@ -37,11 +37,14 @@ heldBy c = senseOf (c .selector)
 abbrev pub sizeIn : Control → ℕ
 sizeIn c = sizeOf (heldBy c)
 
+abbrev pub sentTo : Control → List ℕ → ℕ
+sentTo c d = valueIn (take (sizeIn c) d)
+
 abbrev pub setAsks : Control → List ℕ → SetAsks
-setAsks c d = record { unready = unready (heldBy c) c; taken = takes (heldBy c) c (valueIn (take (sizeIn c) d)); size = sizeIn c }
+setAsks c d = record { unready = unready (heldBy c) c; taken = takes (heldBy c) c (sentTo c d); size = sizeIn c }
 
 abbrev pub setTo : Control → List ℕ → Control
-setTo c d = withCur (storedFor (heldBy c) c (valueIn (take (sizeIn c) d))) c
+setTo c d = withCur (storedFor (heldBy c) c (sentTo c d)) c
 
 abbrev pub getAsks : Part → Control → GetAsks
 getAsks part c = record { lacking = lacking (heldBy c) part; unready = unready (heldBy c) c; size = sizeIn c }
@@ -49,9 +52,6 @@ getAsks part c = record { lacking = lacking (heldBy c) part; unready = unready (
 unfoldable pub sizesOf : List Control → ℕ
 sizesOf [] = 0
 sizesOf (c ∷ cs) = sizeIn c + sizesOf cs
-
-abbrev pub sentTo : Control → List ℕ → ℕ
-sentTo c d = valueIn (take (sizeIn c) d)
 
 abbrev pub restOf : Control → List ℕ → List ℕ
 restOf c d = drop (sizeIn c) d

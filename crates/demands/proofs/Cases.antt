@@ -1,5 +1,5 @@
 -- The cases, computed from the definitions.
---   together, printed-a, answer-b  ==  the proofs of the three statements
+--   together, printed-a, answer-b  ==  the proofs of three statements; of the fourth, OtherProtocol, it is AnyProtocol's
 use Prim.Native.Nat.{ℕ}
 use mathlib.Core.Path.{_≡_, refl}
 use mathlib.Core.Bool.{true, false}

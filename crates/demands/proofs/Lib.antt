@@ -5,3 +5,5 @@ pub mod Cases
 pub mod TurnedAway
 pub mod Shuffled
 pub mod AnyOrder
+pub mod Twins
+pub mod AnyProtocol

@@ -1,6 +1,6 @@
 -- The wrong programs are turned away, by case A and one like it.
 --   case-a                ==  there is a configuration
---   readers-turned-away, responders-turned-away  ==  the proofs, of whatever keeps the contracts
+--   turned-away           ==  the proof, of whatever keeps the contracts
 use Prim.Native.Nat.{ℕ}
 use mathlib.Core.Path.{_≡_, refl, sym, ap, _∙_}
 use mathlib.Core.List.{List, [], _∷_}
@@ -27,7 +27,7 @@ use Rattle.request.specs.Outcome.{numberOf, bytesOf, stateAfter, answerOf}
 use Rattle.request.specs.Stored.{storedAt}
 use Rattle.request.specs.Request.{elsewhereBy, doneAt, answerAsked, requestOf}
 use Rattle.demands.specs.Cases.{caseA, caseB, lent, caseTable}
-use Rattle.demands.specs.TurnedAway.{Reads, ReadersTurnedAway, getMute, setMute, reply, caseState, Responds, afterSet, muteTold, RespondersTurnedAway}
+use Rattle.demands.specs.TurnedAway.{KeepsReading, ReadersTurnedAway, getMute, setMute, reply, caseState, KeepsRequest, afterSet, muteTold, RespondersTurnedAway, TurnedAway}
 use Rattle.demands.proofs.Cases.{printed-a, answer-b}
 use Rattle.demands.proofs.Demand3.{demand-3}
 
@@ -36,7 +36,7 @@ pub case-a : Configuration caseA
 case-a = demand-3 caseA .accepted lent (omega arith) .0 (ap (λ (r : Reading). r .number) (printed-a .answer))
 
 module _ (answers : List ℕ → List ℕ → Reading) (leaves : List ℕ → List ℕ → List ℕ) where
-  pub readers-turned-away : Reads answers leaves → ReadersTurnedAway answers leaves
+  readers-turned-away : KeepsReading answers leaves → ReadersTurnedAway answers leaves
   readers-turned-away r = record {
     refuses-everything = λ h. h caseA lent (ap (λ (x : Reading). x .number) a);
     single-sheet = λ one h.
@@ -81,7 +81,7 @@ module _ (answers : State → List ℕ → List ℕ → List ℕ → Answer) (le
   abbrev heard : State → List ℕ
   heard = muteTold answers leaves
 
-  pub responders-turned-away : Responds answers leaves → RespondersTurnedAway answers leaves
+  responders-turned-away : KeepsRequest answers leaves → RespondersTurnedAway answers leaves
   unfolding answerOf
   responders-turned-away r = record {
     stalls-always = λ h. h caseState getMute [] reply (ap (λ (x : Answer). x .number) (r caseState getMute [] reply .result) ∙ mutes .answered);
@@ -105,3 +105,6 @@ module _ (answers : State → List ℕ → List ℕ → List ℕ → Answer) (le
 
       shown : {st u : State} {x : ℕ} → st ≡ u → bytesOf (requestOf u getMute [] 1) ≡ x ∷ [] → heard st ≡ x ∷ []
       shown {st} e f = r st getMute [] reply .lent ∙ ap (λ (l : List ℕ). laid l reply) (got-after e ∙ f)
+
+pub turned-away : TurnedAway
+turned-away = record { readers = readers-turned-away; responders = responders-turned-away }

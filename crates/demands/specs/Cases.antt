@@ -8,8 +8,11 @@
 --   Together         ==  the single statement
 --   PrintedA         ==  the whole answer for case A, and the sheet as the document prints it
 --   caseB, AnswerB   ==  case A with a second Output Terminal and volume on the master channel too, and what is answered to it
+--   OtherProtocol    ==  case A with the protocol byte of its AudioControl interface made 0x30, document 02's No. 12: "Nos. 8, 9 and 11 stay with
+--                        1.0, and take 0x30 there as any other protocol byte", and "requests stay with 1.0". The 1.0 reader, by which all
+--                        these go, answers what it answers to case A, and leaves the same sheet
 --   caseTable        ==  the table of case A before any load
---   lent             ==  the sheet that the program lends, 1,024 bytes
+--   lent             ==  the sheet that the program lends, 1,024 bytes, all zeros
 use Prim.Native.Nat.{ℕ}
 use mathlib.Core.Path.{_≡_}
 use mathlib.Core.Bool.{true, false}
@@ -59,7 +62,6 @@ pub record Together : Type 0 where
   pub clusters : map clusterKept (cluster 5 0x0051 254 ∷ cluster 5 0x0051 255 ∷ cluster 4 0x0107 0 ∷ cluster 4 0x0107 1 ∷ []) ≡ true ∷ false ∷ true ∷ false ∷ []
   pub settings : map found (volume (minus 300) ∷ volume (minus 384) ∷ volume (pos 500) ∷ volume (minus 32768) ∷ bass (pos 9) ∷ []) ≡ minus 256 ∷ minus 512 ∷ pos 0 ∷ minus 32768 ∷ pos 6 ∷ []
 
--- the sheet that the program lends, all zeros
 abbrev pub lent : List ℕ
 lent = replicate wholeSheet 0
 
@@ -103,3 +105,8 @@ pub record AnswerB : Type 0 where
   pub entities : readingOf caseB wholeSheet .entities ≡ 4
   pub controls : readingOf caseB wholeSheet .controls ≡ 3
   pub fourth : byte (sheetOf caseB lent) 96 ≡ 4
+
+-- the AudioControl interface stands at place 9: its protocol byte at 16
+pub record OtherProtocol : Type 0 where
+  pub answer : readingOf (set caseA 16 0x30) wholeSheet ≡ readingOf caseA wholeSheet
+  pub sheet : sheetOf (set caseA 16 0x30) lent ≡ sheetOf caseA lent

@@ -8,16 +8,18 @@
 --                           give, "interface number 0, zero counts and an empty table; the sheet keeps its bytes"
 --   RefusedAnswer Rows st r  ==  what an answer r says where it refuses: the number of the first of the Rows that applies, nothing
 --                               written, and st, the state as it stood
---   Agree b a c e       ==  two replies, b that became a and c that became e, agree in the bytes written
+--   Agree n b a c e     ==  two replies, b that became a and c that became e, agree in the bytes written, n of them
 --   Demand1             ==  of every configuration and sheet, the reader's number is 0, and the bytes are a configuration with room for
---                           its records, or it refuses so; and every answer that the contract of a load or a request allows and
+--                           its records, or it refuses so; "at no other time": it accepts exactly where they are such (reader-accepts),
+--                           and gives a number and a place exactly where they are those of the first row that applies
+--                           (reader-exactly); and every answer that the contract of a load or a request allows and
 --                           whose number is not 0 refuses so, the request with the reply as it stood. In every state whatever the number is
 --                           that of the first row that applies (numbers), and the rows say one number. Two results that the contract of a
 --                           request allows are equal (one-answer), and they do not hang on what the reply held (reply-unread)
 use Prim.Native.Nat.{ℕ}
 use mathlib.Core.Path.{_≡_}
 use mathlib.Core.List.{List}
-use mathlib.Core.Logic.{_⊎_}
+use mathlib.Core.Logic.{_⊎_, _↔_}
 use lib.ListN.{length}
 use Rattle.setting.specs.declared.Range.{Range}
 use Rattle.table.specs.Controls.{emptyTable}
@@ -46,14 +48,18 @@ pub record RefusedAnswer (Rows : ℕ → Type 0) (st : State) (r : Answer) : Typ
   pub none-written : r .written ≡ 0
   pub state : r .state ≡ st
 
-pub record Agree (b a c e : List ℕ) : Type 0 where
+pub record Agree (n : ℕ) (b a c e : List ℕ) : Type 0 where
   pub bytes : List ℕ
+  pub counted : length bytes ≡ n
   pub left : a ≡ laid bytes b
   pub right : e ≡ laid bytes c
 
 pub record Demand1 : Type 0 where
   pub reader-answers : (s d : List ℕ) → ((readingOf s (length d) .number ≡ 0) × Shown s (length d)) ⊎ RefusedReading s d
   pub reader-refuses : (s d : List ℕ) → (readingOf s (length d) .number ≡ 0 → ⊥) → RefusedReading s d
+  pub reader-accepts : (s : List ℕ) (room : ℕ) → (readingOf s room .number ≡ 0) ↔ Shown s room
+  pub reader-exactly : (s : List ℕ) (room n p : ℕ) → (n ≡ 0 → ⊥)
+      → ((readingOf s room .number ≡ n) × (readingOf s room .place ≡ p)) ↔ Refused s room n p
   pub load-refuses : (st : State) (k : Key) (range : Range) (w : ℕ) (r : Answer)
       → r ≡ answerOf st (loadOf st (k .unit) (k .channel) (k .selector) range w)
       → (r .number ≡ 0 → ⊥) → RefusedAnswer (loadRows st k range w) st r
@@ -65,4 +71,4 @@ pub record Demand1 : Type 0 where
   pub one-answer : (st : State) (setup «data» b : List ℕ) (r q : Answer) (a e : List ℕ)
       → Answered st (requestOf st setup «data» (length b)) b r a → Answered st (requestOf st setup «data» (length b)) b q e → (r ≡ q) × (a ≡ e)
   pub reply-unread : (st : State) (setup «data» b c : List ℕ) → length b ≡ length c → (r q : Answer) (a e : List ℕ)
-      → Answered st (requestOf st setup «data» (length b)) b r a → Answered st (requestOf st setup «data» (length c)) c q e → (r ≡ q) × Agree b a c e
+      → Answered st (requestOf st setup «data» (length b)) b r a → Answered st (requestOf st setup «data» (length c)) c q e → (r ≡ q) × Agree (r .written) b a c e

@@ -5,8 +5,11 @@
 --   now-is st run   ==  the state that the run leaves; Accepted st run step: the next step is accepted in it
 --   EveryRun st run ==  what is true of every run of loads and requests from the state st. Refusal 30 has nothing against the table it
 --                       leaves, the AudioControl number is what it was, and the controls that the words of a run find addressed
---                       (addressedBy, by which numbersIn goes) are those of the papers' words, Addressed. Of the next step: it has the
---                       number of the first row of the papers' table that applies, 0 where none does; an accepted Get returns the
+--                       (addressedBy, by which numbersIn goes) are those of the papers' words, Addressed; so is the number that numbersIn
+--                       finds in a Set: that of the control's piece of the data (shares), and none for a control that the
+--                       request does not address (spares). Of the next step: it has the
+--                       number of the first row of the papers' table that applies, 0 where none does, and is accepted, as the
+--                       words of a run have it (accepted), exactly where that is 0; an accepted Get returns the
 --                       first wLength bytes of the addressed controls', and no Get changes the table; an accepted Set stores in each
 --                       the closest available setting to its own value, and no Set writes to the reply; an accepted load stores the
 --                       range and that; every other control is as it was; and a request of several controls is the single requests
@@ -17,26 +20,27 @@
 --                       slice's are
 use Prim.Native.Nat.{ℕ}
 use mathlib.Core.Path.{_≡_}
-use mathlib.Core.List.{List, []}
+use mathlib.Core.List.{List, [], _∷_}
+use lib.Dec.{eqb}
 use Rattle.setting.specs.declared.Range.{Range}
 use Rattle.ground.specs.Numbers.{byte, Bytes}
 use Rattle.table.specs.declared.Control.{Control}
-use Rattle.table.specs.Keys.{Key, StandsAt}
+use Rattle.table.specs.Keys.{Key, Bears, StandsAt, InTable}
 use Rattle.sound.specs.Meaning.{Sound}
 use Rattle.sound.specs.Fresh.{Fresh}
 use Rattle.setup.specs.Setup.{AsksSet, AsksGet, WellAsked}
+use Rattle.answers.specs.Held.{valueIn}
 use Rattle.request.specs.declared.State.{State}
 use Rattle.request.specs.declared.Plugged.{Plugged}
 use Rattle.request.specs.Outcome.{numberOf, bytesOf}
 use Rattle.request.specs.Plugged.{PluggedIn}
-use Rattle.runs.specs.Runs.{addressedBy, Step, stepOf, next, after, rangesIn, numbersIn, told, Wired}
+use Rattle.runs.specs.Runs.{namedBy, addressedBy, Step, stepOf, accepted, next, after, rangesIn, numbersIn, told, Wired}
 use Rattle.runs.specs.Runs.Step.{load, request}
-use Rattle.runs.specs.RequestRows.{Addressed, stepRows}
+use Rattle.runs.specs.RequestRows.{Names, Addressed, stepRows}
 use Rattle.runs.specs.InTurn.{InTurn}
-use Rattle.runs.specs.Promises.{GetGiven, SetStored, LoadStored, Alone, Moved, Answers}
+use Rattle.runs.specs.Promises.{GetGiven, Share, SetStored, LoadStored, Alone, Moved, GetAnswered}
 
 module _ (st : State) (run : List Step) where
-  -- the state that the run leaves, and what the next step comes to in it
   abbrev pub now-is : State
   now-is = after st run
 
@@ -47,7 +51,12 @@ module _ (st : State) (run : List Step) where
     pub sound : Sound (now-is .table)
     pub interface : now-is .control ≡ st .control
     pub addressed : (setup : List ℕ) → Addressed (now-is .table) setup (addressedBy (now-is .table) setup)
+    pub shares : (setup «data» : List ℕ) (room : ℕ) (k : Key) → AsksSet setup → (cs : List Control) → Addressed (now-is .table) setup cs → (c : Control) → Bears k c
+        → (piece : List ℕ) → Share cs «data» c piece → numbersIn k (now-is .table) (request setup «data» room) ≡ valueIn piece ∷ []
+    pub spares : (setup «data» : List ℕ) (room : ℕ) (k : Key) → ((c : Control) → InTable (now-is .table) c → Names (namedBy setup) c → Bears k c → ⊥)
+        → numbersIn k (now-is .table) (request setup «data» room) ≡ []
     pub numbers : (step : Step) → stepRows now-is step (numberOf (stepOf now-is step))
+    pub accepts : (step : Step) → accepted (stepOf now-is step) ≡ eqb (numberOf (stepOf now-is step)) 0
     pub next-get : (setup «data» : List ℕ) (room : ℕ) → AsksGet setup → Accepted (request setup «data» room)
         → GetGiven (now-is .table) setup (bytesOf (stepOf now-is (request setup «data» room)))
     pub get-keeps : (setup «data» : List ℕ) (room : ℕ) → AsksGet setup → next now-is (request setup «data» room) .table ≡ now-is .table
@@ -62,7 +71,7 @@ module _ (st : State) (run : List Step) where
     pub together : (setup «data» : List ℕ) (room : ℕ) → Bytes «data» → WellAsked setup → byte setup 4 ≡ now-is .control
         → (cs : List Control) → Addressed (now-is .table) setup cs → (cs ≡ [] → ⊥) → InTurn now-is setup «data» room cs
     pub gets : (setup «data» : List ℕ) (room : ℕ) → AsksGet setup → Accepted (request setup «data» room)
-        → Answers st run setup (bytesOf (stepOf now-is (request setup «data» room)))
+        → GetAnswered st run setup (bytesOf (stepOf now-is (request setup «data» room)))
 
 pub record Demand2 : Type 0 where
   -- s is the configuration, d the lent sheet, a what it holds afterwards

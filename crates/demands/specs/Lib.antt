@@ -4,3 +4,4 @@ pub mod Demand3
 pub mod Cases
 pub mod TurnedAway
 pub mod AnyOrder
+pub mod AnyProtocol

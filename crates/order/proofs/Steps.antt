@@ -27,6 +27,7 @@ use Rattle.setup.specs.declared.Asked.the-variants as asks
 use Rattle.setup.specs.Setup.{codeOf, targetOf, askedBy}
 use Rattle.setup.specs.Asking.{set-no-get}
 use Rattle.answers.specs.Answers.{allSet, cutTo}
+use Rattle.answers.specs.AnswersLaws.{sets-long}
 use Rattle.loads.specs.Load.{loadedWith}
 use Rattle.address.specs.AddressedLaws.{found-stands, stands-one}
 use Rattle.request.specs.declared.State.{State}
@@ -41,7 +42,6 @@ use Rattle.runs.specs.RequestRows.{Row, given, passed, Names, Along, addressedR
 use Rattle.runs.proofs.Taken.{addressedAt, LoadTaken, SetTaken, GetTaken, load-taken, set-taken, get-taken, load-not-got}
 use Rattle.runs.proofs.Addressing.{addressed-apart, addressed-low, addressed-inside, names-among, among-names, addressed-found, addressed-one}
 use Rattle.runs.proofs.Stored.{Pair, front, behind, pair-in, stored-count, stored-other, stored-here, At, stored, kept, stored-at}
-use Rattle.runs.proofs.Shares.{set-long}
 use Rattle.runs.proofs.Refusals.{LoadNumber, load-30, load-20, load-21, RequestNumber, load-numbers, request-numbers}
 use Rattle.runs.proofs.Rows.{step-rows, step-row-one}
 use Rattle.runs.proofs.Alone.{step-sound}
@@ -199,7 +199,7 @@ module _ (t u : Table) (same : SameControls t u) (sound : Sound t) (whole : Soun
     each-once = addressed-apart v s;
     low = addressed-low v s;
     inside = addressed-inside v s h;
-    long = set-long (addressedBy v s) d ∙ length-map (addressedAt v s) (at v);
+    long = sets-long (addressedBy v s) d ∙ length-map (addressedAt v s) (at v);
   }
 
   -- who is addressed in the one is addressed in the other

@@ -1,6 +1,6 @@
 // Layer 3: the box. A microphone is plugged in, its controls are loaded, and class requests are answered (document 01, "What the box
 // does"). What this crate promises: for every configuration and sheet, every state whatever, every load, setup, data and reply, exactly
-// what specs/Plugged.antt, specs/Load.antt and specs/Request.antt say; a refusal leaves state and reply as they stood.
+// what specs/Plugged.antt, specs/Load.antt and specs/Request.antt say; a refused load or request leaves state and reply as they stood.
 ghost use mathlib.Core.Path.{_≡_};
 ghost use lib.ListN.{length};
 ghost use Rattle.answers.specs.Answers.{setOf, getOf};

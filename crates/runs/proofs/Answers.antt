@@ -1,6 +1,6 @@
 -- Demand 2, of the next step and over every run: a Get that is accepted after any run of loads and requests whose data are bytes, from
--- any table that 30 does not turn away, answers the addressed control: CUR is the closest setting to the last accepted Set or load of
--- that control, or its first value where there was none; MIN, MAX and RES are those of its last accepted load; a yes/no and a pin are
+-- any table that 30 does not turn away, answers the addressed controls: the CUR of each is the closest setting to its last accepted Set or
+-- load, or its first value where there was none; MIN, MAX and RES are those of its last accepted load; a yes/no and a pin are
 -- what the last accepted Set made them.
 --   settles-one            ==  one number is settled where a number is wanted
 --   next-get, next-set, next-load  ==  an accepted Get gives, an accepted Set and an accepted load store, what the papers ask
@@ -51,7 +51,7 @@ use Rattle.request.specs.Outcome.Outcome.{refused, got, done}
 use Rattle.request.specs.Load.{loadOf}
 use Rattle.request.specs.Request.{requestOf}
 use Rattle.runs.specs.Runs.{addressedBy, Step, next, after, lastOf, Wired}
-use Rattle.runs.specs.Promises.{Settles, CurMeans, GetGiven, Turned, SetStored, LoadStored, Moved, Means, keyIn, Answer, Valued, none, more, inBytes, Answers}
+use Rattle.runs.specs.Promises.{Settles, CurMeans, GetGiven, Turned, SetStored, LoadStored, Moved, Means, keyIn, RightValue, Valued, none, more, inBytes, GetAnswered}
 use Rattle.runs.proofs.Shares.{any-front}
 use Rattle.runs.proofs.Taken.{addressedAt, GetTaken, SetTaken, LoadTaken, get-taken, set-taken, load-taken, load-not-got}
 use Rattle.runs.proofs.Addressing.{addressed-low, names-among, among-names, addressed-found}
@@ -155,9 +155,8 @@ module _ (st : State) where
       where
         turned : (i : ℕ) → i < t .count → i ∈ addressedAt t s → Turned (addressedBy t s) d (at t i) (at v i)
         turned i l m =
-            let h : StandsAt t (keyIn (at t i)) i = record { inside = l; bears = record { unit = refl; channel = refl; selector = refl } } in
-            let g = shared t s d v sound a (keyIn (at t i)) i h m in
-            let e = set-here t s d v sound a (keyIn (at t i)) i h m in
+            let g = shared t s d v sound a i m in
+            let e = set-here t s d v sound a i m in
             record {
               piece = g .piece;
               share = g .share;
@@ -266,7 +265,7 @@ module _ (st : State) (run : List Step) (h : Sound (st .table)) (w : Wired run) 
   values ps = map (λ p. partOf part (at v0 p)) ps
 
   module _ (ready : (p : ℕ) → p ∈ addressedAt t0 s → unready (heldBy (at v0 p)) (at v0 p) ≡ false) where
-    answer-at : (p : ℕ) → p ∈ addressedAt t0 s → Answer st run part (at t0 p) (partOf part (at v0 p))
+    answer-at : (p : ℕ) → p ∈ addressedAt t0 s → RightValue st run part (at t0 p) (partOf part (at v0 p))
     answer-at p i =
         let k : Key = keyIn (at t0 p) in
         let f : StandsAt t0 k p = record { inside = addressed-low t0 s p i; bears = record { unit = refl; channel = refl; selector = refl } } in
@@ -293,7 +292,7 @@ module _ (st : State) (run : List Step) (h : Sound (st .table)) (w : Wired run) 
       rw (named p (List·Memᴰ·head refl)) (ap (λ (l : List ℕ). lowFirst (sizeOf (senseOf (byte s 3))) (partOf part (at v0 p)) ++ l) (all-sized ps (λ q m. named q (List·Memᴰ·tail m))))
 
 got-answers : (st : State) (run : List Step) → Sound (st .table) → Wired run → (s bytes : List ℕ) → GetTaken (after st run .table) s bytes
-    → Answers st run s bytes
+    → GetAnswered st run s bytes
 got-answers st run h w s bytes a = record {
   part = a .part;
   code = a .code;
@@ -312,7 +311,7 @@ got-answers st run h w s bytes a = record {
     v = after st run .table
 
 pub get-answers : (st : State) (run : List Step) → Sound (st .table) → Wired run → (s d : List ℕ) (room : ℕ) → AsksGet s
-    → numberOf (requestOf (after st run) s d room) ≡ 0 → Answers st run s (bytesOf (requestOf (after st run) s d room))
+    → numberOf (requestOf (after st run) s d room) ≡ 0 → GetAnswered st run s (bytesOf (requestOf (after st run) s d room))
 get-answers st run h w s d room a z =
     let g = get-got (after st run) s d room a z in
-    subst (Answers st run s) (sym (ap bytesOf (g .1))) (got-answers st run h w s (g .0) (get-taken (after st run) s d room (g .0) (g .1)))
+    subst (GetAnswered st run s) (sym (ap bytesOf (g .1))) (got-answers st run h w s (g .0) (get-taken (after st run) s d room (g .0) (g .1)))

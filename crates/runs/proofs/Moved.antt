@@ -2,6 +2,8 @@
 --   still, moved-then    ==  nothing told moves nothing; one such move and then another
 --   stored-means         ==  what is stored for a number means that number
 --   sense-at             ==  the control that is found holds what its key's selector says
+--   set-shares           ==  a Set asks a control that it addresses to take the number of its piece of the data; set-spares: and every other
+--                            to take none
 --   one-step             ==  so does every step, with what it tells k if it is accepted
 --   whole-run            ==  and every run
 use Prim.Native.Nat.{ℕ}
@@ -13,7 +15,7 @@ use borrow.Author.Tests.{not-false}
 use lib.ListN.{length}
 use mathlib.Core.Logic.{⊎-elim}
 use Rattle.ground.specs.Numbers.{Bytes}
-use Rattle.ground.specs.Pick.{pick, Reads, shows, refutes, reads-and, reads-eq}
+use Rattle.ground.specs.Pick.{pick, yes, Reads, shows, refutes, reads-and, reads-eq}
 use Rattle.graph.specs.Members.{_∈_}
 use Rattle.setting.specs.Setting.{fitsOf, legalOf, closestTo}
 use Rattle.setting.specs.declared.Sort.{Sort}
@@ -29,8 +31,8 @@ use Rattle.single.specs.Meaning.{SoundAs, loaded-legal}
 use Rattle.sound.specs.Meaning.{Sound}
 use Rattle.table.specs.Placed.{placed-here, placed-elsewhere, placed-found}
 use Rattle.sound.specs.Placed.{placed-sound}
-use Rattle.table.specs.Keys.{Key, whereIs, StandsAt}
-use Rattle.setup.specs.Setup.{asksSet}
+use Rattle.table.specs.Keys.{Key, whereIs, Bears, StandsAt, InTable}
+use Rattle.setup.specs.Setup.{AsksSet, asksSet}
 use Rattle.setup.specs.Asking.{set-no-get, reads-set}
 use Rattle.address.specs.AddressedLaws.{found-stands, stands-found}
 use Rattle.answers.specs.Held.{unready, valueIn, storedFor}
@@ -40,13 +42,14 @@ use Rattle.request.specs.Outcome.{Outcome, tableAfter}
 use Rattle.request.specs.Outcome.Outcome.{refused, got, done}
 use Rattle.request.specs.Load.{loadOf}
 use Rattle.request.specs.Request.{requestOf}
-use Rattle.runs.specs.Runs.{addressedBy, Step, accepted, next, after, sameKey, shareOf, rangesIn, numbersIn, heard, told, lastOf, some, sent, Wired}
+use Rattle.runs.specs.Runs.{namedBy, addressedBy, Step, accepted, next, after, sameKey, shareOf, rangesIn, numbersIn, heard, told, lastOf, someOf, sent, Wired}
 use Rattle.runs.specs.Runs.Step.{load, request}
-use Rattle.runs.specs.Promises.{CurMeans, Moved}
+use Rattle.runs.specs.RequestRows.{Names, Addressed}
+use Rattle.runs.specs.Promises.{CurMeans, Share, Moved}
 use Rattle.runs.proofs.Stored.{member}
-use Rattle.runs.proofs.Shares.{none-sent}
+use Rattle.runs.proofs.Shares.{share-told, none-told, none-sent}
 use Rattle.runs.proofs.Taken.{addressedAt, LoadTaken, SetTaken, load-taken, set-taken, get-taken, load-not-got}
-use Rattle.runs.proofs.Addressing.{addressed-low}
+use Rattle.runs.proofs.Addressing.{addressed-low, addressed-found, addressed-one}
 use Rattle.runs.proofs.Sets.{shared, set-here, set-other, set-keeps, set-pins, set-count, set-sound-after}
 use Rattle.runs.proofs.Kept.{load-same, load-sound, index-below, index-inside, settles-closest, sent-fits}
 
@@ -55,7 +58,7 @@ unfolding lastOf
 last-append x [] ys = refl
 last-append x (y ∷ xs) ys = last-append y xs ys
 
-some-append : {A : Type 0} (xs ys : List A) → some (xs ++ ys) ≡ (some xs || some ys)
+some-append : {A : Type 0} (xs ys : List A) → someOf (xs ++ ys) ≡ (someOf xs || someOf ys)
 some-append [] ys = refl
 some-append (x ∷ xs) ys = refl
 
@@ -100,7 +103,7 @@ moved-then t v w k p rs qs ns ms a b = record {
   same = same-by (b .same) (a .same);
   pins = b .pins ∙ a .pins;
   loaded =
-      b .loaded ∙ ap (λ (x : Bool). x || some qs) (a .loaded) ∙ or-assoc (at t p .loaded) (some rs) (some qs) ∙ ap (λ (x : Bool). at t p .loaded || x) (sym (some-append rs qs));
+      b .loaded ∙ ap (λ (x : Bool). x || someOf qs) (a .loaded) ∙ or-assoc (at t p .loaded) (someOf rs) (someOf qs) ∙ ap (λ (x : Bool). at t p .loaded || x) (sym (some-append rs qs));
   unmoved = λ e. b .unmoved (none-right ns ms e) ∙ a .unmoved (none-left ns ms e);
   ranges = b .ranges ∙ ap (λ (r : Range). lastOf r qs) (a .ranges) ∙ sym (last-append (rangeOf (at t p)) rs qs);
   cur = λ n. moved-cur t v w k p rs qs ns ms a b n;
@@ -163,7 +166,7 @@ module _ (t : Table) (k : Key) (p : ℕ) (s : Sound t) (f : whereIs t k ≡ seat
       }
 
   -- or at this one
-  here : sameKey k l ≡ true → (rs : List Range) (ns : List ℕ) → c .pins ≡ at t q .pins → c .loaded ≡ (at t q .loaded || some rs)
+  here : sameKey k l ≡ true → (rs : List Range) (ns : List ℕ) → c .pins ≡ at t q .pins → c .loaded ≡ (at t q .loaded || someOf rs)
       → rangeOf c ≡ lastOf (rangeOf (at t q)) rs → (ns ≡ [] → ⊥)
       → CurMeans (senseOf (k .selector)) (rangeOf c) (lastOf 0 ns) (c .cur) → Moved t k p rs ns (placed t q c)
   here e rs ns m n a o b =
@@ -230,11 +233,11 @@ module _ (t : Table) (k : Key) (p : ℕ) (s : Sound t) (f : StandsAt t k p) (su 
       let x = f .bears in
       record { inside = rw (set-count t su d v s a) (f .inside); bears = record { unit = h .unit ∙ x .unit; channel = h .channel ∙ x .channel; selector = h .selector ∙ x .selector } }
 
-  told-one : (m : p ∈ addressedAt t su) → Moved t k p [] (valueIn (shared t su d v s a k p f m .piece) ∷ []) v
+  told-one : (m : p ∈ addressedAt t su) → Moved t k p [] (valueIn (shared t su d v s a p m .piece) ∷ []) v
   unfolding lastOf
   told-one m =
-      let g = shared t su d v s a k p f m in
-      let i = set-here t su d v s a k p f m in
+      let g = shared t su d v s a p m in
+      let i = set-here t su d v s a p m in
       let held : senseOf (k .selector) ≡ senseOf (at t p .selector) = ap senseOf (sym (f .bears .selector)) in
       record {
         sound = set-sound-after t su d v s a b;
@@ -265,9 +268,25 @@ module _ (t : Table) (k : Key) (p : ℕ) (s : Sound t) (f : StandsAt t k p) (su 
   set-moves : Moved t k p [] (shareOf k (addressedBy t su) d) v
   set-moves =
       ⊎-elim
-      (λ (m : p ∈ addressedAt t su). rw (shared t su d v s a k p f m .told) (told-one m))
-      (λ (n : p ∈ addressedAt t su → ⊥). rw (none-sent t k p f s (addressedAt t su) d (addressed-low t su) n) (told-none n))
+      (λ (m : p ∈ addressedAt t su). rw (share-told k (addressed-found t su s .rising) (f .bears) (shared t su d v s a p m .share)) (told-one m))
+      (λ (n : p ∈ addressedAt t su → ⊥). rw (none-sent t s k p f (addressedAt t su) d (addressed-low t su) n) (told-none n))
       (member p (addressedAt t su))
+
+-- the number that a Set asks a control to take, by the papers' words for who is addressed and for whose the data are
+module _ (t : Table) (s : Sound t) (su d : List ℕ) (room : ℕ) (k : Key) where
+  pub set-shares : AsksSet su → (cs : List Control) → Addressed t su cs → (c : Control) → Bears k c → (piece : List ℕ) → Share cs d c piece
+      → numbersIn k t (request su d room) ≡ valueIn piece ∷ []
+  set-shares a cs h c b piece i =
+      yes _ _ (shows (reads-set su) a)
+      ∙ ap (λ (l : List Control). shareOf k l d) (addressed-one t su (addressedBy t su) cs (addressed-found t su s) h)
+      ∙ share-told k (h .rising) b i
+
+  pub set-spares : ((c : Control) → InTable t c → Names (namedBy su) c → Bears k c → ⊥) → numbersIn k t (request su d room) ≡ []
+  set-spares n = go (asksSet su)
+    where
+      go : (b : Bool) → pick b (shareOf k (addressedBy t su) d) [] ≡ []
+      go true = none-told k (addressedBy t su) d (λ c m. let h = addressed-found t su s .each c .0 m in n c (h .0) (h .1))
+      go false = refl
 
 module _ (st : State) (k : Key) (p : ℕ) (s : Sound (st .table)) (f : whereIs (st .table) k ≡ seat p) where
   abbrev t : Table

@@ -19,10 +19,10 @@
 --   Means k part c rs ns v  ==  v is what a Get of that part must give, where c is the control at the start, rs are the ranges of
 --                            its accepted loads since and ns the numbers of its accepted loads and Sets since
 --   keyIn c              ==  the key of the control c
---   Answer st run part c v  ==  v is such a number of c, and c's own where the run told it none
+--   RightValue st run part c v  ==  v is such a number of c, and c's own where the run told it none
 --   Valued st run part cs vs  ==  vs are such numbers of the controls cs, one for each
 --   inBytes n vs         ==  the numbers vs, one after another, each in n bytes, low first
---   Answers st run s bytes  ==  the bytes are the first wLength of such numbers of the controls that the setup addresses
+--   GetAnswered st run s bytes  ==  the bytes are the first wLength of such numbers of the controls that the setup addresses
 use Prim.Native.Nat.{ℕ, _<_}
 use mathlib.Core.Path.{_≡_}
 use mathlib.Core.List.{List, [], _∷_, _++_}
@@ -48,7 +48,7 @@ use Rattle.deed.specs.Reply.{lowFirst}
 use Rattle.answers.specs.Held.{partOf, valueIn, withCur}
 use Rattle.answers.specs.Answers.{heldBy, sizeIn, restOf, blockOf}
 use Rattle.request.specs.declared.State.{State}
-use Rattle.runs.specs.Runs.{namedBy, Step, rangesIn, numbersIn, told, lastOf, some}
+use Rattle.runs.specs.Runs.{namedBy, Step, rangesIn, numbersIn, told, lastOf, someOf}
 use Rattle.runs.specs.Runs.Step.{load, request}
 use Rattle.runs.specs.RequestRows.{Names, Addressed}
 
@@ -118,7 +118,7 @@ pub record Moved (t : Table) (k : Key) (p : ℕ) (rs : List Range) (ns : List �
   pub there : StandsAt v k p
   pub same : Same (at v p) (at t p)
   pub pins : at v p .pins ≡ at t p .pins
-  pub loaded : at v p .loaded ≡ (at t p .loaded || some rs)
+  pub loaded : at v p .loaded ≡ (at t p .loaded || someOf rs)
   pub ranges : rangeOf (at v p) ≡ lastOf (rangeOf (at t p)) rs
   pub unmoved : ns ≡ [] → at v p ≡ at t p
   pub cur : (ns ≡ [] → ⊥) → CurMeans (senseOf (k .selector)) (rangeOf (at v p)) (lastOf 0 ns) (at v p .cur)
@@ -133,19 +133,19 @@ abbrev pub keyIn : Control → Key
 keyIn c = record { unit = c .unit; channel = c .channel; selector = c .selector }
 
 module _ (st : State) (run : List Step) (part : Part) where
-  pub record Answer (c : Control) (v : ℕ) : Type 0 where
+  pub record RightValue (c : Control) (v : ℕ) : Type 0 where
     pub means : Means (heldBy c) part c (told (rangesIn (keyIn c)) st run) (told (numbersIn (keyIn c)) st run) v
     pub first : told (numbersIn (keyIn c)) st run ≡ [] → v ≡ partOf part c
 
   pub data Valued : List Control → List ℕ → Type 0 where
     none : Valued [] []
-    more : {c : Control} {cs : List Control} {v : ℕ} {vs : List ℕ} → Answer c v → Valued cs vs → Valued (c ∷ cs) (v ∷ vs)
+    more : {c : Control} {cs : List Control} {v : ℕ} {vs : List ℕ} → RightValue c v → Valued cs vs → Valued (c ∷ cs) (v ∷ vs)
 
 unfoldable pub inBytes : ℕ → List ℕ → List ℕ
 inBytes n [] = []
 inBytes n (v ∷ vs) = lowFirst n v ++ inBytes n vs
 
-pub record Answers (st : State) (run : List Step) (s bytes : List ℕ) : Type 0 where
+pub record GetAnswered (st : State) (run : List Step) (s bytes : List ℕ) : Type 0 where
   pub part : Part
   pub code : byte s 1 ≡ codeOf part
   pub controls : List Control

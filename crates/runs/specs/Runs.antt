@@ -5,16 +5,17 @@
 --   Step              ==  a load of a range and a CUR to the control of a key, or a request: the setup, the data of a Set and the length
 --                         of the lent reply
 --   stepOf st step    ==  what the step comes to in the state st
---   accepted o        ==  it is not refused
+--   accepted o        ==  it is not refused; of a step, exactly where its number is 0 (EveryRun, accepts)
 --   next st step      ==  the state after the step; after st run: after the run
 --   sameKey k l       ==  the two are the same control
---   shareOf k cs d    ==  the number that the data d of a Set of the controls cs send to the one of the key k, if it is among them
+--   shareOf k cs d    ==  the number that the data d of a Set of the controls cs send to the one of the key k, if it is among them, as it is
+--                         found; that it is the number of the piece that Share gives it, with no search, is demand 2's (EveryRun, shares)
 --   rangesIn k t step   ==  the range that the step gives to k, if it is a load of k
 --   numbersIn k t step  ==  the number that the step, in the table t, asks k to take, if it is a load of k or a Set that addresses k
 --   heard f st step   ==  what f finds in the step, if it is accepted in the state st
 --   told f st run     ==  what f finds in the accepted steps of the run, in their order
 --   lastOf x xs       ==  the last of xs, or x where there is none
---   some xs           ==  there is one
+--   someOf xs         ==  there is one
 --   sent step         ==  the data of a request
 --   Wired run         ==  the data of every request of the run are bytes
 use Prim.Native.Nat.{ℕ}
@@ -90,9 +91,9 @@ unfoldable pub lastOf : {A : Type 0} → A → List A → A
 lastOf x [] = x
 lastOf x (y ∷ ys) = lastOf y ys
 
-abbrev pub some : {A : Type 0} → List A → Bool
-some [] = false
-some (x ∷ xs) = true
+abbrev pub someOf : {A : Type 0} → List A → Bool
+someOf [] = false
+someOf (x ∷ xs) = true
 
 abbrev pub sent : Step → List ℕ
 sent (load k range w) = []
