@@ -26,7 +26,7 @@ use Rattle.single.specs.Tests.{soundControl}
 use Rattle.single.specs.Meaning.{sound-control}
 use Rattle.sound.specs.Sound.{soundOf}
 use Rattle.sound.specs.Meaning.{Sound, sound-reads}
-use Rattle.sound.specs.Rising.{Keyed, Rising, rising-start, rising-on, rising-over}
+use Rattle.sound.specs.Rising.{Keyed, TopsAbove, rising-start, rising-on, rising-over}
 use Rattle.address.specs.declared.Sought.{Sought}
 use Rattle.address.specs.Addressed.{mostAddressed, indicesOf, seatAt, seatsFrom, addressedIn, unitIn}
 use Rattle.address.specs.AddressedLaws.{sound-channel, isNamed, Named, named-reads, SeatedOn, seat-named, named-seat, seats-on}
@@ -46,7 +46,7 @@ module _ (t : Table) (u ch s : ℕ) where
     pub low : n ≤ t .count
     pub long : length tops ≡ 256
     pub wide : length seats ≡ mostAddressed
-    pub rises : rising ≡ true → Rising t tops n
+    pub rises : rising ≡ true → TopsAbove t tops n
     pub unit : Reads (ltb 0 (getD tops u 0)) (Owned n)
     pub seated : (c : ℕ) → SeatIs c n (getD seats c 0)
 

@@ -2,7 +2,7 @@
 // promises to the layer above: its public function answers, for every buffer, every run and every IDs whatever, as specs/ says.
 ghost use mathlib.Core.Path.{_≡_};
 ghost use Rattle.sweep3.specs.Sweep.{idOn};
-ghost use Rattle.keeping3.specs.Keeping.{clusterOn};
+ghost use Rattle.keeping3.specs.Keeping.{clusterBehind};
 ghost use Rattle.clusters3.specs.Shown.{shownCluster, clustersBy};
 use entities::Run;
 use ground::index_of;
@@ -11,7 +11,7 @@ use scan::byte_at;
 
 // What is shown of the cluster that stands on an entity's ID.
 fn shown_on(clusters: &[u8], given: &[u16; 256], id: u8) -> Cluster
-    ensures { λ r. ⌜ r ≡ shownCluster (clusterOn (now (clusters .entry)) (now (given .entry)) id) ⌝ }
+    ensures { λ r. ⌜ r ≡ shownCluster (clusterBehind (now (clusters .entry)) (now (given .entry)) id) ⌝ }
 {
     let k = buffer::cluster_with(clusters, given[index_of(id)]);
     let bitmap = 0;

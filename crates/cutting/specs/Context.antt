@@ -31,13 +31,13 @@ use Rattle.interfaces.specs.InterfaceLaws.{nine}
 use Rattle.collection.specs.Rule7.{Rule7}
 use Rattle.collection.specs.Reading.{collects}
 use Rattle.collection.specs.CollectionLaws.{reads-rule7}
-use Rattle.groups.specs.Rules5and6.{Form, Rule5By, Rule5, listedOf, Rule6By, audioForm}
+use Rattle.groups.specs.Rules5and6.{HeaderForm, Rule5By, Rule5, listedOf, Rule6By, audioForm}
 use Rattle.groups.specs.Reading.{frameOf, frameFrom, headerOf, isHeader, straysFrom}
 use Rattle.groups.specs.Opening.{reads-header}
 use Rattle.groups.specs.FrameLaws.{Framed, framed, header-told, header-room, reads-rule5}
 use Rattle.groups.specs.TotalLaws.{reads-rule6, rule6-run}
 use Rattle.cutting.specs.Rules1to9.{Opened, headerPlace}
-use Rattle.cutting.specs.Survey.{runOf}
+use Rattle.cutting.specs.Survey.{runFound}
 
 module _ (s : List ℕ) (o : Opened s) where
   pub cut-told : rest s 0 ≡ o .descriptors
@@ -80,7 +80,7 @@ module _ (s : List ℕ) (o : Opened s) where
   rule5-reads = reads-rule5 s (o .tail) (frame-told .behind) audioForm _ (reads-header (headerOf s (frameOf s)))
 
   -- of a header of any form
-  module _ {form : Form} (h : Rule5By form (o .tail)) where
+  module _ {form : HeaderForm} (h : Rule5By form (o .tail)) where
     pub header-is : h .header ≡ headerOf s (frameOf s)
     header-is = header-told s (o .tail) (frame-told .behind) (h .header) (h .others) (h .stands) .0
 
@@ -114,14 +114,14 @@ module _ (s : List ℕ) (o : Opened s) where
     pub rule7-reads : Reads (collects s (listedOf (headerOf s (frameOf s)))) (Rule7 (o .descriptors) (listedOf (h .header)))
     rule7-reads = rw (← cut-told, header-is) (reads-rule7 s (listedOf (headerOf s (frameOf s))))
 
-    pub run-is : (t : Rule6By form (h .header) (h .others)) → runOf s (frameOf s) ≡ t .run
-    unfolding runOf frameOf frameFrom
+    pub run-is : (t : Rule6By form (h .header) (h .others)) → runFound s (frameOf s) ≡ t .run
+    unfolding runFound frameOf frameFrom
     run-is t = rule6-run form s (h .header) (frameOf s .header) (frameOf s .run) (room .0) (room .1) full (h .others) others-are t
 
     -- the run, where it keeps rule 6
     module _ (t : Rule6By form (h .header) (h .others)) where
       pub run-first : (p : List ℕ → Bool) → searched (λ b d. p d) (take (frameOf s .end) s) (frameOf s .run) ≡ firstFrom (λ b d. p d) (headerPlace o + length (h .header)) [] (t .run)
-      unfolding searched runOf
+      unfolding searched runFound
       run-first p = ap (firstFrom (λ b d. p d) (frameOf s .run) []) (run-is t) ∙ ap (λ (i : ℕ). firstFrom (λ b d. p d) i [] (t .run)) run-place
 
       front : List (List ℕ)
@@ -163,6 +163,6 @@ module _ (s : List ℕ) (o u : Opened s) where
   pub opened-one : o .descriptors ≡ u .descriptors
   opened-one = cutting-one s (o .descriptors) (u .descriptors) (o .rule3) (u .rule3)
 
-  pub run-one : {form : Form} (h : Rule5By form (o .tail)) (k : Rule5By form (u .tail)) (t : Rule6By form (h .header) (h .others)) (v : Rule6By form (k .header) (k .others))
+  pub run-one : {form : HeaderForm} (h : Rule5By form (o .tail)) (k : Rule5By form (u .tail)) (t : Rule6By form (h .header) (h .others)) (v : Rule6By form (k .header) (k .others))
       → t .run ≡ v .run
   run-one h k t v = sym (run-is s o h t) ∙ run-is s u k v

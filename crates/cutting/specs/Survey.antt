@@ -1,5 +1,5 @@
 -- What the reader computes for the rules 8, 9 and 17, the verdict by the rules from 1 on, and the survey that the layer above stands on.
---   runOf s f               ==  the run's descriptors, the entities; f is where the AudioControl group's parts stand
+--   runFound s f            ==  the run's descriptors, the entities; f is where the AudioControl group's parts stand
 --   breach8, breach9, breach17  ==  where rule 8, 9, 17 is broken first
 --   runJudged s f r         ==  the first of 8, 9 and 17 that applies, with its place; r where none does
 --   verdict s               ==  the first of 1 to 9 and 17 that applies, with its place; 0 and 0 where none does
@@ -32,11 +32,11 @@ use Rattle.groups.specs.Reading.{frameOf, judged}
 use Rattle.cutting.specs.declared.Survey.{Survey}
 
 -- the run is read in the configuration up to its end, so that a search in it stops with the run
-unfoldable pub runOf : List ℕ → Frame → List (List ℕ)
-runOf s f = rest (take (f .end) s) (f .run)
+unfoldable pub runFound : List ℕ → Frame → List (List ℕ)
+runFound s f = rest (take (f .end) s) (f .run)
 
 unfoldable pub breach8 : List ℕ → Frame → Place
-breach8 s f = keptAt (within 1 (length (runOf s f)) mostEntities) (f .header)
+breach8 s f = keptAt (within 1 (length (runFound s f)) mostEntities) (f .header)
 
 unfoldable pub breach9 : List ℕ → Frame → Place
 breach9 s f = searched (λ b d. isWrong d) (take (f .end) s) (f .run)
@@ -57,7 +57,7 @@ unfoldable pub refusedSurvey : Refusal → Survey
 refusedSurvey r = record { refusal = r; control = 0; header = 0; run = runIn audio 0 [] }
 
 unfoldable pub surveyed : List ℕ → Frame → Survey
-surveyed s f = record { refusal = none; control = byte s (f .control + 2); header = f .header; run = runIn audio (f .run) (runOf s f) }
+surveyed s f = record { refusal = none; control = byte s (f .control + 2); header = f .header; run = runIn audio (f .run) (runFound s f) }
 
 unfoldable pub unlaidRefused : List ℕ → ℕ → Place → Refusal
 unlaidRefused s p Nowhere = none

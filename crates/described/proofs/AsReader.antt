@@ -28,7 +28,7 @@ use Rattle.reader.proofs.Exactly.{answers, refused-exactly}
 use Rattle.fields.specs.Listed.{Listed, wrong, laid, printed, writtenAs}
 use Rattle.laying.specs.LayingLaws.{long-printed}
 use Rattle.indices.specs.IndexLaws.{FirstIndex}
-use Rattle.writing.specs.Writing.{descriptorsOf, headerOf, TooLong, WrongIn}
+use Rattle.writing.specs.Writing.{descriptorsOf, headerWith, TooLong, WrongIn}
 use Rattle.described.specs.OurBox.{EntitiesRefused, Framed, Fitting, OfEntities, readerPlace, AsReader}
 use Rattle.described.proofs.Trips.{right5, right6}
 
@@ -85,7 +85,7 @@ module _ (s : List ℕ) (ls : List Listed) (cs : List ℕ) (f : Framed s ls cs) 
   each d m = fit-all ls fit d m .0
 
   abbrev start : ℕ
-  start = headerPlace (f .opened) + length (headerOf cs (length (flatten ds)))
+  start = headerPlace (f .opened) + length (headerWith cs (length (flatten ds)))
 
   -- a layout is wrong to the writer exactly where it is to the reader
   narrow : (d : List ℕ) → d ∈ ds → WrongIn d → WrongLayout audio d

@@ -40,10 +40,10 @@ use Rattle.clusters.specs.Rule13.{Connected}
 use Rattle.clusters.specs.Topology.{connected-parts}
 use Rattle.reader.specs.Configuration.{runOf, placeOfRun, Configuration}
 use Rattle.fields.specs.declared.Item.{Item}
-use Rattle.fields.specs.Listed.{Listed, wrong, laid, printed, writtenAs, listedWith, blankItem, movedBy, foundAs, foundIn, ReadAs}
+use Rattle.fields.specs.Listed.{Listed, wrong, laid, printed, writtenAs, listedWith, blankItem, movedBy, foundAs, fieldsFound, ReadAs}
 use Rattle.fields.specs.ListedLaws.{read-some, moved-same}
 use Rattle.writing.specs.declared.Wrote.{Wrote}
-use Rattle.writing.specs.Writing.{mostNumbers, descriptorsOf, headerOf, wholeOf, writtenOf, WrongIn, entityRows, roomRows, writerRows, writerVerdict, Writes}
+use Rattle.writing.specs.Writing.{mostNumbers, descriptorsOf, headerWith, wholeOf, writtenOf, WrongIn, entityRows, roomRows, writerRows, writerVerdict, Writes}
 use Rattle.described.specs.OurBox.{EntitiesKeep, Framed, Within, listRead, collectionRead, bytesOfBoth, ReadBack, WrittenAgain, Had}
 use Rattle.described.proofs.Refused.{all-descriptors, empty-unlaid, empty-unprinted, verdict-answers}
 
@@ -80,13 +80,13 @@ printed-none i s k o =
 
 -- ---- a list that keeps the rules is found again in its descriptors
 
-found-one : (l : Listed) → (WrongIn (writtenAs l) → ⊥) → (audio .Withdrawn (writtenAs l) → ⊥) → foundIn (writtenAs l) ≡ l
-unfolding foundIn
+found-one : (l : Listed) → (WrongIn (writtenAs l) → ⊥) → (audio .Withdrawn (writtenAs l) → ⊥) → fieldsFound (writtenAs l) ≡ l
+unfolding fieldsFound
 found-one wrong n w = absurd (n (inl (empty-unlaid, empty-unprinted)))
 found-one (laid f) n w = ap foundAs (read-back f (kept-of f (⊎-elim (λ x. x) (λ x. absurd (w x)) (layout-or (bytesOf f) (λ x. n (inl x))))))
 found-one (printed i s k) n w = absurd (⊎-elim (printed-none i s k) w (layout-or (writtenAs (printed i s k)) (λ x. n (inl x))))
 
-found-all : (ls : List Listed) → ((d : List ℕ) → d ∈ descriptorsOf ls → WrongIn d → ⊥) → NoneWithdrawn audio (descriptorsOf ls) → map foundIn (descriptorsOf ls) ≡ ls
+found-all : (ls : List Listed) → ((d : List ℕ) → d ∈ descriptorsOf ls → WrongIn d → ⊥) → NoneWithdrawn audio (descriptorsOf ls) → map fieldsFound (descriptorsOf ls) ≡ ls
 found-all [] n w = refl
 found-all (l ∷ ls) n w =
     let one = found-one l (n (writtenAs l) (List·Memᴰ·head refl)) (w (writtenAs l) (List·Memᴰ·head refl)) in
@@ -132,7 +132,7 @@ module _ (s : List ℕ) (ls : List Listed) (cs : List ℕ) (w : Framed s ls cs) 
   run-written = descriptorsOf ls
 
   abbrev header : List ℕ
-  header = headerOf cs (length (flatten run-written))
+  header = headerWith cs (length (flatten run-written))
 
   abbrev others : List (List ℕ)
   others = run-written ++ (w .later ++ w .after)
@@ -199,7 +199,7 @@ module _ (s : List ℕ) (ls : List Listed) (cs : List ℕ) (k : EntitiesKeep ls)
   unfolding kept right6
   run-one t = kept-run s (t .kept) ∙ sym (kept-run s kept)
 
-  header-one : (t : Configuration s) → t .kept .rule5 .header ≡ headerOf cs (length (flatten ds))
+  header-one : (t : Configuration s) → t .kept .rule5 .header ≡ headerWith cs (length (flatten ds))
   unfolding kept right5
   header-one t = kept-header s (t .kept) ∙ sym (kept-header s kept)
 
@@ -207,7 +207,7 @@ module _ (s : List ℕ) (ls : List Listed) (cs : List ℕ) (k : EntitiesKeep ls)
   unfolding kept right5 right6
   read-back-same = record {
     accepted = record { kept = kept; connected = connected; rule14 = w .rule14 (connected .cluster) (connected .given-out); rule15 = w .rule15 (connected .cluster) (connected .given-out) };
-    same-list = λ t. ap (map foundIn) (run-one t) ∙ found-all ls (k .1 .0) (k .1 .1 .0);
+    same-list = λ t. ap (map fieldsFound) (run-one t) ∙ found-all ls (k .1 .0) (k .1 .1 .0);
     same-collection = λ t. ap listedOf (header-one t);
   }
 
@@ -228,7 +228,7 @@ bytes-each [] b d m = absurd (List·Memᴰ·not-nil m)
 bytes-each (x ∷ ds) b d m = ⊎-elim (λ e. rw e (bytes-left x (flatten ds) b)) (λ j. bytes-each ds (bytes-right x (flatten ds) b) d j) (List·Memᴰ·cases-cons m)
 
 -- a header says its own bytes
-header-again : (h : List ℕ) (n : ℕ) → Descriptor h → Header h → Bytes h → word h 5 ≡ length h + n → headerOf (listedOf h) n ≡ h
+header-again : (h : List ℕ) (n : ℕ) → Descriptor h → Header h → Bytes h → word h 5 ≡ length h + n → headerWith (listedOf h) n ≡ h
 header-again [] n c r b e = let t = c .long in absurd (omega arith)
 header-again (x0 ∷ []) n c r b e = let l = r .long in absurd (omega arith)
 header-again (x0 ∷ x1 ∷ []) n c r b e = let l = r .long in absurd (omega arith)
@@ -276,15 +276,15 @@ items-each q (d ∷ ds) b (suc i) l =
     (x .0, x .1, x .2 ∙ ap (λ (k : ℕ). movedBy k (x .0)) z)
 
 items-found : (s front back : List ℕ) (q : ℕ) (ds : List (List ℕ)) (b : (d : List ℕ) → d ∈ ds → Bytes d) → s ≡ front ++ (flatten ds ++ back) → length front ≡ q
-    → map (listedWith s) (items q ds b) ≡ map foundIn ds
+    → map (listedWith s) (items q ds b) ≡ map fieldsFound ds
 unfolding items flatten
 items-found s front back q [] b e n = refl
 items-found s front back q (d ∷ ds) b e n =
     let x = read-some d (b d (List·Memᴰ·head refl)) in
     let f : s ≡ front ++ (d ++ (flatten ds ++ back)) = e ∙ ap (λ (y : List ℕ). front ++ y) (append-assoc d (flatten ds) back) in
-    let one : listedWith s (movedBy q (x .0)) ≡ foundIn d =
+    let one : listedWith s (movedBy q (x .0)) ≡ fieldsFound d =
     ap (λ (k : ℕ). listedWith s (movedBy k (x .0))) (sym n) ∙ ap (λ (y : List ℕ). listedWith y (movedBy (length front) (x .0))) f ∙ moved-same front d (flatten ds ++ back) (x .0) (x .1) in
-    let more : map (listedWith s) (items (q + length d) ds (λ y m. b y (List·Memᴰ·tail m))) ≡ map foundIn ds =
+    let more : map (listedWith s) (items (q + length d) ds (λ y m. b y (List·Memᴰ·tail m))) ≡ map fieldsFound ds =
     items-found s (front ++ d) back (q + length d) ds (λ y m. b y (List·Memᴰ·tail m)) (f ∙ sym (append-assoc front d (flatten ds ++ back))) (length-append front d ∙ ap (λ (k : ℕ). k + length d) n) in
     rw (one, more) refl
 
@@ -316,13 +316,13 @@ module _ (s : List ℕ) (t : Configuration s) (b : Bytes s) where
   short : (d : List ℕ) → d ∈ k .opened .tail → length d ≤ 255
   short d m = let o = tail-each (k .opened) d m .own in let l = tail-small d m 0 in omega arith
 
-  one-again : (d : List ℕ) → d ∈ run → writtenAs (foundIn d) ≡ d
-  unfolding foundIn
+  one-again : (d : List ℕ) → d ∈ run → writtenAs (fieldsFound d) ≡ d
+  unfolding fieldsFound
   one-again d m =
       let l = k .rule9 d m in
       ap (λ (o : Option Fields). writtenAs (foundAs o)) (laid-only d l) ∙ sym (laid-whole d l (run-each d m .own) (k .rule6 .class d m))
 
-  each-again : (ds : List (List ℕ)) → ((d : List ℕ) → d ∈ ds → writtenAs (foundIn d) ≡ d) → descriptorsOf (map foundIn ds) ≡ ds
+  each-again : (ds : List (List ℕ)) → ((d : List ℕ) → d ∈ ds → writtenAs (fieldsFound d) ≡ d) → descriptorsOf (map fieldsFound ds) ≡ ds
   each-again [] f = refl
   each-again (d ∷ ds) f =
       let one = f d (List·Memᴰ·head refl) in
@@ -332,7 +332,7 @@ module _ (s : List ℕ) (t : Configuration s) (b : Bytes s) where
   run-again : descriptorsOf (listRead t) ≡ run
   run-again = each-again run one-again
 
-  head-again : headerOf (listedOf h) (length (flatten run)) ≡ h
+  head-again : headerWith (listedOf h) (length (flatten run)) ≡ h
   head-again =
       header-again h (length (flatten run)) (tail-each (k .opened) h h-in) (k .rule5 .right) (tail-small h h-in)
       (k .rule6 .length-told ∙ ap (λ (n : ℕ). length h + n) (sym (length-flatten run)))

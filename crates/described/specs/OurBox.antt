@@ -53,10 +53,10 @@ use Rattle.controls.specs.Rule15.{Rule15}
 use Rattle.reader.specs.Configuration.{runOf, placeOfRun, Configuration}
 use Rattle.fields.specs.declared.Item.{Item}
 use Rattle.reader.specs.Refusals.{Refused}
-use Rattle.fields.specs.Listed.{Listed, wrong, printed, writtenAs, blankItem, movedBy, foundIn, ReadAs}
+use Rattle.fields.specs.Listed.{Listed, wrong, printed, writtenAs, blankItem, movedBy, fieldsFound, ReadAs}
 use Rattle.writing.specs.declared.EntityList.{EntityList}
 use Rattle.writing.specs.declared.Wrote.{Wrote}
-use Rattle.writing.specs.Writing.{listOf, descriptorsOf, headerOf, writtenOf, TooLong, entityRows, writerRows, writerVerdict, Writes}
+use Rattle.writing.specs.Writing.{listOf, descriptorsOf, headerWith, writtenOf, TooLong, entityRows, writerRows, writerVerdict, Writes}
 
 abbrev pub EntitiesKeep : List Listed → Type 0
 EntitiesKeep ls = AllKept (entityRows (descriptorsOf ls) end)
@@ -92,7 +92,7 @@ OfEntities n = ((8 ≤ n) × (n ≤ 13)) ⊎ (n ≡ 17)
 module _ {s : List ℕ} {ls : List Listed} {cs : List ℕ} (f : Framed s ls cs) where
   abbrev pub readerPlace : ℕ → ℕ → ℕ
   readerPlace n i =
-      pick (eqb n 8) (headerPlace (f .opened)) (headerPlace (f .opened) + length (headerOf cs (length (flatten (descriptorsOf ls)))) + total (take i (descriptorsOf ls)))
+      pick (eqb n 8) (headerPlace (f .opened)) (headerPlace (f .opened) + length (headerWith cs (length (flatten (descriptorsOf ls)))) + total (take i (descriptorsOf ls)))
 
   pub record AsReader : Type 0 where
     pub given : (room n i : ℕ) → EntitiesRefused ls n i → Refused s room n (readerPlace n i)
@@ -100,7 +100,7 @@ module _ {s : List ℕ} {ls : List Listed} {cs : List ℕ} (f : Framed s ls cs) 
 
 module _ {s : List ℕ} (t : Configuration s) where
   abbrev pub listRead : List Listed
-  listRead = map foundIn (runOf (t .kept))
+  listRead = map fieldsFound (runOf (t .kept))
 
   abbrev pub collectionRead : List ℕ
   collectionRead = listedOf (t .kept .rule5 .header)

@@ -12,7 +12,7 @@
 --                            stands at place q
 --   foundWith k d        ==  the entity whose fields stand in d by the layout k, whether or not d has that layout
 --   foundAs o            ==  the entity of the fields o; wrong where there are none
---   foundIn d            ==  the entity that the layouts find in the descriptor d; wrong where they find none
+--   fieldsFound d        ==  the entity that the layouts find in the descriptor d; wrong where they find none
 --   noSpan               ==  no part
 --   sourcesAt F d k, controlsAt F d k  ==  where in d, which has the format F from offset k on, the sources stand, and the bytes of any number: control
 --                            bytes or masks; no part where F has none
@@ -72,8 +72,8 @@ abbrev pub foundAs : Option Fields → Listed
 foundAs none = wrong
 foundAs (some f) = laid f
 
-unfoldable pub foundIn : List ℕ → Listed
-foundIn d = foundAs (fieldsOf d)
+unfoldable pub fieldsFound : List ℕ → Listed
+fieldsFound d = foundAs (fieldsOf d)
 
 unfoldable pub foundWith : Kind → List ℕ → Listed
 foundWith k d = laid (fieldsAt k (valueAt (formatOf k) d 3))
@@ -117,6 +117,6 @@ pub record KindRead (k : Kind) (d : List ℕ) (r : Item) : Type 0 where
   pub controls : r .controls ≡ controlsAt (formatOf k) d 3
 
 pub record ReadAs (d : List ℕ) (r : Item) : Type 0 where
-  pub fields : listedWith d r ≡ foundIn d
+  pub fields : listedWith d r ≡ fieldsFound d
   pub sources : r .sources ≡ sourcesIn d
   pub controls : r .controls ≡ controlsIn d

@@ -38,7 +38,7 @@ use Rattle.fields.specs.declared.Item.{Item}
 use Rattle.fields.specs.declared.Numbers.{Numbers}
 use Rattle.fields.specs.declared.Numbers.the-variants.{Unknown, Input, Output, Mixer, Selector, Feature, Printed}
 use Rattle.fields.specs.declared.Span.{Span}
-use Rattle.fields.specs.Listed.{Listed, laid, wrong, printed, spanOf, entityFrom, listedWith, foundWith, foundAs, foundIn, blankItem, spanFrom, movedBy, noSpan, sourcesAt, controlsAt, spanBy, sourcesIn, controlsIn, KindRead, ReadAs}
+use Rattle.fields.specs.Listed.{Listed, laid, wrong, printed, spanOf, entityFrom, listedWith, foundWith, foundAs, fieldsFound, blankItem, spanFrom, movedBy, noSpan, sourcesAt, controlsAt, spanBy, sourcesIn, controlsIn, KindRead, ReadAs}
 
 abbrev pub two : List ℕ → ℕ → TwoBytes
 two d k = record { low = byte d k; high = byte d (k + 1) }
@@ -112,8 +112,8 @@ layout-own kind.selector v = refl
 layout-own kind.feature v = refl
 
 module _ (d : List ℕ) where
-  found-told : (k : Kind) → kindTold (entityOf d) ≡ some k → foundWith k d ≡ foundIn d
-  unfolding entityOf foundWith foundIn
+  found-told : (k : Kind) → kindTold (entityOf d) ≡ some k → foundWith k d ≡ fieldsFound d
+  unfolding entityOf foundWith fieldsFound
   found-told k q = go (fieldsOf d) refl q
     where
       go : (o : Option Fields) → fieldsOf d ≡ o → kindTold (entityIn o) ≡ some k → laid (fieldsAt k (valueAt (formatOf k) d 3)) ≡ foundAs o
@@ -145,8 +145,8 @@ module _ (d : List ℕ) where
       go none e h = refl
       go (some f) e h = let t = found-by d f e in absurd (none-some (sym h ∙ ap (λ (g : Fields). kindTold (entityIn (some g))) (sym (t .same)) ∙ told-own (t .kind) (valueAt (formatOf (t .kind)) d 3)))
 
-  none-found : kindTold (entityOf d) ≡ none → wrong ≡ foundIn d
-  unfolding entityOf foundIn
+  none-found : kindTold (entityOf d) ≡ none → wrong ≡ fieldsFound d
+  unfolding entityOf fieldsFound
   none-found q = go (fieldsOf d) q
     where
       known : (f : Fields) → kindTold (entityIn (some f)) ≡ none → ⊥
@@ -234,8 +234,8 @@ made-same x y s t k l e f g = rw (e, f, g) refl
 
 pub read-one : (d : List ℕ) (r q : Item) → ReadAs d r → ReadAs d q → r ≡ q
 read-one d r q a b =
-    let x : r .numbers ≡ numbersIn (foundIn d) = sym (numbers-back (r .numbers) _ _) ∙ ap numbersIn (a .fields) in
-    let y : q .numbers ≡ numbersIn (foundIn d) = sym (numbers-back (q .numbers) _ _) ∙ ap numbersIn (b .fields) in
+    let x : r .numbers ≡ numbersIn (fieldsFound d) = sym (numbers-back (r .numbers) _ _) ∙ ap numbersIn (a .fields) in
+    let y : q .numbers ≡ numbersIn (fieldsFound d) = sym (numbers-back (q .numbers) _ _) ∙ ap numbersIn (b .fields) in
     let n : r .numbers ≡ q .numbers = x ∙ sym y in
     let s : r .sources ≡ q .sources = a .sources ∙ sym (b .sources) in
     let c : r .controls ≡ q .controls = a .controls ∙ sym (b .controls) in
@@ -311,7 +311,7 @@ part-moved front d back a e h =
     ∙ ap (take (e - a)) (sym (drop-drop a (length front) (front ++ (d ++ back))) ∙ ap (drop a) (drop-append-seam front (d ++ back)))
     ∙ part-front d back a e h
 
-pub moved-same : (front d back : List ℕ) (r : Item) → ReadAs d r → listedWith (front ++ (d ++ back)) (movedBy (length front) r) ≡ foundIn d
+pub moved-same : (front d back : List ℕ) (r : Item) → ReadAs d r → listedWith (front ++ (d ++ back)) (movedBy (length front) r) ≡ fieldsFound d
 unfolding sourcesIn controlsIn
 moved-same front d back r h =
     let s : r .sources .end ≤ length d = subst (λ (x : Span). x .end ≤ length d) (sym (h .sources)) (span-inside sourcesAt d (λ F e. sources-inside F d 3 e) (fieldsOf d) refl) in

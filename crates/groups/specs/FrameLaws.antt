@@ -23,7 +23,7 @@ use Rattle.search.specs.Found.{found, found-none, rest-split}
 use Rattle.search.specs.declared.Want.the-variants as want
 use Rattle.interfaces.specs.Rule4.{Rule4}
 use Rattle.interfaces.specs.InterfaceLaws.{nine}
-use Rattle.groups.specs.Rules5and6.{Form, Rule5By}
+use Rattle.groups.specs.Rules5and6.{HeaderForm, Rule5By}
 use Rattle.groups.specs.Reading.{frameOf, frameFrom, headerOf}
 
 pub record Framed (s : List ℕ) (before : List (List ℕ)) (control : List ℕ) (tail : List (List ℕ)) : Type 0 where
@@ -110,7 +110,7 @@ module _ (s : List ℕ) (tail : List (List ℕ)) (e : rest s (frameOf s .header)
       let l : length h ≡ frameOf s .run - frameOf s .header = ap length (header-told h others q .0) ∙ part-length s (frameOf s .header) (frameOf s .run) (o .1) in
       (omega arith, o .1)
 
-  pub reads-rule5 : (f : Form) (b : Bool) → Reads b (f .Right (headerOf s (frameOf s))) → Reads b (Rule5By f tail)
+  pub reads-rule5 : (f : HeaderForm) (b : Bool) → Reads b (f .Right (headerOf s (frameOf s))) → Reads b (Rule5By f tail)
   reads-rule5 f b r =
       reads-same r of
       (λ k. rw (header-told (k .header) (k .others) (k .stands) .0) at (k .right))

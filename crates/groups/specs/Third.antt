@@ -26,14 +26,14 @@ use Rattle.interfaces.specs.Reading.{interfacesJudged}
 use Rattle.interfaces.specs.Judged.{interfaces-chain}
 use Rattle.groups.specs.declared.Frame.{Frame}
 use Rattle.groups.specs.declared.Framing.{Framing}
-use Rattle.groups.specs.Rules5and6.{Form}
+use Rattle.groups.specs.Rules5and6.{HeaderForm}
 use Rattle.groups.specs.Reading.{frameOf, headerOf, straysFrom, noFrame, framedAs}
 
 pub record ThirdHeader (h : List ℕ) : Type 0 where
   pub opening : (byte h 1 ≡ 0x24) × (byte h 2 ≡ 1)
   pub long : length h ≡ 10
 
-abbrev pub thirdForm : Form
+abbrev pub thirdForm : HeaderForm
 thirdForm = record { Right = ThirdHeader; some = λ h k. let l = k .long in omega arith; told = 4 }
 
 unfoldable pub isThirdHeader : List ℕ → Bool

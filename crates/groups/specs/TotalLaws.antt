@@ -23,7 +23,7 @@ use Rattle.scan.specs.CuttingLaws.{rest-none, rest-more, end-off}
 use Rattle.search.specs.Want.{Interface, Class, isClass, reads-interface, reads-class, wants, foundFrom}
 use Rattle.search.specs.Found.{Found, found, found-none, rest-split, rest-front}
 use Rattle.search.specs.declared.Want.the-variants as want
-use Rattle.groups.specs.Rules5and6.{GroupEnds, last, next, Form, Rule6By}
+use Rattle.groups.specs.Rules5and6.{GroupEnds, last, next, HeaderForm, Rule6By}
 use Rattle.groups.specs.Reading.{runEnd, straysFrom}
 
 -- neither of type 24 nor an interface descriptor: the group's other descriptors
@@ -166,7 +166,7 @@ later-stops [] after h (next {i = i} k) = stop-at (λ c. no-both i c k)
 later-stops (d ∷ later) after h k = stop-at (h d (List·Memᴰ·head refl) .0)
 
 -- f is the form of headers, header the header's place, h the header, from where the run begins
-module _ (f : Form) (s h : List ℕ) (header from : ℕ) (e : from ≡ header + length h) (inside : from ≤ length s) (full : from + total (rest s from) ≡ length s) where
+module _ (f : HeaderForm) (s h : List ℕ) (header from : ℕ) (e : from ≡ header + length h) (inside : from ≤ length s) (full : from + total (rest s from) ≡ length s) where
   r : Run s from
   r = run-found s from inside full
 

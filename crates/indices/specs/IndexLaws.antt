@@ -6,7 +6,7 @@
 --   indexed-judged     ==  so the rules 10 to 13 as connections computes them, by index, are connectedThen
 --   index-own          ==  the index of an entity's place is its own, since places rise
 --   decides-index      ==  what decides a rule by place decides it by index
---   connectedRows ds behind  ==  the rows 10 to 13 of the papers' table, by index, and the rows behind them
+--   indexedRows ds behind    ==  the rows 10 to 13 of the papers' table, by index, and the rows behind them
 --   judgedRows ds behind  ==  the rows 17 and 10 to 13 of the papers' table, by index, and the rows behind them
 --   judged-rows        ==  THE LAW: of descriptors one behind another, 32 at most, of which none has a wrong layout, what is judged is put together by
 --                          these rows
@@ -126,15 +126,15 @@ module _ (ds : List (List ℕ)) (run : Run) (counted : held run ≡ length ds) (
             ap (indexIn run) e ∙ ap At (index-own (w .offender) (w .inside) ∙ sym (w .at))
 
 module _ (ds : List (List ℕ)) where
-  abbrev pub connectedRows : (Rule10 ds → Rule11 audio ds → Rule12 audio ds → Rule13 audio ds → Rows) → Rows
-  connectedRows behind =
+  abbrev pub indexedRows : (Rule10 ds → Rule11 audio ds → Rule12 audio ds → Rule13 audio ds → Rows) → Rows
+  indexedRows behind =
       row 10 (Rule10 ds) (FirstIndex WrongId ds) (λ a.
       row 11 (Rule11 audio ds) (FirstIndex (λ b d. WrongSources audio ds d) ds) (λ b.
       row 12 (Rule12 audio ds) (FirstIndex (λ b d. Endless audio ds d) ds) (λ c.
       row 13 (Rule13 audio ds) (FirstIndex (λ b d. Broken audio ds d) ds) (λ e. behind a b c e))))
 
   abbrev pub judgedRows : (NoneWithdrawn audio ds → Rule10 ds → Rule11 audio ds → Rule12 audio ds → Rule13 audio ds → Rows) → Rows
-  judgedRows behind = row 17 (NoneWithdrawn audio ds) (FirstIndex (λ b d. audio .Withdrawn d) ds) (λ w. connectedRows (behind w))
+  judgedRows behind = row 17 (NoneWithdrawn audio ds) (FirstIndex (λ b d. audio .Withdrawn d) ds) (λ w. indexedRows (behind w))
 
   module _ (cut : (d : List ℕ) → d ∈ ds → Descriptor d) (right : (d : List ℕ) → d ∈ ds → WrongLayout audio d → ⊥) (few : length ds ≤ mostEntities) where
     abbrev s : List ℕ
@@ -194,7 +194,7 @@ module _ (ds : List (List ℕ)) where
         stands : NoneWithdrawn audio ds → Represents audio s 0 ds run
         stands w = run-represents audio s 0 ds [] (sym (append-nil (flatten ds))) cut (laidOut audio ds (λ d m. layout-or d (right d m)) w) few
 
-        connected : (w : NoneWithdrawn audio ds) → Answers (connectedRows (behind w)) (connectedThen s run r)
+        connected : (w : NoneWithdrawn audio ds) → Answers (indexedRows (behind w)) (connectedThen s run r)
         connected w =
             let k = stands w in (
               indexIn run (breach10 run),

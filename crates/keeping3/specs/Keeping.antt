@@ -1,5 +1,5 @@
 -- What the reader computes of rule 13 in the 3.0 edition: whether an entity keeps its kind's rule, where clusters are given out on IDs.
---   clusterOn b ids x  ==  the cluster on the entity ID x: the descriptor of the buffer b that bears the ID which stands there
+--   clusterBehind b ids x  ==  the cluster on the entity ID x: the descriptor of the buffer b that bears the ID which stands there
 --   Entering cs r      ==  r is i, the channels entering in all, and small enough to reckon with
 --   keepsBy s b n cl   ==  whether the entity n keeps its rule where the clusters cl are given out on IDs
 --   breach13 s b run cl  ==  the place of the first entity that does not
@@ -18,8 +18,8 @@ use Rattle.entities.specs.declared.Node.{Node}
 use Rattle.entities.specs.declared.Run.{Run}
 use Rattle.entities.specs.Run.{held, nodeAt, placeAt, sourcesOf, descriptorOf}
 
-abbrev pub clusterOn : List ℕ → List ℕ → ℕ → List ℕ
-clusterOn b ids x = clusterWith b (getD ids x 0)
+abbrev pub clusterBehind : List ℕ → List ℕ → ℕ → List ℕ
+clusterBehind b ids x = clusterWith b (getD ids x 0)
 
 -- at most 255 pins of 255 channels each
 pub record Entering (cs : List (List ℕ)) (r : ℕ) : Type 0 where

@@ -11,7 +11,7 @@ ghost use Rattle.channels.specs.Declared.{mostChannels};
 ghost use Rattle.buffer.specs.Clusters.{channelsOf};
 ghost use Rattle.buffer.specs.Reading.{clusterWith};
 ghost use Rattle.edition3.specs.Third.{firstOf, channelsIn, mixerLength, featureLength, alike};
-ghost use Rattle.keeping3.specs.Keeping.{clusterOn, Entering, keepsBy, breach13};
+ghost use Rattle.keeping3.specs.Keeping.{clusterBehind, Entering, keepsBy, breach13};
 use entities::Node;
 use entities::Run;
 use ground::Place;
@@ -24,14 +24,14 @@ const MOST_CHANNELS: u8 = 16;
 
 // The channels of the cluster that stands on an entity's ID.
 fn channels_on(clusters: &[u8], given: &[u16; 256], id: u8) -> u8
-    ensures { λ r. ⌜ r ≡ channelsOf (clusterOn (now (clusters .entry)) (now (given .entry)) id) ⌝ }
+    ensures { λ r. ⌜ r ≡ channelsOf (clusterBehind (now (clusters .entry)) (now (given .entry)) id) ⌝ }
 {
     byte_at(buffer::cluster_with(clusters, given[index_of(id)]), 6)
 }
 
 // How many channels enter by pin 1; none where there is no pin.
 fn first_count(clusters: &[u8], given: &[u16; 256], ids: &[u8]) -> u8
-    ensures { λ r. ⌜ r ≡ channelsOf (firstOf (map (clusterOn (now (clusters .entry)) (now (given .entry))) (now (ids .entry)))) ⌝ }
+    ensures { λ r. ⌜ r ≡ channelsOf (firstOf (map (clusterBehind (now (clusters .entry)) (now (given .entry))) (now (ids .entry)))) ⌝ }
 {
     if ids.len() == 0 {
         return 0;
@@ -42,7 +42,7 @@ fn first_count(clusters: &[u8], given: &[u16; 256], ids: &[u8]) -> u8
 // How many channels enter in all.
 fn channels_in(clusters: &[u8], given: &[u16; 256], ids: &[u8]) -> usize
     requires { ⌜ length (now ids) ≤ 255 ⌝ }
-    ensures { λ r. ⌜ Entering (map (clusterOn (now (clusters .entry)) (now (given .entry))) (now (ids .entry))) r ⌝ }
+    ensures { λ r. ⌜ Entering (map (clusterBehind (now (clusters .entry)) (now (given .entry))) (now (ids .entry))) r ⌝ }
 {
     let mut sum: usize = 0;
     let mut k: usize = 0;
@@ -89,7 +89,7 @@ fn mixer_kept(
     size: usize,
 ) -> bool
     requires { ⌜ length (now ids) ≤ 255 ⌝ }
-    ensures { λ r. ⌜ r ≡ (within 1 (channelsOf (clusterWith (now (clusters .entry)) cluster)) mostChannels && eqb size (mixerLength p (channelsOf (clusterWith (now (clusters .entry)) cluster)) (channelsIn (map (clusterOn (now (clusters .entry)) (now (given .entry))) (now (ids .entry)))))) ⌝ }
+    ensures { λ r. ⌜ r ≡ (within 1 (channelsOf (clusterWith (now (clusters .entry)) cluster)) mostChannels && eqb size (mixerLength p (channelsOf (clusterWith (now (clusters .entry)) cluster)) (channelsIn (map (clusterBehind (now (clusters .entry)) (now (given .entry))) (now (ids .entry)))))) ⌝ }
 {
     let c = byte_at(buffer::cluster_with(clusters, cluster), 6);
     if !few(c) {
@@ -101,7 +101,7 @@ fn mixer_kept(
 
 // Whether what enters by each pin has the same content as what enters by pin 1.
 fn selector_kept(clusters: &[u8], given: &[u16; 256], ids: &[u8]) -> bool
-    ensures { λ r. ⌜ r ≡ alike (map (clusterOn (now (clusters .entry)) (now (given .entry))) (now (ids .entry))) ⌝ }
+    ensures { λ r. ⌜ r ≡ alike (map (clusterBehind (now (clusters .entry)) (now (given .entry))) (now (ids .entry))) ⌝ }
 {
     let mut k: usize = 0;
     while k < ids.len() {
@@ -117,7 +117,7 @@ fn selector_kept(clusters: &[u8], given: &[u16; 256], ids: &[u8]) -> bool
 
 // Whether an entity keeps its kind's rule.
 fn kept(config: &[u8], clusters: &[u8], node: Node, given: &[u16; 256]) -> bool
-    ensures { λ r. ⌜ r ≡ keepsBy (now (config .entry)) (now (clusters .entry)) node (clusterOn (now (clusters .entry)) (now (given .entry))) ⌝ }
+    ensures { λ r. ⌜ r ≡ keepsBy (now (config .entry)) (now (clusters .entry)) node (clusterBehind (now (clusters .entry)) (now (given .entry))) ⌝ }
 {
     let d = scan::descriptor_at(config, node.place);
     let ids = entities::sources(config, node);
@@ -135,7 +135,7 @@ fn kept(config: &[u8], clusters: &[u8], node: Node, given: &[u16; 256]) -> bool
 
 // The first entity that breaks rule 13, where each ID gives out the cluster of such an ID.
 pub fn check_clusters(config: &[u8], clusters: &[u8], run: Run, given: [u16; 256]) -> Place
-    ensures { λ r. ⌜ r ≡ breach13 (now (config .entry)) (now (clusters .entry)) run (clusterOn (now (clusters .entry)) given) ⌝ }
+    ensures { λ r. ⌜ r ≡ breach13 (now (config .entry)) (now (clusters .entry)) run (clusterBehind (now (clusters .entry)) given) ⌝ }
 {
     let n = entities::count(run);
     let mut i: usize = 0;

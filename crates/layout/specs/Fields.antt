@@ -5,7 +5,7 @@
 --   bodyOf f       ==  its bytes from byte 2 on: the kind, then the format's bytes
 --   descriptorType ==  24 hex, byte 1 of every descriptor of the run
 --   bytesOf f      ==  the descriptor: its length, its type, then the bytes from byte 2 on
---   Kept f         ==  pins are 1 to 24, and the control size is 1 to 4
+--   InBounds f     ==  pins are 1 to 24, and the control size is 1 to 4
 --   LaidOut d      ==  the layout of d is right (its contrary is refused by 9 or 17): there are fields whose bytes d has from byte 2 on
 --   fieldsBy ks d  ==  the fields of d by the first of the layouts ks that it has, whatever byte 2 is; none where it has none of them
 --   fieldsOf d     ==  the fields of d: by the layouts whose number is byte 2
@@ -59,12 +59,12 @@ descriptorType = 0x24
 abbrev pub bytesOf : Fields → List ℕ
 bytesOf f = suc (suc (length (bodyOf f))) ∷ descriptorType ∷ bodyOf f
 
-abbrev pub Kept : Fields → Type 0
-Kept f = InRange (formatOf (layoutBy f)) (valueOf f)
+abbrev pub InBounds : Fields → Type 0
+InBounds f = InRange (formatOf (layoutBy f)) (valueOf f)
 
 pub record LaidOut (d : List ℕ) : Type 0 where
   pub fields : Fields
-  pub kept : Kept fields
+  pub kept : InBounds fields
   pub same : drop 2 d ≡ bodyOf fields
 
 abbrev pub fieldsBy : List Kind → List ℕ → Option Fields

@@ -26,7 +26,7 @@ use Rattle.layout.specs.Format.{Value, emit, fits, valueAt, InRange}
 use Rattle.layout.specs.FormatLaws.{found, again, fits-inside, here-at, after-at, fed-part, fed-inside}
 use Rattle.layout.specs.Layouts as kind
 use Rattle.layout.specs.Layouts.{Kind, numberOf, formatOf, mostPins, kinds, kindsIn, kindsOf}
-use Rattle.layout.specs.Fields.{Fields, input, output, mixer, selector, feature, layoutBy, valueOf, fieldsAt, bodyOf, descriptorType, bytesOf, Kept, LaidOut, fieldsBy, fieldsOf, fedBy, fedFrom}
+use Rattle.layout.specs.Fields.{Fields, input, output, mixer, selector, feature, layoutBy, valueOf, fieldsAt, bodyOf, descriptorType, bytesOf, InBounds, LaidOut, fieldsBy, fieldsOf, fedBy, fedFrom}
 
 -- ---- the layouts, one by one
 
@@ -44,7 +44,7 @@ fields-body kind.mixer v = refl
 fields-body kind.selector v = refl
 fields-body kind.feature v = refl
 
-fields-kept : (k : Kind) (v : Value (formatOf k)) → InRange (formatOf k) v → Kept (fieldsAt k v)
+fields-kept : (k : Kind) (v : Value (formatOf k)) → InRange (formatOf k) v → InBounds (fieldsAt k v)
 fields-kept kind.input v g = g
 fields-kept kind.output v g = g
 fields-kept kind.mixer v g = g
@@ -88,7 +88,7 @@ module _ (d : List ℕ) (f : Fields) where
 -- ---- written, then read
 
 module _ (d : List ℕ) where
-  by-layout : (f : Fields) → Kept f → drop 2 d ≡ bodyOf f → fits (formatOf (layoutBy f)) d 3 ≡ true
+  by-layout : (f : Fields) → InBounds f → drop 2 d ≡ bodyOf f → fits (formatOf (layoutBy f)) d 3 ≡ true
       → fieldsBy (kindsOf (numberOf (layoutBy f))) d ≡ some (fieldsAt (layoutBy f) (valueAt (formatOf (layoutBy f)) d 3))
   by-layout (input i t a c l m n) g e p = yes _ _ p
   by-layout (output i t a s n) g e p = yes _ _ p
@@ -96,16 +96,16 @@ module _ (d : List ℕ) where
   by-layout (selector i s n) g e p = yes _ _ p
   by-layout (feature i s z k n) g e p = yes _ _ p
 
-  pub read-body : (f : Fields) → Kept f → drop 2 d ≡ bodyOf f → fieldsOf d ≡ some f
+  pub read-body : (f : Fields) → InBounds f → drop 2 d ≡ bodyOf f → fieldsOf d ≡ some f
   read-body f g e =
       let q : byte d 2 ≡ numberOf (layoutBy f) = here-at d 2 _ _ e in
       let r = found (formatOf (layoutBy f)) d 3 (valueOf f) (after-at d 2 _ _ e) g in
       ap (λ (n : ℕ). fieldsBy (kindsOf n) d) q ∙ by-layout f g e (r .passes) ∙ ap some (ap (fieldsAt (layoutBy f)) (r .same) ∙ value-fields f)
 
-pub read-back : (f : Fields) → Kept f → fieldsOf (bytesOf f) ≡ some f
+pub read-back : (f : Fields) → InBounds f → fieldsOf (bytesOf f) ≡ some f
 read-back f g = read-body (bytesOf f) f g refl
 
-pub fields-one : (f g : Fields) → Kept f → Kept g → bytesOf f ≡ bytesOf g → f ≡ g
+pub fields-one : (f g : Fields) → InBounds f → InBounds g → bytesOf f ≡ bytesOf g → f ≡ g
 fields-one f g k l e = some-one (sym (read-back f k) ∙ ap fieldsOf e ∙ read-back g l)
 
 -- ---- read, then written
@@ -123,7 +123,7 @@ opened-body (x ∷ y ∷ z ∷ d) h = refl
 
 module _ (d : List ℕ) where
   by-kind : (k : Kind) → byte d 2 ≡ numberOf k → fits (formatOf k) d 3 ≡ true
-      → let f = fieldsAt k (valueAt (formatOf k) d 3) in Kept f × (drop 2 d ≡ bodyOf f)
+      → let f = fieldsAt k (valueAt (formatOf k) d 3) in InBounds f × (drop 2 d ≡ bodyOf f)
   by-kind k q e =
       let v = valueAt (formatOf k) d 3 in
       let r = again (formatOf k) d 3 e in
@@ -133,7 +133,7 @@ module _ (d : List ℕ) where
       )
 
   module _ (f : Fields) (e : fieldsOf d ≡ some f) where
-    pub written-again : Kept f × (drop 2 d ≡ bodyOf f)
+    pub written-again : InBounds f × (drop 2 d ≡ bodyOf f)
     written-again = let t = found-by d f e in rw (sym (t .same)) (by-kind (t .kind) (t .number) (t .passes))
 
     pub written-whole : byte d 0 ≡ length d → byte d 1 ≡ descriptorType → d ≡ bytesOf f
@@ -157,7 +157,7 @@ laid-only d l = read-body d (l .fields) (l .kept) (l .same)
 pub laid-whole : (d : List ℕ) (l : LaidOut d) → byte d 0 ≡ length d → byte d 1 ≡ descriptorType → d ≡ bytesOf (l .fields)
 laid-whole d l first type = written-whole d (l .fields) (laid-only d l) first type
 
-pub laid-written : (f : Fields) → Kept f → LaidOut (bytesOf f)
+pub laid-written : (f : Fields) → InBounds f → LaidOut (bytesOf f)
 laid-written f k = record { fields = f; kept = k; same = refl }
 
 -- ---- the sources

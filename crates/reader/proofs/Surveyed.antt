@@ -28,7 +28,7 @@ use Rattle.interfaces.specs.InterfaceLaws.{nine}
 use Rattle.groups.specs.Reading.{frameOf}
 use Rattle.cutting.specs.declared.Survey.{Survey}
 use Rattle.cutting.specs.Rules1to9.{headerPlace, Kept}
-use Rattle.cutting.specs.Survey.{runOf, surveyed, surveyOf}
+use Rattle.cutting.specs.Survey.{runFound, surveyed, surveyOf}
 use Rattle.cutting.specs.Context.{control-byte, header-place, run-place, run-is}
 use Rattle.cutting.specs.Context as context
 use Rattle.cutting.specs.Exact.{verdict-kept}
@@ -47,9 +47,9 @@ module _ (s : List ℕ) (k : Kept s) where
   surveyed-kept : surveyed s (frameOf s) ≡ keptSurvey k
   unfolding surveyed
   surveyed-kept =
-      ap (λ (c : ℕ). surveyWith c (frameOf s .header) (frameOf s .run) (runOf s (frameOf s))) (control-byte s (k .opened) 2 (omega arith))
-      ∙ ap (λ (h : ℕ). surveyWith (byte (k .opened .control) 2) h (frameOf s .run) (runOf s (frameOf s))) (header-place s (k .opened))
-      ∙ ap (λ (p : ℕ). surveyWith (byte (k .opened .control) 2) (headerPlace (k .opened)) p (runOf s (frameOf s))) (run-place s (k .opened) (k .rule5))
+      ap (λ (c : ℕ). surveyWith c (frameOf s .header) (frameOf s .run) (runFound s (frameOf s))) (control-byte s (k .opened) 2 (omega arith))
+      ∙ ap (λ (h : ℕ). surveyWith (byte (k .opened .control) 2) h (frameOf s .run) (runFound s (frameOf s))) (header-place s (k .opened))
+      ∙ ap (λ (p : ℕ). surveyWith (byte (k .opened .control) 2) (headerPlace (k .opened)) p (runFound s (frameOf s))) (run-place s (k .opened) (k .rule5))
       ∙ ap (surveyWith (byte (k .opened .control) 2) (headerPlace (k .opened)) (placeOfRun k)) (run-is s (k .opened) (k .rule5) (k .rule6))
 
   pub survey-kept : surveyOf s ≡ keptSurvey k

@@ -14,7 +14,7 @@ use Rattle.entities.specs.Represents.{Represents}
 use Rattle.entities.specs.RepresentsLaws.{run-represents}
 use Rattle.run3.specs.AnyBuffer.{run-any}
 use Rattle.groups.specs.Reading.{frameOf}
-use Rattle.cutting.specs.Survey.{runOf}
+use Rattle.cutting.specs.Survey.{runFound}
 use Rattle.cutting.specs.Context.{run-place, run-is, run-stands, run-cut}
 use Rattle.third.specs.Judgement.{runFor}
 use Rattle.reader3.specs.ThirdConfiguration.{KeptThird, runIn3, placeIn3, clustersIn}
@@ -24,7 +24,7 @@ entitiesThird k = runIn (third []) (placeIn3 k) (runIn3 k)
 
 module _ (s b : List ℕ) (k : KeptThird s b) where
   pub run-kept : runFor s (frameOf s) ≡ entitiesThird k
-  unfolding runFor runOf
+  unfolding runFor runFound
   run-kept =
       ap (λ (p : ℕ). runIn (third []) p (rest (take (frameOf s .end) s) (frameOf s .run))) (run-place s (k .opened) (k .rule5))
       ∙ ap (runIn (third []) (placeIn3 k)) (run-is s (k .opened) (k .rule5) (k .rule6))

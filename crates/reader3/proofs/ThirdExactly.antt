@@ -32,7 +32,7 @@ use Rattle.groups.specs.Reading.{frameOf, headerOf}
 use Rattle.groups.specs.Third.{thirdForm, reads-third, thirdBreach5, thirdBreach6, thirdGroupJudged, thirdJudged}
 use Rattle.groups.specs.FrameLaws.{reads-rule5}
 use Rattle.cutting.specs.Rules1to9.{Rule8, Rule9, Opened, headerPlace, BrokenAt}
-use Rattle.cutting.specs.Survey.{runOf}
+use Rattle.cutting.specs.Survey.{runFound}
 use Rattle.cutting.specs.Context.{frame-told, header-place, rule6-reads, run-is, run-first, run-cut}
 use Rattle.cutting.specs.Exact.{opening-answers, opening-numbered, four-kept, all-four}
 use Rattle.ids.specs.Rule10.{Rule10}
@@ -104,7 +104,7 @@ module _ (s b : List ℕ) (o : Opened s) where
     decides-6 = subst (λ (i : ℕ). Decides (thirdBreach6 s (frameOf s)) (Rule6By thirdForm (h .header) (h .others)) (BrokenAt i (Rule6By thirdForm (h .header) (h .others)))) (header-place s o) (kept-decides (frameOf s .header) (rule6-reads s o h))
 
     module _ (t : Rule6By thirdForm (h .header) (h .others)) where
-      decides-8 : Decides (keptAt (within 1 (length (runOf s (frameOf s))) mostEntities) (frameOf s .header)) (Rule8 (t .run)) (BrokenAt (headerPlace o) (Rule8 (t .run)))
+      decides-8 : Decides (keptAt (within 1 (length (runFound s (frameOf s))) mostEntities) (frameOf s .header)) (Rule8 (t .run)) (BrokenAt (headerPlace o) (Rule8 (t .run)))
       decides-8 = rw (run-is s o h t, header-place s o) (kept-decides (headerPlace o) (reads-within 1 (length (t .run)) mostEntities))
 
       decides-9 : (ks : List (List ℕ)) → Decides (searched unlaid (take (frameOf s .end) s) (frameOf s .run)) (Rule9 (third ks) (t .run))
@@ -122,7 +122,7 @@ module _ (s b : List ℕ) (o : Opened s) where
 
   module _ (behind : KeptThird s b → Rows) (r : Refusal) (h : (k : KeptThird s b) → Answers (behind k) r) where
     group-answers : Answers (thirdRows o b behind) (thirdGroupJudged s (frameOf s) (runJudged s b (frameOf s) r))
-    unfolding thirdGroupJudged runJudged runOf
+    unfolding thirdGroupJudged runJudged runFound
     group-answers = (
       _,
       _,

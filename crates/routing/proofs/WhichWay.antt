@@ -44,7 +44,7 @@ use Rattle.routing.specs.Routes.{OutputOf, Route, EachOnce}
 use Rattle.routing.specs.Routes as routes
 use Rattle.routing.specs.WaysLaws.{ways-rise}
 use Rattle.routing.specs.RoutesLaws.{ways-only, ways-each, listed-one, route-upstream}
-use Rattle.routing.specs.Listing.{namedIn, isOutput, waysFor, listingIn, listIn, listingOf, listOf}
+use Rattle.routing.specs.Listing.{namedIn, isOutput, waysFor, listingIn, listIn, listingOf, listAfter}
 use Rattle.routing.specs.ListingLaws.{named-own, reads-output}
 use Rattle.routing.specs.WhichWay.{FromOutput, RightListing, WhichWay}
 use Rattle.routing.specs.WhichWay as statement
@@ -105,8 +105,8 @@ module _ (s : List ℕ) (c : Configuration s) where
     unfolding listingOf
     listing-is room = yes _ _ (eq-eqb (judgedThen s none .number) 0 accepted) ∙ ap (λ (r : Run). listingIn s r x room) run-is
 
-    list-is : (l : List ℕ) → listOf s x l ≡ listIn s run x l
-    unfolding listOf
+    list-is : (l : List ℕ) → listAfter s x l ≡ listIn s run x l
+    unfolding listAfter
     list-is l = yes _ _ (eq-eqb (judgedThen s none .number) 0 accepted) ∙ ap (λ (r : Run). listIn s r x l) run-is
 
     an-output : Reads (isOutput run x) ((d : List ℕ) × OutputOf ds x d)
@@ -124,7 +124,7 @@ module _ (s : List ℕ) (c : Configuration s) where
       unfolding listingIn
       listing-ways room = listing-is room ∙ yes _ _ (shows an-output (d, f .output)) ∙ ap (λ (v : List Way). waysListing v room) ways-are
 
-      list-ways : (l : List ℕ) → listOf s x l ≡ waysList ws l
+      list-ways : (l : List ℕ) → listAfter s x l ≡ waysList ws l
       unfolding listIn
       list-ways l = list-is l ∙ yes _ _ (shows an-output (d, f .output)) ∙ ap (λ (v : List Way). waysList v l) ways-are
 
@@ -141,7 +141,7 @@ module _ (s : List ℕ) (c : Configuration s) where
         unfolding waysListing
         told room r = listing-ways room ∙ no _ _ (le-ltb mostRoutes (length ws) h) ∙ no _ _ (le-ltb room (length (written ws)) r)
 
-        holds : (l : List ℕ) → length (written ws) ≤ length l → listOf s x l ≡ written ws ++ drop (length (written ws)) l
+        holds : (l : List ℕ) → length (written ws) ≤ length l → listAfter s x l ≡ written ws ++ drop (length (written ws)) l
         unfolding waysList
         holds l r = list-ways l ∙ no _ _ (le-ltb mostRoutes (length ws) h) ∙ no _ _ (le-ltb (length l) (length (written ws)) r)
 
@@ -245,8 +245,8 @@ ways-stay ws l = go (ltb mostRoutes (length ws)) (ltb (length l) (length (writte
     go false true n = refl
     go false false n = absurd (n refl)
 
-list-stays : (s : List ℕ) (x : ℕ) (l : List ℕ) → (listingOf s x (length l) .number ≡ 0 → ⊥) → listOf s x l ≡ l
-unfolding listingOf listOf listingIn listIn
+list-stays : (s : List ℕ) (x : ℕ) (l : List ℕ) → (listingOf s x (length l) .number ≡ 0 → ⊥) → listAfter s x l ≡ l
+unfolding listingOf listAfter listingIn listIn
 list-stays s x l = go (eqb (judgedThen s none .number) 0) (isOutput (surveyOf s .run) x)
   where
     go : (a b : Bool)

@@ -7,7 +7,7 @@
 --   waysFor s run x      ==  the ways upstream from x
 --   listingIn s run x room, listIn s run x l  ==  the answer where the reader refuses nothing, and the list afterwards
 --   listingOf s x room   ==  the answer for the configuration s, the ID x and a list of room bytes
---   listOf s x l         ==  what the lent bytes l hold afterwards
+--   listAfter s x l      ==  what the lent bytes l hold afterwards
 use Prim.Native.Nat.{ℕ, zero, suc}
 use mathlib.Core.Bool.{Bool, false, not}
 use mathlib.Core.List.{List}
@@ -57,5 +57,5 @@ unfoldable pub listingOf : List ℕ → ℕ → ℕ → Listing
 listingOf s x room =
     pick (eqb (judgedThen s none .number) 0) (listingIn s (surveyOf s .run) x room) (refusedWith (judgedThen s none .number) (judgedThen s none .place))
 
-unfoldable pub listOf : List ℕ → ℕ → List ℕ → List ℕ
-listOf s x l = pick (eqb (judgedThen s none .number) 0) (listIn s (surveyOf s .run) x l) l
+unfoldable pub listAfter : List ℕ → ℕ → List ℕ → List ℕ
+listAfter s x l = pick (eqb (judgedThen s none .number) 0) (listIn s (surveyOf s .run) x l) l

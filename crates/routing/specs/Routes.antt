@@ -3,8 +3,8 @@
 --   InputTerminal d, OutputTerminal d  ==  by byte 2, the kind
 --   OutputOf ds x d  ==  d is the Output Terminal of the run ds that bears the ID x
 --   Route ds d w     ==  w is a route from d: it ends at an Input Terminal, or goes by one of the pins of d to the entity of the run that bears the ID there, and on from there
---   Before p q       ==  of two ways, told by their pins, the first comes first: at the first pin where they part it takes the lower
---   Rising ws        ==  each of the ways ws comes before all behind it: none stands twice, and they stand in the order of pins
+--   PinsBefore p q   ==  of two ways, told by their pins, the first comes first: at the first pin where they part it takes the lower
+--   PinsRise ws      ==  each of the ways ws comes before all behind it: none stands twice, and they stand in the order of pins
 --   EachOnce ds d ws   ==  ws has each route from d exactly once and nothing else, in the order of pins
 use Prim.Native.Nat.{ℕ, _<_}
 use mathlib.Core.Path.{_≡_}
@@ -32,15 +32,15 @@ pub data Route (ds : List (List ℕ)) : List ℕ → Way → Type 0 where
   up : {d e : List ℕ} {w : Way} (k : ℕ) → k < length (sources audio d) → e ∈ ds → ownId e ≡ getD (sources audio d) k 0 → Route ds e w
       → Route ds d (via k (ownId d) w)
 
-pub data Before : List ℕ → List ℕ → Type 0 where
-  here : {k l : ℕ} {p q : List ℕ} → k < l → Before (k ∷ p) (l ∷ q)
-  later : {k : ℕ} {p q : List ℕ} → Before p q → Before (k ∷ p) (k ∷ q)
+pub data PinsBefore : List ℕ → List ℕ → Type 0 where
+  here : {k l : ℕ} {p q : List ℕ} → k < l → PinsBefore (k ∷ p) (l ∷ q)
+  later : {k : ℕ} {p q : List ℕ} → PinsBefore p q → PinsBefore (k ∷ p) (k ∷ q)
 
-abbrev pub Rising : List Way → Type 0
-Rising [] = Unit {0}
-Rising (w ∷ ws) = ((v : Way) → v ∈ ws → Before (w .pins) (v .pins)) × Rising ws
+abbrev pub PinsRise : List Way → Type 0
+PinsRise [] = Unit {0}
+PinsRise (w ∷ ws) = ((v : Way) → v ∈ ws → PinsBefore (w .pins) (v .pins)) × PinsRise ws
 
 pub record EachOnce (ds : List (List ℕ)) (d : List ℕ) (ws : List Way) : Type 0 where
   pub only : (w : Way) → w ∈ ws → Route ds d w
   pub each : (w : Way) → Route ds d w → w ∈ ws
-  pub rising : Rising ws
+  pub rising : PinsRise ws

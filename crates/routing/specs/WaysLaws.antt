@@ -13,7 +13,7 @@ use native.Mathlib.Nat.{add-zero, le-of-suc-le-suc}
 use lib.ListN.{length, getD}
 use Rattle.graph.specs.Members.{_∈_}
 use Rattle.upstream.specs.Ways.{Way, via, byPins, ofEntity, waysUp}
-use Rattle.routing.specs.Routes.{Before, here, later, Rising}
+use Rattle.routing.specs.Routes.{PinsBefore, here, later, PinsRise}
 
 module _ (ask : ℕ → List Way) (x : ℕ) where
   -- w goes by the j-th of the pins whose sources are ys, the first of which is pin k
@@ -47,16 +47,16 @@ module _ (ask : ℕ → List Way) (x : ℕ) where
       let q : suc k + j ≡ k + suc j = omega arith in
       Memᴰ·append-right (map (via k x) (ask y)) (subst (λ (i : ℕ). via i x v ∈ byPins ask x (suc k) ys) q (pins-in (suc k) ys j (le-of-suc-le-suc h) v a))
 
-before-not : {p q : List ℕ} → Before p q → Before q p → ⊥
+before-not : {p q : List ℕ} → PinsBefore p q → PinsBefore q p → ⊥
 before-not (here h) (here l) = omega arith
 before-not (here h) (later b) = omega arith
 before-not (later a) (here h) = omega arith
 before-not (later a) (later b) = before-not a b
 
-before-self : {p : List ℕ} → Before p p → ⊥
+before-self : {p : List ℕ} → PinsBefore p p → ⊥
 before-self b = before-not b b
 
-pub rising-one : (x y : List Way) → Rising x → Rising y → ((w : Way) → w ∈ x → w ∈ y) → ((w : Way) → w ∈ y → w ∈ x) → x ≡ y
+pub rising-one : (x y : List Way) → PinsRise x → PinsRise y → ((w : Way) → w ∈ x → w ∈ y) → ((w : Way) → w ∈ y → w ∈ x) → x ≡ y
 rising-one [] [] r s f g = refl
 rising-one [] (w ∷ y) r s f g = absurd (List·Memᴰ·not-nil (g w (List·Memᴰ·head refl)))
 rising-one (w ∷ x) [] r s f g = absurd (List·Memᴰ·not-nil (f w (List·Memᴰ·head refl)))
@@ -73,42 +73,42 @@ rising-one (w ∷ x) (v ∷ y) (a, r) (b, s) f g =
     heads (inr m) (inl e) = sym e
     heads (inr m) (inr n) = absurd (before-not (a v n) (b w m))
 
-    behind : {p q : Way} → p ≡ q → {z t : List Way} → ((u : Way) → u ∈ z → Before (p .pins) (u .pins)) → (u : Way) → u ∈ z → (u ≡ q) ⊎ (u ∈ t) → u ∈ t
-    behind e h u m (inl k) = absurd (before-self (subst (λ (i : Way). Before (i .pins) (u .pins)) (e ∙ sym k) (h u m)))
+    behind : {p q : Way} → p ≡ q → {z t : List Way} → ((u : Way) → u ∈ z → PinsBefore (p .pins) (u .pins)) → (u : Way) → u ∈ z → (u ≡ q) ⊎ (u ∈ t) → u ∈ t
+    behind e h u m (inl k) = absurd (before-self (subst (λ (i : Way). PinsBefore (i .pins) (u .pins)) (e ∙ sym k) (h u m)))
     behind e h u m (inr n) = n
 
-rising-via : (k x : ℕ) (ws : List Way) → Rising ws → Rising (map (via k x) ws)
+rising-via : (k x : ℕ) (ws : List Way) → PinsRise ws → PinsRise (map (via k x) ws)
 rising-via k x [] r = tt
 rising-via k x (w ∷ ws) (a, r) =
     (λ v m. of v (Memᴰ·of-map (via k x) ws m), rising-via k x ws r)
   where
-    of : (v : Way) → (u : Way) × u ∈ ws × (via k x u ≡ v) → Before (k ∷ w .pins) (v .pins)
-    of v (u, m, e) = subst (λ (i : Way). Before (k ∷ w .pins) (i .pins)) e (later (a u m))
+    of : (v : Way) → (u : Way) × u ∈ ws × (via k x u ≡ v) → PinsBefore (k ∷ w .pins) (v .pins)
+    of v (u, m, e) = subst (λ (i : Way). PinsBefore (k ∷ w .pins) (i .pins)) e (later (a u m))
 
-rising-both : (x y : List Way) → Rising x → Rising y → ((u v : Way) → u ∈ x → v ∈ y → Before (u .pins) (v .pins)) → Rising (x ++ y)
+rising-both : (x y : List Way) → PinsRise x → PinsRise y → ((u v : Way) → u ∈ x → v ∈ y → PinsBefore (u .pins) (v .pins)) → PinsRise (x ++ y)
 rising-both [] y r s h = s
 rising-both (w ∷ x) y (a, r) s h = (
   λ v m. ⊎-elim (λ n. a v n) (λ n. h w v (List·Memᴰ·head refl) n) (List·Memᴰ·append-cases x m),
   rising-both x y r s (λ u v m n. h u v (List·Memᴰ·tail m) n),
 )
 
-pins-rise : (ask : ℕ → List Way) → ((y : ℕ) → Rising (ask y)) → (x k : ℕ) (ys : List ℕ) → Rising (byPins ask x k ys)
+pins-rise : (ask : ℕ → List Way) → ((y : ℕ) → PinsRise (ask y)) → (x k : ℕ) (ys : List ℕ) → PinsRise (byPins ask x k ys)
 unfolding byPins
 pins-rise ask h x k [] = tt
 pins-rise ask h x k (y ∷ ys) =
     rising-both (map (via k x) (ask y)) (byPins ask x (suc k) ys) (rising-via k x (ask y) (h y)) (pins-rise ask h x (suc k) ys)
     (λ u v m n. before u v (Memᴰ·of-map (via k x) (ask y) m) (pins-has ask x (suc k) ys v n))
   where
-    before : (u v : Way) → (w : Way) × w ∈ ask y × (via k x w ≡ u) → ByPin ask x (suc k) ys v → Before (u .pins) (v .pins)
+    before : (u v : Way) → (w : Way) × w ∈ ask y × (via k x w ≡ u) → ByPin ask x (suc k) ys v → PinsBefore (u .pins) (v .pins)
     before u v (w, m, e) b =
-        subst (λ (i : Way). Before (i .pins) (v .pins)) e (subst (λ (i : Way). Before (k ∷ w .pins) (i .pins)) (b .is) (here (omega arith)))
+        subst (λ (i : Way). PinsBefore (i .pins) (v .pins)) e (subst (λ (i : Way). PinsBefore (k ∷ w .pins) (i .pins)) (b .is) (here (omega arith)))
 
-pub ways-rise : (named : ℕ → List ℕ) (n x : ℕ) → Rising (waysUp named n x)
+pub ways-rise : (named : ℕ → List ℕ) (n x : ℕ) → PinsRise (waysUp named n x)
 unfolding waysUp ofEntity
 ways-rise named zero x = tt
 ways-rise named (suc n) x = go (λ y. ways-rise named n y) (named x)
   where
-    go : ((y : ℕ) → Rising (waysUp named n y)) → (ys : List ℕ) → Rising (ofEntity (λ y. waysUp named n y) x ys)
+    go : ((y : ℕ) → PinsRise (waysUp named n y)) → (ys : List ℕ) → PinsRise (ofEntity (λ y. waysUp named n y) x ys)
     go h [] = (λ v m. absurd (List·Memᴰ·not-nil m), tt)
     go h (y ∷ ys) = pins-rise (λ y. waysUp named n y) h x 0 (y ∷ ys)
 

@@ -19,7 +19,7 @@ use Rattle.upstream.specs.Ways.{Way, written}
 use Rattle.upstream.specs.Telling.{mostDepth, mostRoutes}
 use Rattle.upstream.specs.Listing.{refusedWith, listed}
 use Rattle.routing.specs.Routes.{OutputOf, Route, EachOnce}
-use Rattle.routing.specs.Listing.{listingOf, listOf}
+use Rattle.routing.specs.Listing.{listingOf, listAfter}
 
 pub record FromOutput {s : List ℕ} (c : Configuration s) (x : ℕ) (d : List ℕ) (ws : List Way) : Type 0 where
   pub output : OutputOf (runOf (c .kept)) x d
@@ -40,8 +40,8 @@ pub record WhichWay : Type 0 where
   pub never-16 : (s : List ℕ) (x room : ℕ) → listingOf s x room .number ≡ 16 → ⊥
   pub one-answer : (s : List ℕ) (x room : ℕ) (r : Listing) → RightListing s x room r → listingOf s x room ≡ r
   pub list-holds : (s : List ℕ) (x : ℕ) (l : List ℕ) (c : Configuration s) (d : List ℕ) (ws : List Way) → FromOutput c x d ws → length ws ≤ mostRoutes
-      → length (written ws) ≤ length l → listOf s x l ≡ written ws ++ drop (length (written ws)) l
-  pub list-stays : (s : List ℕ) (x : ℕ) (l : List ℕ) → (listingOf s x (length l) .number ≡ 0 → ⊥) → listOf s x l ≡ l
+      → length (written ws) ≤ length l → listAfter s x l ≡ written ws ++ drop (length (written ws)) l
+  pub list-stays : (s : List ℕ) (x : ℕ) (l : List ℕ) → (listingOf s x (length l) .number ≡ 0 → ⊥) → listAfter s x l ≡ l
   pub all-listed : (s : List ℕ) (c : Configuration s) (d : List ℕ) → d ∈ runOf (c .kept) → (ws : List Way) × EachOnce (runOf (c .kept)) d ws
   pub one-list : (ds : List (List ℕ)) (d : List ℕ) (ws vs : List Way) → EachOnce ds d ws → EachOnce ds d vs → ws ≡ vs
   pub never-deeper : (s : List ℕ) (c : Configuration s) (d : List ℕ) (w : Way) → d ∈ runOf (c .kept) → Route (runOf (c .kept)) d w

@@ -3,7 +3,7 @@
 // were written; or the refusal, the reader's but 16, then 45, 46, 49, with the list as it stood.
 ghost use mathlib.Core.Path.{_≡_};
 ghost use lib.ListN.{length};
-ghost use Rattle.routing.specs.Listing.{sourcePlacesOf, isOutput, listingIn, listIn, listingOf, listOf};
+ghost use Rattle.routing.specs.Listing.{sourcePlacesOf, isOutput, listingIn, listIn, listingOf, listAfter};
 use entities::Run;
 use ground::index_of;
 use upstream::Listing;
@@ -62,7 +62,7 @@ fn list_run(config: &[u8], run: Run, id: u8, list: &mut [u8]) -> Listing
 // Lists every route from the Output Terminal that bears an ID up to the Input Terminals.
 pub fn list_routes(config: &[u8], id: u8, list: &mut [u8]) -> Listing
     ensures { λ r. ⌜ r ≡ listingOf (now (config .entry)) id (length (now (list .entry))) ⌝ }
-    ensures { λ r. ⌜ now (list .exit) ≡ listOf (now (config .entry)) id (now (list .entry)) ⌝ }
+    ensures { λ r. ⌜ now (list .exit) ≡ listAfter (now (config .entry)) id (now (list .entry)) ⌝ }
 {
     let found = topology::judge(config);
     let refusal = found.refusal;

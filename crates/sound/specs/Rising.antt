@@ -6,10 +6,10 @@
 --   Passed t n         ==  30 has nothing against the first n controls by themselves, and none of them stands twice
 --   passed-many        ==  "over 128 controls"
 --   passed-start, passed-on, passed-unsound, passed-twin, passed-over  ==  a loop's start, its turns and its end
---   Rising t tops n    ==  .. and tops has for each unit a number above the keys of its controls among them
+--   TopsAbove t tops n  ==  .. and tops has for each unit a number above the keys of its controls among them
 --   rising-alone       ==  a control whose key is not below its unit's top stands at no earlier index: where keys rise, none stands twice
 --   rising-start, rising-few, rising-inside, rising-unsound, rising-on, rising-over  ==  the loop that asks while keys rise
---   Kept t keys n      ==  .. and keys has their keys
+--   KeysKept t keys n  ==  .. and keys has their keys
 --   kept-start, kept-inside, kept-unsound, kept-twin, kept-on, kept-over  ==  the loop that looks among all earlier ones
 use Prim.Native.Nat.{ℕ, _+_, _*_, _<_, _≤_}
 use mathlib.Core.Path.{_≡_, refl, sym, ap, _∙_}
@@ -118,15 +118,15 @@ module _ (t : Table) (n : ℕ) (g : Passed t n) where
           right p i = ⊎-elim (λ (z : p ≡ n). ap (λ (x : ℕ). soundControl (at t x)) z ∙ sym e ∙ not-false b h) (λ (z : p < n). g .each p z) (eq-or-lt-of-le i)
 
 -- while keys rise
-pub record Rising (t : Table) (tops : List ℕ) (n : ℕ) : Type 0 where
+pub record TopsAbove (t : Table) (tops : List ℕ) (n : ℕ) : Type 0 where
   pub passed : Passed t n
   pub long : length tops ≡ 256
   pub under : (p : ℕ) → p < n → keyOf (at t p) < getD tops (at t p .unit) 0
 
-pub rising-start : (t : Table) → t .count ≤ mostControls → Rising t (replicate 256 0) 0
+pub rising-start : (t : Table) → t .count ≤ mostControls → TopsAbove t (replicate 256 0) 0
 rising-start t h = record { passed = passed-start t h; long = refl; under = λ p l. absurd (omega arith) }
 
-module _ (t : Table) (tops : List ℕ) (n : ℕ) (g : Rising t tops n) where
+module _ (t : Table) (tops : List ℕ) (n : ℕ) (g : TopsAbove t tops n) where
   pub rising-few : t .count ≤ mostControls
   rising-few = g .passed .few
 
@@ -171,7 +171,7 @@ module _ (t : Table) (tops : List ℕ) (n : ℕ) (g : Rising t tops n) where
             (decided (eqb (at t p .unit) u) (reads-eq (at t p .unit) u)))
             (eq-or-lt-of-le i)
 
-        pub rising-on : Rising t (set tops u (k + 1)) (n + 1)
+        pub rising-on : TopsAbove t (set tops u (k + 1)) (n + 1)
         rising-on = record {
           passed = passed-on t n (g .passed) l b e ok rising-alone;
           long = length-set tops u (k + 1) ∙ g .long;
@@ -179,15 +179,15 @@ module _ (t : Table) (tops : List ℕ) (n : ℕ) (g : Rising t tops n) where
         }
 
 -- in any order
-pub record Kept (t : Table) (keys : List ℕ) (n : ℕ) : Type 0 where
+pub record KeysKept (t : Table) (keys : List ℕ) (n : ℕ) : Type 0 where
   pub passed : Passed t n
   pub long : length keys ≡ mostControls
   pub keyed : (p : ℕ) → p < n → Keyed (at t p) (getD keys p 0)
 
-pub kept-start : (t : Table) → t .count ≤ mostControls → Kept t (replicate mostControls 0) 0
+pub kept-start : (t : Table) → t .count ≤ mostControls → KeysKept t (replicate mostControls 0) 0
 kept-start t h = record { passed = passed-start t h; long = refl; keyed = λ p l. absurd (omega arith) }
 
-module _ (t : Table) (keys : List ℕ) (n : ℕ) (g : Kept t keys n) where
+module _ (t : Table) (keys : List ℕ) (n : ℕ) (g : KeysKept t keys n) where
   pub kept-over : t .count ≤ n → true ≡ soundOf t
   kept-over = passed-over t n (g .passed)
 
@@ -205,7 +205,7 @@ module _ (t : Table) (keys : List ℕ) (n : ℕ) (g : Kept t keys n) where
             let j = among-reads keys n k .says (sym f ∙ h) in
             passed-twin t n (g .passed) l (j .0) (j .1) (key-same (at t (j .0)) (at t n) (getD keys (j .0) 0) k (g .keyed (j .0) (j .1)) d (j .2))
 
-        pub kept-on : a ≡ false → Kept t (set keys n k) (n + 1)
+        pub kept-on : a ≡ false → KeysKept t (set keys n k) (n + 1)
         kept-on h = record {
           passed = passed-on t n (g .passed) l b e ok alone;
           long = length-set keys n k ∙ g .long;

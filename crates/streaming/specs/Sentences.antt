@@ -12,7 +12,7 @@ use Rattle.formats.specs.Tests.{isGeneral}
 use Rattle.formats.specs.Sentences.{reads-general, reads-tagged}
 use Rattle.terminals.specs.declared.Bearer.{Bearer}
 use Rattle.terminals.specs.declared.Bearer.the-variants as bearer
-use Rattle.terminals.specs.Terminals.{Terminal, bearerIn, terminalNumber, channelsOf, OneEach}
+use Rattle.terminals.specs.Terminals.{Terminal, bearerIn, terminalNumber, channelsBorne, OneEach}
 use Rattle.terminals.specs.Said.{AreAll}
 use Rattle.terminals.specs.Bearers.{Bears, nothing, to, bears, bearer-one, reads-number}
 use Rattle.streaming.specs.Rule14.{Described}
@@ -20,7 +20,7 @@ use Rattle.streaming.specs.Tests.{bearerRight, describedBy}
 
 pub reads-described : (ts : List Terminal) {run : List (List ℕ)} {cluster : ℕ → Cluster} → AreAll run cluster ts → OneEach ts → (g f : List ℕ)
     → Reads (describedBy (bearerIn ts) g f) (Described run cluster g f)
-unfolding describedBy bearerRight terminalNumber channelsOf
+unfolding describedBy bearerRight terminalNumber channelsBorne
 reads-described ts {run} {cluster} all one g f = go (bearerIn ts (byte g 3)) refl (bears (byte g 3) ts)
   where
     found : (t : Terminal) → Described run cluster g f → bearerIn ts (byte g 3) ≡ bearer.Terminal (t .kind) (t .channels)

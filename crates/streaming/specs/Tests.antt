@@ -24,10 +24,10 @@ use Rattle.search.specs.Want.{isInterface, isClass, isAudio}
 use Rattle.groups.specs.Reading.{straysFrom}
 use Rattle.formats.specs.Tests.{isGeneral, formatRight}
 use Rattle.terminals.specs.declared.Bearer.{Bearer}
-use Rattle.terminals.specs.Terminals.{Terminal, bearerIn, terminalNumber, channelsOf}
+use Rattle.terminals.specs.Terminals.{Terminal, bearerIn, terminalNumber, channelsBorne}
 
 unfoldable pub bearerRight : Bearer → List ℕ → List ℕ → Bool
-bearerRight b g f = eqb (terminalNumber b) 0 && formatRight (word g 5) (channelsOf b) f
+bearerRight b g f = eqb (terminalNumber b) 0 && formatRight (word g 5) (channelsBorne b) f
 
 unfoldable pub describedBy : (ℕ → Bearer) → List ℕ → List ℕ → Bool
 describedBy find g f = isGeneral g && bearerRight (find (byte g 3)) g f

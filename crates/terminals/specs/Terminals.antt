@@ -8,7 +8,7 @@
 --   terminalsOf s r cs ==  the Terminals of the run r in its order, with the clusters cs at its indices
 --   bearerIn ts id     ==  type and channels of the first of the Terminals ts that bears the ID id, or nothing
 --   terminalNumber b   ==  the number that refuses what bears an ID: 14 for nothing and for a Terminal of another type, 0 for a right one
---   channelsOf b       ==  its channels c
+--   channelsBorne b    ==  its channels c
 --   OneEach ts         ==  an ID is borne by one of the Terminals at most (rule 10 says so of all entities)
 use Prim.Native.Nat.{ℕ, zero, suc}
 use mathlib.Core.Path.{_≡_}
@@ -56,9 +56,9 @@ unfoldable pub terminalNumber : Bearer → ℕ
 terminalNumber bearer.Nothing = 14
 terminalNumber (bearer.Terminal k c) = pick (eqb k 0x0101) 0 14
 
-unfoldable pub channelsOf : Bearer → ℕ
-channelsOf bearer.Nothing = 0
-channelsOf (bearer.Terminal k c) = c
+unfoldable pub channelsBorne : Bearer → ℕ
+channelsBorne bearer.Nothing = 0
+channelsBorne (bearer.Terminal k c) = c
 
 abbrev pub OneEach : List Terminal → Type 0
 OneEach ts = (t u : Terminal) → List·Memᴰ t ts → List·Memᴰ u ts → t .id ≡ u .id → t ≡ u

@@ -29,17 +29,17 @@ use Rattle.writing.specs.declared.EntityList.{EntityList}
 use Rattle.writing.specs.declared.Wrote.{Wrote}
 use Rattle.writing.specs.declared.Judged.{Judged}
 use Rattle.fields.specs.Listed.{Listed}
-use Rattle.writing.specs.Writing.{mostNumbers, mostRun, listOf, descriptorsOf, wholeOf, writtenOf, breach8, breach9, entitiesThen, breach47, breach48, roomThen, writerVerdict, answersIn, Answered, Writes, LaidRun, JudgedRun}
+use Rattle.writing.specs.Writing.{mostNumbers, mostRun, listOf, descriptorsOf, wholeOf, writtenOf, breach8, breach9, entitiesThen, breach47, breach48, roomThen, writerVerdict, answersIn, WroteBy, Writes, LaidRun, JudgedRun}
 use Rattle.writing.specs.LaidLaws.{listed-count}
 
 module _ (v : Refusal) (w before : List ℕ) where
-  pub answered-refused : (n p : ℕ) → v ≡ record { number = n; place = p } → (n ≡ 0 → ⊥) → Answered v w before before (record { number = n; place = p; written = 0 })
+  pub answered-refused : (n p : ℕ) → v ≡ record { number = n; place = p } → (n ≡ 0 → ⊥) → WroteBy v w before before (record { number = n; place = p; written = 0 })
   answered-refused n p e z =
       let t : eqb (v .number) 0 ≡ false = ap (λ (x : Refusal). eqb (x .number) 0) e ∙ ne-eqb n 0 z in
       record { refused = sym e; written = sym (no _ _ t); lent = sym (no _ _ t) }
 
   pub answered-whole : (after : List ℕ) (k : ℕ) → v ≡ none → k ≡ length w → after ≡ w ++ drop (length w) before
-      → Answered v w before after (record { number = 0; place = 0; written = k })
+      → WroteBy v w before after (record { number = 0; place = 0; written = k })
   answered-whole after k e q h =
       let t : eqb (v .number) 0 ≡ true = ap (λ (x : Refusal). eqb (x .number) 0) e in
       record { refused = sym e; written = q ∙ sym (yes _ _ t); lent = h ∙ sym (yes _ _ t) }
@@ -51,7 +51,7 @@ module _ (cs run before : List ℕ) where
   long : length (wholeOf cs run) ≡ 8 + length cs + length run
   long = let n = length-append cs run in omega arith
 
-  pub many-numbers : 247 < length cs → Answered verdict (wholeOf cs run) before before (record { number = 47; place = 0; written = 0 })
+  pub many-numbers : 247 < length cs → WroteBy verdict (wholeOf cs run) before before (record { number = 47; place = 0; written = 0 })
   unfolding roomThen breach47 refuse
   many-numbers h = answered-refused verdict (wholeOf cs run) before 47 0 (ap (λ (b : Place). refuse 47 b (refuse 48 (breach48 cs run (length before)) none)) (no _ _ (lt-leb _ _ h))) (λ e. omega arith)
 
@@ -60,7 +60,7 @@ module _ (cs run before : List ℕ) where
     unfolding roomThen breach47 refuse
     on = ap (λ (b : Place). refuse 47 b (refuse 48 (breach48 cs run (length before)) none)) (yes _ _ (le-leb _ _ few))
 
-    pub no-room : length before < 8 + length cs + length run → Answered verdict (wholeOf cs run) before before (record { number = 48; place = 0; written = 0 })
+    pub no-room : length before < 8 + length cs + length run → WroteBy verdict (wholeOf cs run) before before (record { number = 48; place = 0; written = 0 })
     unfolding breach48 refuse
     no-room h =
         let l = long in
@@ -69,7 +69,7 @@ module _ (cs run before : List ℕ) where
     pub whole-put : (a b after : List ℕ) → 8 + length cs + length run ≤ length before
         → a ≡ pastedIn 0 ((8 + length cs) ∷ 36 ∷ 1 ∷ 0 ∷ 1 ∷ (8 + length cs + length run) % 256 ∷ (8 + length cs + length run) / 256 ∷ length cs ∷ []) before
         → b ≡ pastedIn 8 cs a → after ≡ pastedIn (8 + length cs) run b
-        → Answered verdict (wholeOf cs run) before after (record { number = 0; place = 0; written = 8 + length cs + length run })
+        → WroteBy verdict (wholeOf cs run) before after (record { number = 0; place = 0; written = 8 + length cs + length run })
     unfolding breach48 refuse pastedIn pasted
     whole-put a b after h p q r =
         let l = long in
@@ -152,7 +152,7 @@ module _ (ls : List Listed) (cs out : List ℕ) (r : Refusal) (size : ℕ) (t : 
         let m = length-take (size - 0) out in
         omega arith
 
-    pub write-whole : r .number ≡ 0 → (after : List ℕ) (a : Wrote) → Answered (roomThen cs run (length before)) (wholeOf cs run) before after a
+    pub write-whole : r .number ≡ 0 → (after : List ℕ) (a : Wrote) → WroteBy (roomThen cs run (length before)) (wholeOf cs run) before after a
         → Writes ls cs before after a
     unfolding writerVerdict
     write-whole z after a h =

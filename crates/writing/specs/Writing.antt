@@ -3,7 +3,7 @@
 -- list has more than 247 numbers; then 48 if the buffer is too short, which stays untouched".
 --   listOf v l       ==  the entities of the list l, whose sources and control bytes or masks stand in the lent slice v
 --   descriptorsOf ls ==  their descriptors, the run
---   headerOf cs n    ==  the header with the collection list cs before a run of n bytes (000, table 4-2): its length, type and subtype, the class
+--   headerWith cs n  ==  the header with the collection list cs before a run of n bytes (000, table 4-2): its length, type and subtype, the class
 --                        definition's release 1.00, the length of header and run together, how many numbers there are, and these
 --   wholeOf cs r     ==  the header, then the run's bytes r; writtenOf ls cs: those of the list ls
 --   mostNumbers, mostRun  ==  247, and the bytes of the longest run: 32 descriptors of 255
@@ -12,7 +12,7 @@
 --   entitiesThen ds r, roomThen cs run m  ==  the refusals of the entities, and r behind them; those of the collection list and of m bytes of room
 --   writerVerdict ls cs m  ==  the writer's refusal, 0 and 0 where there is none
 --   answersIn r      ==  the number and place of an answer
---   Answered v w b a r  ==  the lent buffer b became a, and the answer is r, by the verdict v and the bytes w: in front where nothing is refused, the
+--   WroteBy v w b a r   ==  the lent buffer b became a, and the answer is r, by the verdict v and the bytes w: in front where nothing is refused, the
 --                        bytes past them as they stood; all of them as they stood where something is
 --   Writes ls cs b a r  ==  .. by the list and the collection list
 --   LaidRun, JudgedRun  ==  what is known of the run's bytes once the list was laid out, once it was judged
@@ -64,12 +64,12 @@ listOf v l = map (listedWith v) (pad blankItem (l .count) (l .items))
 abbrev pub descriptorsOf : List Listed → List (List ℕ)
 descriptorsOf ls = map writtenAs ls
 
-abbrev pub headerOf : List ℕ → ℕ → List ℕ
-headerOf cs n =
+abbrev pub headerWith : List ℕ → ℕ → List ℕ
+headerWith cs n =
     (8 + length cs) ∷ descriptorType ∷ 1 ∷ 0 ∷ 1 ∷ (8 + length cs + n) % 256 ∷ (8 + length cs + n) / 256 ∷ length cs ∷ cs
 
 abbrev pub wholeOf : List ℕ → List ℕ → List ℕ
-wholeOf cs run = headerOf cs (length run) ++ run
+wholeOf cs run = headerWith cs (length run) ++ run
 
 abbrev pub writtenOf : List Listed → List ℕ → List ℕ
 writtenOf ls cs = wholeOf cs (flatten (descriptorsOf ls))
@@ -111,13 +111,13 @@ writerVerdict ls cs m = entitiesThen (descriptorsOf ls) (roomThen cs (flatten (d
 abbrev pub answersIn : Wrote → Refusal
 answersIn r = record { number = r .number; place = r .place }
 
-pub record Answered (v : Refusal) (w before after : List ℕ) (r : Wrote) : Type 0 where
+pub record WroteBy (v : Refusal) (w before after : List ℕ) (r : Wrote) : Type 0 where
   pub refused : answersIn r ≡ v
   pub written : r .written ≡ pick (eqb (v .number) 0) (length w) 0
   pub lent : after ≡ pick (eqb (v .number) 0) (w ++ drop (length w) before) before
 
 abbrev pub Writes : List Listed → List ℕ → List ℕ → List ℕ → Wrote → Type 0
-Writes ls cs before after r = Answered (writerVerdict ls cs (length before)) (writtenOf ls cs) before after r
+Writes ls cs before after r = WroteBy (writerVerdict ls cs (length before)) (writtenOf ls cs) before after r
 
 -- ---- on the way to it
 

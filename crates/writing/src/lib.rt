@@ -5,7 +5,7 @@
 ghost use mathlib.Core.Path.{_≡_};
 ghost use Prim.Native.Nat.{_≤_};
 ghost use lib.ListN.{length};
-ghost use Rattle.writing.specs.Writing.{mostRun, listOf, descriptorsOf, roomThen, wholeOf, LaidRun, JudgedRun, Answered, Writes};
+ghost use Rattle.writing.specs.Writing.{mostRun, listOf, descriptorsOf, roomThen, wholeOf, LaidRun, JudgedRun, WroteBy, Writes};
 use fields::Item;
 use ground::Place;
 use ground::Refusal;
@@ -117,7 +117,7 @@ fn judge_list(list: EntityList, varying: &[u8], run: &mut [u8]) -> Judged
 // Puts the header, with its collection list, and the run behind it into the lent buffer: where the list is not too long, and there is room.
 fn put_whole(collection: &[u8], run: &[u8], out: &mut [u8]) -> Wrote
     requires { ⌜ length (now run) ≤ mostRun ⌝ }
-    ensures { λ r. ⌜ Answered (roomThen (now (collection .entry)) (now (run .entry)) (length (now (out .entry)))) (wholeOf (now (collection .entry)) (now (run .entry))) (now (out .entry)) (now (out .exit)) r ⌝ }
+    ensures { λ r. ⌜ WroteBy (roomThen (now (collection .entry)) (now (run .entry)) (length (now (out .entry)))) (wholeOf (now (collection .entry)) (now (run .entry))) (now (out .entry)) (now (out .exit)) r ⌝ }
 {
     let n = collection.len();
     if MOST_NUMBERS < n {

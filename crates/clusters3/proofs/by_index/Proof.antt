@@ -20,7 +20,7 @@ use Rattle.entities.specs.declared.Node.{Node}
 use Rattle.entities.specs.declared.Run.{Run}
 use Rattle.entities.specs.Run.{mostEntities, blankNode, held, idAt}
 use Rattle.sweep3.specs.Sweep.{idOn}
-use Rattle.keeping3.specs.Keeping.{clusterOn}
+use Rattle.keeping3.specs.Keeping.{clusterBehind}
 use Rattle.clusters3.specs.Shown.{shownCluster, clustersBy}
 use Rattle.clusters3.proofs.by_index.Statement.{statement}
 use Rattle.clusters3.proofs.by_index.Tie as tie
@@ -30,7 +30,7 @@ zeros = record { place = 0; first = 0; pins = 0; id = 0; kind = 0; feeds = false
 
 module _ (b : List ℕ) (run : Run) (ids : List ℕ) where
   abbrev shownAt : ℕ → Cluster
-  shownAt j = shownCluster (clusterOn b ids (idAt run j))
+  shownAt j = shownCluster (clusterBehind b ids (idAt run j))
 
   record Gone (shown : List Cluster) (i : ℕ) : Type 0 where
     low : i ≤ held run
@@ -54,7 +54,7 @@ module _ (b : List ℕ) (run : Run) (ids : List ℕ) where
       inside : i < n → i < 32
       inside h = let l : held run ≤ mostEntities = min-le-right (run .count) mostEntities in omega arith
 
-      more : i < n → (k : Cluster) → k ≡ shownCluster (clusterOn b ids (getD (run .nodes) i zeros .id)) → Gone (set shown i k) (i + 1)
+      more : i < n → (k : Cluster) → k ≡ shownCluster (clusterBehind b ids (getD (run .nodes) i zeros .id)) → Gone (set shown i k) (i + 1)
       unfolding blankNode
       more h k e =
           let l : held run ≤ mostEntities = min-le-right (run .count) mostEntities in

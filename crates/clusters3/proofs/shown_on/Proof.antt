@@ -8,7 +8,7 @@ use Rattle.ground.specs.Numbers.{byte}
 use Rattle.layout.specs.declared.Cluster.{Cluster}
 use Rattle.buffer.specs.Clusters.{channelsOf}
 use Rattle.buffer.specs.Reading.{clusterWith}
-use Rattle.keeping3.specs.Keeping.{clusterOn}
+use Rattle.keeping3.specs.Keeping.{clusterBehind}
 use Rattle.clusters3.specs.Shown.{shownCluster}
 use Rattle.clusters3.proofs.shown_on.Statement.{statement}
 use Rattle.clusters3.proofs.shown_on.Tie as tie
@@ -17,7 +17,7 @@ abbrev bare : ℕ → Cluster
 bare c = record { channels = c; locations = 0; names = 0 }
 
 told : (b ids : List ℕ) (id x : ℕ) → (x ≡ id) × (x < 256) → (k : List ℕ) → k ≡ clusterWith b (getD ids x 0) → (c : ℕ) → c ≡ byte k 6
-    → bare c ≡ shownCluster (clusterOn b ids id)
+    → bare c ≡ shownCluster (clusterBehind b ids id)
 told b ids id x w k e c f = ap bare (f ∙ ap channelsOf (e ∙ ap (λ (i : ℕ). clusterWith b (getD ids i 0)) (w .0)))
 
 ruleset laws = (told, needs)

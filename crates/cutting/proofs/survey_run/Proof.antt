@@ -21,7 +21,7 @@ use Rattle.groups.specs.declared.Frame.{Frame}
 use Rattle.cutting.specs.declared.Survey.{Survey}
 use Rattle.ground.specs.Refuse.{chain-none}
 use Rattle.cutting.specs.Verdict.{run-chain, unlaid-judged}
-use Rattle.cutting.specs.Survey.{runOf, breach8, breach9, breach17, runJudged, refusedSurvey, surveyed, runRefused, runSurvey}
+use Rattle.cutting.specs.Survey.{runFound, breach8, breach9, breach17, runJudged, refusedSurvey, surveyed, runRefused, runSurvey}
 use Rattle.cutting.proofs.survey_run.Statement.{statement}
 use Rattle.cutting.proofs.survey_run.Tie as tie
 
@@ -33,11 +33,11 @@ module _ (c : List ℕ) (f : Frame) (s : List ℕ) (e : s ≡ part c 0 (f .end))
     walk-told : walk ≡ walkOf (take (f .end) c) (f .run)
     walk-told = g ∙ ap (λ (x : List ℕ). walkOf x (f .run)) front
 
-    run-told : walk .run ≡ runIn audio (f .run) (runOf c f)
-    unfolding runOf walkOf
+    run-told : walk .run ≡ runIn audio (f .run) (runFound c f)
+    unfolding runFound walkOf
     run-told = ap (λ (w : Walk). w .run) walk-told
 
-    count-told : walk .run .count ≡ length (runOf c f)
+    count-told : walk .run .count ≡ length (runFound c f)
     unfolding runIn
     count-told = ap (λ (r : Run). r .count) run-told
 

@@ -11,13 +11,13 @@ use mir.Val.{Fits}
 use mir.Syntax.{w64}
 use Rattle.buffer.specs.Clusters.{channelsOf}
 use Rattle.edition3.specs.Third.{channelsIn}
-use Rattle.keeping3.specs.Keeping.{clusterOn, Entering}
+use Rattle.keeping3.specs.Keeping.{clusterBehind, Entering}
 use Rattle.keeping3.proofs.channels_in.Statement.{statement}
 use Rattle.keeping3.proofs.channels_in.Tie as tie
 
 module _ (b given ids : List ℕ) where
   abbrev entering : List ℕ → ℕ
-  entering l = channelsIn (map (clusterOn b given) l)
+  entering l = channelsIn (map (clusterBehind b given) l)
 
   record Gone (sum k : ℕ) : Type 0 where
     low : k ≤ length ids
@@ -28,14 +28,14 @@ module _ (b given ids : List ℕ) where
   start = record { low = omega arith; small = omega arith; same = omega arith }
 
   module _ (sum k : ℕ) (g : Gone sum k) where
-    last : length ids ≤ 255 → length ids ≤ k → Entering (map (clusterOn b given) ids) sum
+    last : length ids ≤ 255 → length ids ≤ k → Entering (map (clusterBehind b given) ids) sum
     unfolding channelsIn
     last f h =
         let z : entering (drop k ids) ≡ 0 = ap entering (drop-of-length-le ids h) in
         let s = g .same in
         record { all-channels = omega arith; few = let b = g .small in let l = g .low in omega arith }
 
-    module _ (h : k < length ids) (x : ℕ) (q : x ≡ channelsOf (clusterOn b given (getD ids k 0))) (c : ℕ) (e : (c ≡ x) × (c < 256)) where
+    module _ (h : k < length ids) (x : ℕ) (q : x ≡ channelsOf (clusterBehind b given (getD ids k 0))) (c : ℕ) (e : (c ≡ x) × (c < 256)) where
       turn : entering (drop k ids) ≡ c + entering (drop (k + 1) ids)
       unfolding channelsIn
       turn = ap entering (drop-cons ids k 0 h) ∙ rw (add-one, e .0, q) refl

@@ -7,11 +7,11 @@ use lib.ListN.{getD}
 use Rattle.ground.specs.Numbers.{byte}
 use Rattle.buffer.specs.Clusters.{channelsOf}
 use Rattle.buffer.specs.Reading.{clusterWith}
-use Rattle.keeping3.specs.Keeping.{clusterOn}
+use Rattle.keeping3.specs.Keeping.{clusterBehind}
 use Rattle.keeping3.proofs.channels_on.Statement.{statement}
 use Rattle.keeping3.proofs.channels_on.Tie as tie
 
-told : (b ids : List ℕ) (id x : ℕ) → (x ≡ id) × (x < 256) → (k : List ℕ) → k ≡ clusterWith b (getD ids x 0) → (c : ℕ) → c ≡ byte k 6 → c ≡ channelsOf (clusterOn b ids id)
+told : (b ids : List ℕ) (id x : ℕ) → (x ≡ id) × (x < 256) → (k : List ℕ) → k ≡ clusterWith b (getD ids x 0) → (c : ℕ) → c ≡ byte k 6 → c ≡ channelsOf (clusterBehind b ids id)
 told b ids id x w k e c f = f ∙ ap channelsOf (e ∙ ap (λ (i : ℕ). clusterWith b (getD ids i 0)) (w .0))
 
 ruleset laws = (told, needs)

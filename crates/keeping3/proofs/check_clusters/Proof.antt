@@ -11,7 +11,7 @@ use Rattle.ground.specs.Places.{Come, come-none, come-here, come-more, come-ove
 use Rattle.entities.specs.declared.Node.{Node}
 use Rattle.entities.specs.declared.Run.{Run}
 use Rattle.entities.specs.Run.{blankNode, held, nodeAt, placeAt}
-use Rattle.keeping3.specs.Keeping.{clusterOn, keepsBy, breach13}
+use Rattle.keeping3.specs.Keeping.{clusterBehind, keepsBy, breach13}
 use Rattle.keeping3.proofs.check_clusters.Statement.{statement}
 use Rattle.keeping3.proofs.check_clusters.Tie as tie
 
@@ -20,7 +20,7 @@ zeros = record { place = 0; first = 0; pins = 0; id = 0; kind = 0; feeds = false
 
 module _ (s b : List ℕ) (run : Run) (given : List ℕ) where
   abbrev wrong : ℕ → Bool
-  wrong j = not (keepsBy s b (nodeAt run j) (clusterOn b given))
+  wrong j = not (keepsBy s b (nodeAt run j) (clusterBehind b given))
 
   abbrev Passed : ℕ → Type 0
   Passed i = Come wrong (λ j. At (placeAt run j)) Nowhere (held run) i
@@ -29,12 +29,12 @@ module _ (s b : List ℕ) (run : Run) (given : List ℕ) where
   start = come-none wrong (λ j. At (placeAt run j)) Nowhere (held run)
 
   module _ (n : ℕ) (m : n ≡ held run) (i : ℕ) (g : Passed i) where
-    over : n ≤ i → Nowhere ≡ breach13 s b run (clusterOn b given)
+    over : n ≤ i → Nowhere ≡ breach13 s b run (clusterBehind b given)
     unfolding breach13
     over h = come-over wrong (λ j. At (placeAt run j)) Nowhere (held run) i g (omega arith)
 
-    module _ (h : i < n) (r : Bool) (f : r ≡ keepsBy s b (getD (run .nodes) i zeros) (clusterOn b given)) where
-      here : not r ≡ true → At (getD (run .nodes) i zeros .place) ≡ breach13 s b run (clusterOn b given)
+    module _ (h : i < n) (r : Bool) (f : r ≡ keepsBy s b (getD (run .nodes) i zeros) (clusterBehind b given)) where
+      here : not r ≡ true → At (getD (run .nodes) i zeros .place) ≡ breach13 s b run (clusterBehind b given)
       unfolding breach13 blankNode
       here y = come-here wrong (λ j. At (placeAt run j)) Nowhere (held run) i g (omega arith) (not r) (ap not f) y
 

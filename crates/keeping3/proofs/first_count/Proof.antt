@@ -7,16 +7,16 @@ use native.Mathlib.Omega.{arith}
 use lib.ListN.{length, getD}
 use Rattle.buffer.specs.Clusters.{channelsOf}
 use Rattle.edition3.specs.Third.{firstOf}
-use Rattle.keeping3.specs.Keeping.{clusterOn}
+use Rattle.keeping3.specs.Keeping.{clusterBehind}
 use Rattle.keeping3.proofs.first_count.Statement.{statement}
 use Rattle.keeping3.proofs.first_count.Tie as tie
 
-nothing : (b ids : List ℕ) (l : List ℕ) → length l ≡ 0 → 0 ≡ channelsOf (firstOf (map (clusterOn b ids) l))
+nothing : (b ids : List ℕ) (l : List ℕ) → length l ≡ 0 → 0 ≡ channelsOf (firstOf (map (clusterBehind b ids) l))
 unfolding firstOf
 nothing b ids [] e = refl
 nothing b ids (x ∷ l) e = absurd (omega arith)
 
-first : (b ids : List ℕ) (l : List ℕ) → (length l ≡ 0 → ⊥) → (c : ℕ) → c ≡ channelsOf (clusterOn b ids (getD l 0 0)) → c ≡ channelsOf (firstOf (map (clusterOn b ids) l))
+first : (b ids : List ℕ) (l : List ℕ) → (length l ≡ 0 → ⊥) → (c : ℕ) → c ≡ channelsOf (clusterBehind b ids (getD l 0 0)) → c ≡ channelsOf (firstOf (map (clusterBehind b ids) l))
 unfolding firstOf
 first b ids [] n c e = absurd (n refl)
 first b ids (x ∷ l) n c e = e

@@ -18,7 +18,7 @@ use Rattle.buffer.specs.Reading.{pieces, clusterWith}
 use Rattle.edition3.specs.Third.{firstOf, channelsIn, mixerLength, featureLength, alike, keeps}
 use Rattle.entities.specs.declared.Node.{Node}
 use Rattle.entities.specs.Run.{sourcesOf, descriptorOf}
-use Rattle.keeping3.specs.Keeping.{clusterOn, keepsBy}
+use Rattle.keeping3.specs.Keeping.{clusterBehind, keepsBy}
 use Rattle.keeping3.proofs.kept.Statement.{statement}
 use Rattle.keeping3.proofs.kept.Tie as tie
 
@@ -28,17 +28,17 @@ few s n h ids e = rw e (simp length-take (omega arith))
 
 module _ (s b : List ℕ) (n : Node) (given d : List ℕ) (p : d ≡ descriptorOf s n) (ids : List ℕ) (t : ids ≡ sourcesOf s n) (e : Entity) (q : e ≡ entityOf d) where
   abbrev Answer : Bool
-  Answer = keepsBy s b n (clusterOn b given)
+  Answer = keepsBy s b n (clusterBehind b given)
 
   abbrev cs : List (List ℕ)
-  cs = map (clusterOn b given) ids
+  cs = map (clusterBehind b given) ids
 
   of : {x : Entity} → e ≡ x → keeps (pieces b) x (length d) cs ≡ Answer
   unfolding keepsBy
   of h =
       ap (λ (y : Entity). keeps (pieces b) y (length d) cs) (sym h ∙ q)
       ∙ ap (λ (z : List ℕ). keeps (pieces b) (entityOf z) (length z) cs) p
-      ∙ ap (λ (l : List ℕ). keeps (pieces b) (entityOf (descriptorOf s n)) (length (descriptorOf s n)) (map (clusterOn b given) l)) t
+      ∙ ap (λ (l : List ℕ). keeps (pieces b) (entityOf (descriptorOf s n)) (length (descriptorOf s n)) (map (clusterBehind b given) l)) t
 
   unknown : e ≡ Unknown → true ≡ Answer
   unfolding keeps

@@ -12,13 +12,13 @@ use borrow.Author.Tests.{not-true, not-false}
 use Rattle.graph.specs.Members.{all}
 use Rattle.buffer.specs.Reading.{clusterWith, sameContent}
 use Rattle.edition3.specs.Third.{firstOf, alike}
-use Rattle.keeping3.specs.Keeping.{clusterOn}
+use Rattle.keeping3.specs.Keeping.{clusterBehind}
 use Rattle.keeping3.proofs.selector_kept.Statement.{statement}
 use Rattle.keeping3.proofs.selector_kept.Tie as tie
 
 module _ (b given ids : List ℕ) where
   abbrev of : List ℕ → List (List ℕ)
-  of l = map (clusterOn b given) l
+  of l = map (clusterBehind b given) l
 
   abbrev as-first : List (List ℕ) → Bool
   as-first cs = all (λ k. sameContent k (firstOf (of ids))) cs
@@ -41,18 +41,18 @@ module _ (b given ids : List ℕ) where
       unfolding firstOf
       first-is = q ∙ ap (λ (i : ℕ). clusterWith b (getD given i 0)) (z .0) ∙ go ids h
         where
-          go : (l : List ℕ) → k < length l → clusterOn b given (getD l 0 0) ≡ getD (of l) 0 []
+          go : (l : List ℕ) → k < length l → clusterBehind b given (getD l 0 0) ≡ getD (of l) 0 []
           go [] i = absurd (omega arith)
           go (a ∷ l) i = refl
 
-      here-is : x ≡ clusterOn b given (getD ids k 0)
+      here-is : x ≡ clusterBehind b given (getD ids k 0)
       here-is = p ∙ ap (λ (i : ℕ). clusterWith b (getD given i 0)) (w .0)
 
       turn : alike (of ids) ≡ r && as-first (of (drop (k + 1) ids))
       unfolding all
       turn =
           g .left ∙ ap (λ (l : List ℕ). as-first (of l)) (drop-cons ids k 0 h)
-          ∙ ap (λ (c : Bool). c && as-first (of (drop (suc k) ids))) (sym (t ∙ ap (λ (j : List ℕ). sameContent j y) here-is ∙ ap (sameContent (clusterOn b given (getD ids k 0))) first-is))
+          ∙ ap (λ (c : Bool). c && as-first (of (drop (suc k) ids))) (sym (t ∙ ap (λ (j : List ℕ). sameContent j y) here-is ∙ ap (sameContent (clusterBehind b given (getD ids k 0))) first-is))
           ∙ ap (λ (i : ℕ). r && as-first (of (drop i ids))) (sym (add-one k))
 
       other : not r ≡ true → false ≡ alike (of ids)

@@ -14,7 +14,7 @@ use Rattle.topology.specs.Reading.{judgedThen, findingWith, findingOf}
 use Rattle.topology.specs.Verdict.{finding-refusal, finding-taken}
 use Rattle.upstream.specs.declared.Listing.{Listing}
 use Rattle.upstream.specs.Listing.{refusedWith}
-use Rattle.routing.specs.Listing.{listingIn, listIn, listingOf, listOf}
+use Rattle.routing.specs.Listing.{listingIn, listIn, listingOf, listAfter}
 use Rattle.routing.proofs.list_routes.Statement.{statement}
 use Rattle.routing.proofs.list_routes.Tie as tie
 
@@ -31,8 +31,8 @@ module _ (s : List ℕ) (f : Finding) (e : f ≡ findingOf s) (x : ℕ) where
     refused-answer r q room =
         q ∙ ap (λ (y : Refusal). refusedWith (y .number) (y .place)) refusal-is ∙ sym (no _ _ (ne-eqb (judgedThen s none .number) 0 not-taken))
 
-    refused-list : (l : List ℕ) → l ≡ listOf s x l
-    unfolding listOf
+    refused-list : (l : List ℕ) → l ≡ listAfter s x l
+    unfolding listAfter
     refused-list l = sym (no _ _ (ne-eqb (judgedThen s none .number) 0 not-taken))
 
   module _ (z : f .refusal .number ≡ 0) where
@@ -47,8 +47,8 @@ module _ (s : List ℕ) (f : Finding) (e : f ≡ findingOf s) (x : ℕ) where
     unfolding listingOf
     taken-answer room r q = q ∙ ap (λ (y : Run). listingIn s y x room) run-is ∙ sym (yes _ _ (eq-eqb (judgedThen s none .number) 0 none-refused))
 
-    taken-list : (l m : List ℕ) → m ≡ listIn s (f .run) x l → m ≡ listOf s x l
-    unfolding listOf
+    taken-list : (l m : List ℕ) → m ≡ listIn s (f .run) x l → m ≡ listAfter s x l
+    unfolding listAfter
     taken-list l m q = q ∙ ap (λ (y : Run). listIn s y x l) run-is ∙ sym (yes _ _ (eq-eqb (judgedThen s none .number) 0 none-refused))
 
 ruleset laws = (refused-answer, refused-list, taken-answer, taken-list, needs)

@@ -1,14 +1,14 @@
 -- The pass has come to an index: the controls before it are right, and each unit's top is above their keys, so that none stands twice.
 use borrow.Author.Needs.{needs}
 use Prim.Native.Nat.{_-_}
-use Rattle.sound.specs.Rising.{passed-many, Rising, rising-start, rising-inside, rising-unsound, rising-on, rising-over}
+use Rattle.sound.specs.Rising.{passed-many, TopsAbove, rising-start, rising-inside, rising-unsound, rising-on, rising-over}
 use Rattle.sound.proofs.sound.Statement.{statement}
 use Rattle.sound.proofs.sound.Tie as tie
 
 ruleset laws = (passed-many, rising-start, rising-inside, rising-unsound, rising-on, rising-over, needs)
 
 abbrev Inv-loop : tie.InvT-loop
-Inv-loop table count tops₀ index₀ tops index = Rising table tops index
+Inv-loop table count tops₀ index₀ tops index = TopsAbove table tops index
 
 abbrev μ-loop : tie.MeasureT-loop
 μ-loop table count tops₀ index₀ tops index = table .count - index

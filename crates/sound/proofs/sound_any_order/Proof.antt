@@ -1,14 +1,14 @@
 -- The pass has come to an index: the controls before it are right and none stands twice, and their keys are kept.
 use borrow.Author.Needs.{needs}
 use Prim.Native.Nat.{_-_}
-use Rattle.sound.specs.Rising.{passed-many, Kept, kept-start, kept-inside, kept-unsound, kept-twin, kept-on, kept-over}
+use Rattle.sound.specs.Rising.{passed-many, KeysKept, kept-start, kept-inside, kept-unsound, kept-twin, kept-on, kept-over}
 use Rattle.sound.proofs.sound_any_order.Statement.{statement}
 use Rattle.sound.proofs.sound_any_order.Tie as tie
 
 ruleset laws = (passed-many, kept-start, kept-inside, kept-unsound, kept-twin, kept-on, kept-over, needs)
 
 abbrev Inv-loop : tie.InvT-loop
-Inv-loop table count keys₀ index₀ keys index = Kept table keys index
+Inv-loop table count keys₀ index₀ keys index = KeysKept table keys index
 
 abbrev μ-loop : tie.MeasureT-loop
 μ-loop table count keys₀ index₀ keys index = table .count - index

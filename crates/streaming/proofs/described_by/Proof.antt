@@ -11,7 +11,7 @@ use Rattle.ground.specs.Numbers.{byte, word}
 use Rattle.formats.specs.Tests.{isGeneral, formatRight}
 use Rattle.terminals.specs.declared.Bearer.{Bearer}
 use Rattle.terminals.specs.declared.Bearer.the-variants as bearer
-use Rattle.terminals.specs.Terminals.{terminalNumber, channelsOf}
+use Rattle.terminals.specs.Terminals.{terminalNumber, channelsBorne}
 use Rattle.streaming.specs.Tests.{bearerRight, describedBy}
 use Rattle.streaming.proofs.described_by.Statement.{statement}
 use Rattle.streaming.proofs.described_by.Tie as tie
@@ -32,7 +32,7 @@ module _ (find : ℕ → Bearer) (g f : List ℕ) (a : Bool) (e : a ≡ isGenera
 
     module _ (t c : ℕ) (q : l ≡ bearer.Terminal t c) where
       by-kind : (b : Bool) → eqb t 0x0101 ≡ b → describedBy find g f ≡ (eqb (pick b 0 14) 0 && formatRight (word g 5) c f)
-      unfolding bearerRight terminalNumber channelsOf
+      unfolding bearerRight terminalNumber channelsBorne
       by-kind b n = by-bearer (bearer.Terminal t c) q ∙ ap (λ (x : Bool). eqb (pick x 0 14) 0 && formatRight (word g 5) c f) n
 
       other-kind : (t ≡ 0x0101 → ⊥) → false ≡ describedBy find g f

@@ -14,7 +14,7 @@ use Rattle.links3.specs.Links.{breach52}
 use Rattle.sweep3.specs.Sweep.{idOn, givenIds, Sweeps}
 use Rattle.buffer.specs.Reading.{clusterWith}
 use Rattle.layout.specs.declared.Cluster.{Cluster}
-use Rattle.keeping3.specs.Keeping.{clusterOn, breach13}
+use Rattle.keeping3.specs.Keeping.{clusterBehind, breach13}
 use Rattle.keeping3.specs.KeepingLaws.{breach13-same}
 use Rattle.clusters3.specs.Shown.{clustersBy, clusters-by-same}
 use Rattle.clusters3.specs.Given.{givenClusters}
@@ -42,12 +42,12 @@ module _ (s b : List ℕ) (header : ℕ) (run : Run) where
     unfolding clustersJudged
     names p m = turned-away 52 p (λ z. omega arith) (refuse-at 52 p _ (sym v ∙ m))
 
-    module _ (m : u ≡ Nowhere) (o : Run) (w : o ≡ ordered s run) (given : List ℕ) (t : Sweeps s o given) (x : Place) (y : x ≡ breach13 s b run (clusterOn b given)) where
+    module _ (m : u ≡ Nowhere) (o : Run) (w : o ≡ ordered s run) (given : List ℕ) (t : Sweeps s o given) (x : Place) (y : x ≡ breach13 s b run (clusterBehind b given)) where
       holds : (x : ℕ) → idOn given x ≡ givenIds s (ordered s run) x
       holds x = t .holds x ∙ ap (λ (q : Run). givenIds s q x) w
 
       by-order : x ≡ breach13 s b run (givenClusters b s run)
-      by-order = y ∙ breach13-same s b run (clusterOn b given) (givenClusters b s run) (λ i. ap (clusterWith b) (holds i))
+      by-order = y ∙ breach13-same s b run (clusterBehind b given) (givenClusters b s run) (λ i. ap (clusterWith b) (holds i))
 
       clusters : (p : ℕ) → x ≡ At p → (r : Finding) → r ≡ nothingFound (record { number = 13; place = p }) → r ≡ clusteredIn s b header run
       unfolding clustersJudged
