@@ -31,8 +31,7 @@ use Rattle.edition.specs.Audio.{audio}
 use Rattle.interfaces.specs.InterfaceLaws.{nine}
 use Rattle.groups.specs.Rules5and6.{Header, listedOf, Rule5, Rule6}
 use Rattle.cutting.specs.Rules1to9.{Opened, headerPlace, Kept, Rule9, NoneWithdrawn, laidOut}
-use Rattle.cutting.specs.Context.{cut-told}
-use Rattle.cutting.specs.Exact.{kept-header, kept-run}
+use Rattle.cutting.specs.Context.{cut-told, header-is, run-one}
 use Rattle.entities.specs.Run.{mostEntities, runIn}
 use Rattle.entities.specs.Represents.{Represents}
 use Rattle.entities.specs.RepresentsLaws.{run-represents}
@@ -53,7 +52,7 @@ passed : (b : Bool) (x f : Fields) → pick b (some x) none ≡ some f → b ≡
 passed true x f e = refl
 passed false x f e = absurd (none-some e)
 
-kept-of : (f : Fields) → LaidOut (bytesOf f) → fields.Kept f
+kept-of : (f : Fields) → LaidOut (bytesOf f) → fields.InBounds f
 kept-of (input i t a c l m n) o = tt
 kept-of (output i t a s n) o = tt
 kept-of (mixer i s c l m k n) o =
@@ -195,20 +194,20 @@ module _ (s : List ℕ) (ls : List Listed) (cs : List ℕ) (k : EntitiesKeep ls)
   connected = connected-parts (represents ds ds-each ds-laid (k .0 .1)) (k .1 .1 .1 .0) (k .1 .1 .1 .1 .0) .1 (k .1 .1 .1 .1 .1 .0, k .1 .1 .1 .1 .1 .1 .0)
 
   -- the run and the header that keep the rules are one
-  run-one : (t : Configuration s) → runOf (t .kept) ≡ ds
+  same-run : (t : Configuration s) → runOf (t .kept) ≡ ds
   unfolding kept right6
-  run-one t = kept-run s (t .kept) ∙ sym (kept-run s kept)
+  same-run t = run-one s (t .kept .opened) (kept .opened) (t .kept .rule5) (kept .rule5) (t .kept .rule6) (kept .rule6)
 
-  header-one : (t : Configuration s) → t .kept .rule5 .header ≡ headerWith cs (length (flatten ds))
+  same-header : (t : Configuration s) → t .kept .rule5 .header ≡ headerWith cs (length (flatten ds))
   unfolding kept right5
-  header-one t = kept-header s (t .kept) ∙ sym (kept-header s kept)
+  same-header t = header-is s (t .kept .opened) (t .kept .rule5) ∙ sym (header-is s (kept .opened) (kept .rule5))
 
   pub read-back-same : ReadBack s ls cs
   unfolding kept right5 right6
   read-back-same = record {
     accepted = record { kept = kept; connected = connected; rule14 = w .rule14 (connected .cluster) (connected .given-out); rule15 = w .rule15 (connected .cluster) (connected .given-out) };
-    same-list = λ t. ap (map fieldsFound) (run-one t) ∙ found-all ls (k .1 .0) (k .1 .1 .0);
-    same-collection = λ t. ap listedOf (header-one t);
+    same-list = λ t. ap (map fieldsFound) (same-run t) ∙ found-all ls (k .1 .0) (k .1 .1 .0);
+    same-collection = λ t. ap listedOf (same-header t);
   }
 
 -- ---- read, then written
