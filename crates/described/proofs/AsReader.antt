@@ -29,7 +29,7 @@ use Rattle.fields.specs.Listed.{Listed, wrong, laid, printed, writtenAs}
 use Rattle.laying.specs.LayingLaws.{long-printed}
 use Rattle.indices.specs.IndexLaws.{FirstIndex}
 use Rattle.writing.specs.Writing.{descriptorsOf, headerWith, TooLong, WrongIn}
-use Rattle.described.specs.OurBox.{EntitiesRefused, Framed, Fitting, OfEntities, readerPlace, AsReader}
+use Rattle.described.specs.OurBox.{EntitiesRefused, SetIn, Fitting, OfEntities, readerPlace, AsReader}
 use Rattle.described.proofs.Trips.{right5, right6}
 
 -- ---- tables: the rows behind those that are kept
@@ -77,7 +77,7 @@ module _ (ds : List (List ℕ)) (start : ℕ) (W : List (List ℕ) → List ℕ 
       let x = breaks-index W start ds p .1 b in
       (x .offender, record { offender = x .offender; inside = x .inside; wrong = x .wrong; at = refl; none-before = x .none-before }, x .at)
 
-module _ (s : List ℕ) (ls : List Listed) (cs : List ℕ) (f : Framed s ls cs) (fit : Fitting ls) where
+module _ (s : List ℕ) (ls : List Listed) (cs : List ℕ) (f : SetIn s ls cs) (fit : Fitting ls) where
   abbrev ds : List (List ℕ)
   ds = descriptorsOf ls
 

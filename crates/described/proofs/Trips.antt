@@ -43,7 +43,7 @@ use Rattle.fields.specs.Listed.{Listed, wrong, laid, printed, writtenAs, listed
 use Rattle.fields.specs.ListedLaws.{read-some, moved-same}
 use Rattle.writing.specs.declared.Wrote.{Wrote}
 use Rattle.writing.specs.Writing.{mostNumbers, descriptorsOf, headerWith, wholeOf, writtenOf, WrongIn, entityRows, roomRows, writerRows, writerVerdict, Writes}
-use Rattle.described.specs.OurBox.{EntitiesKeep, Framed, Within, listRead, collectionRead, bytesOfBoth, ReadBack, WrittenAgain, Had}
+use Rattle.described.specs.OurBox.{EntitiesKeep, SetIn, Within, listRead, collectionRead, bytesOfBoth, ReadBack, WrittenAgain, Had}
 use Rattle.described.proofs.Refused.{all-descriptors, empty-unlaid, empty-unprinted, verdict-answers}
 
 -- ---- what has a layout was in range
@@ -126,7 +126,7 @@ represents ds cut l few = run-represents audio (flatten ds) 0 ds [] (sym (append
 
 -- ---- what is written, set within a frame, is header and run
 
-module _ (s : List ℕ) (ls : List Listed) (cs : List ℕ) (w : Framed s ls cs) (each : (d : List ℕ) → d ∈ descriptorsOf ls → Descriptor d) where
+module _ (s : List ℕ) (ls : List Listed) (cs : List ℕ) (w : SetIn s ls cs) (each : (d : List ℕ) → d ∈ descriptorsOf ls → Descriptor d) where
   abbrev run-written : List (List ℕ)
   run-written = descriptorsOf ls
 

@@ -3,7 +3,7 @@
 -- writer, from the fields that the reader found, byte for byte."
 --   EntitiesKeep ls     ==  the entities of the list keep the rules: the rows 8, 9, 17 and 10 to 13 of its descriptors (writing/specs/Writing)
 --   EntitiesRefused ls n i  ==  the first of these rows that is not kept is number n, at index i
---   Framed s ls cs      ==  the bytes s are what the writer writes of ls and cs, set within a frame that keeps the rules 1 to 7: 1 to 4; header and run
+--   SetIn s ls cs      ==  the bytes s are what the writer writes of ls and cs, set within a frame that keeps the rules 1 to 7: 1 to 4; header and run
 --                           stand 9 bytes behind the AudioControl interface; behind them the group's other descriptors, none of type 24, then the
 --                           next group (6); the collection list is right (7)
 --   Within s ls cs      ==  .. set within a configuration that keeps the remaining rules: besides, streaming and the number of controls, with the clusters
@@ -19,8 +19,8 @@
 --   bytesOfBoth t       ==  header and run of a configuration, as they stand
 --   WrittenAgain s t    ==  these bytes stand in s where the header does, the writer writes them from the list and the collection list that were read, and refuses nothing
 --                           where it has room
---   Had s t             ==  header and run can be had from the writer, out of the configuration s alone: there is a list of entities, as many as it takes
---                           (places), each what is read of its descriptor, its parts moved to where that stands in s (each), which with s lent is the list
+--   Had s t             ==  header and run can be had from the writer, out of the configuration s alone: there is a list of 32 places, as the writer takes it
+--                           (places), whose first ones are each what is read of its descriptor, its parts moved to where that stands in s (each), which with s lent is the list
 --                           that the reader found (found); from it, whatever buffer with room is lent, the writer writes header and run into the front,
 --                           byte for byte, and refuses nothing (written)
 --   OurBox              ==  the refusals are exactly the rules of the list, by the first row that is not kept, at its index (refused), and there is none where
@@ -64,7 +64,7 @@ EntitiesKeep ls = AllKept (entityRows (descriptorsOf ls) end)
 abbrev pub EntitiesRefused : List Listed → ℕ → ℕ → Type 0
 EntitiesRefused ls n i = FirstBroken (entityRows (descriptorsOf ls) end) n i
 
-pub record Framed (s : List ℕ) (ls : List Listed) (cs : List ℕ) : Type 0 where
+pub record SetIn (s : List ℕ) (ls : List Listed) (cs : List ℕ) : Type 0 where
   pub before : List ℕ
   pub behind : List ℕ
   pub whole : s ≡ before ++ (writtenOf ls cs ++ behind)
@@ -79,7 +79,7 @@ pub record Framed (s : List ℕ) (ls : List Listed) (cs : List ℕ) : Type 0 whe
   pub rule7 : Rule7 (opened .descriptors) cs
 
 pub record Within (s : List ℕ) (ls : List Listed) (cs : List ℕ) : Type 0 where
-  pub frame : Framed s ls cs
+  pub frame : SetIn s ls cs
   pub rule14 : (cluster : ℕ → Cluster) → GivenOut audio (descriptorsOf ls) cluster → Rule14 (descriptorsOf ls) cluster (frame .opened .descriptors)
   pub rule15 : (cluster : ℕ → Cluster) → GivenOut audio (descriptorsOf ls) cluster → Rule15 (descriptorsOf ls) cluster
 
@@ -89,7 +89,7 @@ Fitting ls = (l : Listed) → List·Memᴰ l ls → (l ≡ wrong → ⊥) × (To
 abbrev pub OfEntities : ℕ → Type 0
 OfEntities n = ((8 ≤ n) × (n ≤ 13)) ⊎ (n ≡ 17)
 
-module _ {s : List ℕ} {ls : List Listed} {cs : List ℕ} (f : Framed s ls cs) where
+module _ {s : List ℕ} {ls : List Listed} {cs : List ℕ} (f : SetIn s ls cs) where
   abbrev pub readerPlace : ℕ → ℕ → ℕ
   readerPlace n i =
       pick (eqb n 8) (headerPlace (f .opened)) (headerPlace (f .opened) + length (headerWith cs (length (flatten (descriptorsOf ls)))) + total (take i (descriptorsOf ls)))
@@ -131,7 +131,7 @@ pub record OurBox : Type 0 where
   pub refused : (ls : List Listed) (cs : List ℕ) (m n p : ℕ) → (n ≡ 0 → ⊥)
       → (writerVerdict ls cs m ≡ record { number = n; place = p }) ↔ FirstBroken (writerRows ls cs m) n p
   pub accepted : (ls : List Listed) (cs : List ℕ) (m : ℕ) → (writerVerdict ls cs m .number ≡ 0) ↔ AllKept (writerRows ls cs m)
-  pub as-reader : (s : List ℕ) (ls : List Listed) (cs : List ℕ) (f : Framed s ls cs) → Fitting ls → AsReader f
+  pub as-reader : (s : List ℕ) (ls : List Listed) (cs : List ℕ) (f : SetIn s ls cs) → Fitting ls → AsReader f
   pub withdrawn : (i n : ℕ) (s : List ℕ) → Pins (length s) → Printed (writtenAs (printed i s n))
   pub untouched : (ls : List Listed) (cs before after : List ℕ) (r : Wrote) → Writes ls cs before after r → (r .number ≡ 0 → ⊥) → (after ≡ before) × (r .written ≡ 0)
   pub stays : (ls : List Listed) (cs before after : List ℕ) (r : Wrote) → Writes ls cs before after r → r .number ≡ 0

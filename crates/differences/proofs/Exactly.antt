@@ -19,7 +19,7 @@ use Rattle.differences.specs.Mended.{compared-same, mended, mended-byte,
 use Rattle.differences.specs.Lines.{Line, lineId, lastId, recordBearing, differing, changedLine, lineOf, lineAt, linesOf}
 use Rattle.differences.specs.Lines.Line.{leftOnly, rightOnly, changed}
 use Rattle.differences.specs.LinesLaws.{line-own, line-few}
-use Rattle.differences.specs.Exact.{Bears, Differ, Changed, Exact, SameRecords, NoLine}
+use Rattle.differences.specs.Exact.{HasId, Differ, Changed, Exact, SameRecords, NoLine}
 use Rattle.differences.proofs.Records.{found-is, record-size, record-found, id-above, id-below, found-none, differing-each, differing-rising, records-same}
 
 -- what is found for an ID
@@ -78,28 +78,28 @@ module _ (l r : List ℕ) where
   line-by i p q = rw (p, q) refl
 
   module _ (left : Sheet l) (right : Sheet r) (lb : Bytes l) (rb : Bytes r) where
-    stands-left : (i : ℕ) {a : List ℕ} → recordBearing l i ≡ some a → Bears l i
+    stands-left : (i : ℕ) {a : List ℕ} → recordBearing l i ≡ some a → HasId l i
     stands-left i {a} e = let f = found-is l i e in record { one = a; among = f .0; has = f .1 }
 
-    stands-right : (i : ℕ) {b : List ℕ} → recordBearing r i ≡ some b → Bears r i
+    stands-right : (i : ℕ) {b : List ℕ} → recordBearing r i ≡ some b → HasId r i
     stands-right i {b} e = let f = found-is r i e in record { one = b; among = f .0; has = f .1 }
 
     -- for an ID that does not stand nothing is found
-    nothing-in : (s : List ℕ) (i : ℕ) → (Bears s i → ⊥) → recordBearing s i ≡ none
+    nothing-in : (s : List ℕ) (i : ℕ) → (HasId s i → ⊥) → recordBearing s i ≡ none
     nothing-in s i n = go (found-or-not (recordBearing s i))
       where
         go : (recordBearing s i ≡ none) ⊎ ((a : List ℕ) × (recordBearing s i ≡ some a)) → recordBearing s i ≡ none
         go (inl e) = e
         go (inr (a, e)) = let f = found-is s i e in absurd (n (record { one = a; among = f .0; has = f .1 }))
 
-    to-left : (i : ℕ) → Bears l i × (Bears r i → ⊥) → leftOnly i ∈ linesOf l r
+    to-left : (i : ℕ) → HasId l i × (HasId r i → ⊥) → leftOnly i ∈ linesOf l r
     to-left i (s, n) =
         let e = s .has in
         let a = id-above l left (s .among) in
         let b = id-below l lb (s .among) in
         line-there i (omega arith) (omega arith) (along (sym (line-by i (ap (recordBearing l) (sym e) ∙ record-found l left (s .among)) (nothing-in r i n))) (List·Memᴰ·head refl))
 
-    to-right : (i : ℕ) → (Bears l i → ⊥) × Bears r i → rightOnly i ∈ linesOf l r
+    to-right : (i : ℕ) → (HasId l i → ⊥) × HasId r i → rightOnly i ∈ linesOf l r
     to-right i (n, s) =
         let e = s .has in
         let a = id-above r right (s .among) in
@@ -113,12 +113,12 @@ module _ (l r : List ℕ) where
         line-there i (omega arith) (omega arith)
         (along (sym (line-by i (ap (recordBearing l) (sym e) ∙ record-found l left m) (ap (recordBearing r) (sym f) ∙ record-found r right n) ∙ changed-one i (differing a b) d)) (List·Memᴰ·head refl))
 
-    of-left : (i : ℕ) {x : Line} → LineSays i (recordBearing l i) (recordBearing r i) x → x ≡ leftOnly i → Bears l i × (Bears r i → ⊥)
+    of-left : (i : ℕ) {x : Line} → LineSays i (recordBearing l i) (recordBearing r i) x → x ≡ leftOnly i → HasId l i × (HasId r i → ⊥)
     of-left i (says-left p q) e = (stands-left i p, λ s. found-none r right i q (s .among) (s .has))
     of-left i (says-right p q) e = let z : _≡_ {A = ℕ} 0 1 = cc in absurd (omega arith)
     of-left i (says-changed p q d) e = let z : _≡_ {A = ℕ} 0 1 = cc in absurd (omega arith)
 
-    of-right : (i : ℕ) {x : Line} → LineSays i (recordBearing l i) (recordBearing r i) x → x ≡ rightOnly i → (Bears l i → ⊥) × Bears r i
+    of-right : (i : ℕ) {x : Line} → LineSays i (recordBearing l i) (recordBearing r i) x → x ≡ rightOnly i → (HasId l i → ⊥) × HasId r i
     of-right i (says-left p q) e = let z : _≡_ {A = ℕ} 0 1 = cc in absurd (omega arith)
     of-right i (says-right p q) e = (λ s. found-none l left i p (s .among) (s .has), stands-right i q)
     of-right i (says-changed p q d) e = let z : _≡_ {A = ℕ} 0 1 = cc in absurd (omega arith)

@@ -1,5 +1,5 @@
 -- What the lines of two sheets say, exactly (document 02, No. 4): "No difference may be missed or made up".
---   Bears s i         ==  a record of s bears the ID i
+--   HasId s i         ==  a record of s bears the ID i
 --   Differ a b ns     ==  ns are the numbers of the bytes in which the records a and b differ, rising, and there is one
 --   Changed l r i ns  ==  the ID i stands in l and in r, and ns are the numbers of the bytes in which its two records differ
 --   Exact l r         ==  the lines of l and r: `left ID` exactly for an ID that stands in l only, `right ID` for one that stands in r only,
@@ -26,8 +26,8 @@ use Rattle.differences.specs.Mended.{SameByte, mended}
 use Rattle.differences.specs.Lines.{Line, lineId, lastId, linesOf, firstAbove}
 use Rattle.differences.specs.Lines.Line.{leftOnly, rightOnly, changed}
 
-abbrev pub Bears : List ℕ → ℕ → Type 0
-Bears s i = Some (λ a. idOf a ≡ i) (recordsIn s)
+abbrev pub HasId : List ℕ → ℕ → Type 0
+HasId s i = Some (λ a. idOf a ≡ i) (recordsIn s)
 
 pub record Differ (a b ns : List ℕ) : Type 0 where
   pub each : (n : ℕ) → n ∈ ns ↔ ((n < recordSize) × (SameByte n (byte a n) (byte b n) → ⊥))
@@ -44,8 +44,8 @@ pub record Changed (l r : List ℕ) (i : ℕ) (ns : List ℕ) : Type 0 where
   pub differ : Differ before after ns
 
 pub record Exact (l r : List ℕ) : Type 0 where
-  pub left-only : (i : ℕ) → leftOnly i ∈ linesOf l r ↔ (Bears l i × (Bears r i → ⊥))
-  pub right-only : (i : ℕ) → rightOnly i ∈ linesOf l r ↔ ((Bears l i → ⊥) × Bears r i)
+  pub left-only : (i : ℕ) → leftOnly i ∈ linesOf l r ↔ (HasId l i × (HasId r i → ⊥))
+  pub right-only : (i : ℕ) → rightOnly i ∈ linesOf l r ↔ ((HasId l i → ⊥) × HasId r i)
   pub changed-too : (i : ℕ) (ns : List ℕ) → changed i ns ∈ linesOf l r ↔ Changed l r i ns
   pub rising : Rising lineId (linesOf l r)
 

@@ -15,7 +15,7 @@ use Rattle.ground.specs.Pick.{yes, no, decided, reads-eq}
 use Rattle.ground.specs.Lists.{member-at, member-index}
 use Rattle.ground.specs.Places.{finding, first-some, first-none}
 use Rattle.ground.specs.Places as places
-use Rattle.ground.specs.Refuse.{none}
+use Rattle.ground.specs.Refuse.{none, refuse}
 use Rattle.graph.specs.Members.{_∈_}
 use Rattle.edition.specs.Edition.{ownId}
 use Rattle.edition.specs.Audio.{audio}
@@ -23,15 +23,17 @@ use Rattle.entities.specs.declared.Run.{Run}
 use Rattle.entities.specs.Run.{held, placeAt}
 use Rattle.entities.specs.Represents.{Represents}
 use Rattle.cutting.specs.declared.Survey.{Survey}
+use Rattle.cutting.specs.Survey.{surveyOf}
 use Rattle.ids.specs.Breach.{bears}
 use Rattle.ids.specs.OwnIds.{own-ids}
 use Rattle.topology.specs.declared.Finding.{Finding}
 use Rattle.topology.specs.declared.Reading.{Reading}
-use Rattle.topology.specs.Reading.{verdictOf, findingWith, findingOf, refusedReading, readingOf}
-use Rattle.topology.specs.Verdict.{finding-refusal, finding-taken, verdict-refused, verdict-whole}
+use Rattle.topology.specs.Reading.{roomJudged, verdictOf, findingWith, findingOf, refusedReading, readingOf}
+use Rattle.topology.specs.Verdict.{finding-refusal, finding-taken, verdict-refused, verdict-room, verdict-whole}
 use Rattle.reader.specs.Configuration.{runOf, placeOfRun, Configuration}
 use Rattle.reader.proofs.Surveyed.{entitiesOf, survey-kept, run-cut, represented}
-use Rattle.reader.proofs.Exactly.{accepted-exactly}
+use Rattle.reader.proofs.Exactly.{accepted-exactly, refused-exactly}
+use Rattle.reader.proofs.NeverSixteen.{never-sixteen}
 use Rattle.reader.proofs.Shows.{number-told}
 use Rattle.extent.specs.declared.Located.{Located}
 use Rattle.extent.specs.declared.Located.the-variants.{Refused, From}
@@ -50,15 +52,47 @@ module _ (s : List ℕ) where
   roomy : (room : ℕ) → wholeSheet ≤ room → found .refusal .number ≡ 0 → verdictOf s room .number ≡ 0
   roomy room h z = ap (λ (r : Refusal). r .number) (verdict-whole s room h ∙ sym (finding-refusal s found refl)) ∙ z
 
-  judged-so : (x room : ℕ) → wholeSheet ≤ room → (readingOf s room .number ≡ 0 → ⊥) → locatedIn s x ≡ Refused (readingOf s room .number) (readingOf s room .place)
+  refused-by : (x room : ℕ) → (found .refusal .number ≡ 0 → ⊥) → (readingOf s room .number ≡ 0 → ⊥) → locatedIn s x ≡ Refused (readingOf s room .number) (readingOf s room .place)
   unfolding locatedBy readingOf refusedReading
-  judged-so x room h n =
+  refused-by x room broken n =
       no _ _ (ne-eqb _ _ broken)
       ∙ ap (λ (r : Refusal). Refused (r .number) (r .place)) (refused-so room broken)
       ∙ sym (ap (λ (r : Reading). Refused (r .number) (r .place)) (no _ _ (ne-eqb _ _ (λ z. n (number-told s room ∙ z)))))
-    where
-      broken : found .refusal .number ≡ 0 → ⊥
-      broken z = n (number-told s room ∙ roomy room h z)
+
+  judged-so : (x room : ℕ) → wholeSheet ≤ room → (readingOf s room .number ≡ 0 → ⊥) → locatedIn s x ≡ Refused (readingOf s room .number) (readingOf s room .place)
+  judged-so x room h n = refused-by x room (λ z. n (number-told s room ∙ roomy room h z)) n
+
+  -- behind the rules 1 to 15 only 16 is left
+  sixteen-left : (b : Place) → (refuse 16 b none .number ≡ 0 → ⊥) → (refuse 16 b none .number ≡ 16 → ⊥) → ⊥
+  unfolding refuse
+  sixteen-left place.Nowhere n f = n refl
+  sixteen-left (place.At q) n f = f refl
+
+  but-sixteen : (x room : ℕ) → (readingOf s room .number ≡ 0 → ⊥) → (readingOf s room .number ≡ 16 → ⊥) → locatedIn s x ≡ Refused (readingOf s room .number) (readingOf s room .place)
+  unfolding roomJudged
+  but-sixteen x room n f =
+      ⊎-elim
+      (λ (z : found .refusal .number ≡ 0).
+      let e : readingOf s room .number ≡ roomJudged (surveyOf s) room none .number = number-told s room ∙ ap (λ (r : Refusal). r .number) (verdict-room s found refl room z) in
+      absurd (sixteen-left _ (λ q. n (e ∙ q)) (λ q. f (e ∙ q))))
+      (λ (m : found .refusal .number ≡ 0 → ⊥). refused-by x room m n)
+      (decided (eqb (found .refusal .number) 0) (reads-eq (found .refusal .number) 0))
+
+  known-64 : (p : Place) → refusalOf (known p) .number ≡ 16 → ⊥
+  known-64 place.Nowhere e = omega arith
+  known-64 (place.At q) e = omega arith
+
+  no-sixteen : (x : ℕ) → refusalOf (locatedIn s x) .number ≡ 16 → ⊥
+  unfolding locatedBy
+  no-sixteen x e =
+      ⊎-elim
+      (λ (z : found .refusal .number ≡ 0). known-64 (entityPlace (found .run) x) (sym (ap (λ (y : Located). refusalOf y .number) (yes _ _ (eq-eqb _ _ z))) ∙ e))
+      (λ (m : found .refusal .number ≡ 0 → ⊥).
+      let number : found .refusal .number ≡ 16 = sym (ap (λ (y : Located). refusalOf y .number) (no _ _ (ne-eqb _ _ m))) ∙ e in
+      let whole : verdictOf s wholeSheet ≡ record { number = 16; place = found .refusal .place } =
+      verdict-whole s wholeSheet (omega arith) ∙ sym (finding-refusal s found refl) ∙ ap (λ (n : ℕ). record { number = n; place = found .refusal .place }) number in
+      never-sixteen s (found .refusal .place) (refused-exactly s wholeSheet 16 (found .refusal .place) (λ z. omega arith) .0 whole))
+      (decided (eqb (found .refusal .number) 0) (reads-eq (found .refusal .number) 0))
 
   module _ (t : Configuration s) where
     abbrev ds : List (List ℕ)
@@ -142,6 +176,8 @@ stretch-shown s = record {
       subst (λ (e : List ℕ). (refusalOf (locatedIn s (ownId e)) ≡ none) × (bytesAt s (locatedIn s (ownId e)) ≡ e)) (i .2) (stands s t (i .0) (i .1));
   unknown = λ t x h. located-in s t x ∙ ap known (none-bears s t x h);
   by-the-reader = judged-so s;
+  but-16 = but-sixteen s;
+  never-16 = no-sixteen s;
   empty = λ x h. empties s (locatedIn s x) h;
   told-apart = apart s;
 }

@@ -9,7 +9,7 @@
 --   sideRequestRows b s d room  ==  30, 31, "63 for an empty side, a request after 31 and in front of 32; a presented number other than 0 and 1 is 32", then the rest
 --   numberIn o        ==  the number of what a plug-in comes to
 --   PlugPlace s room n p  ==  the place p goes with the refusal n of a plug-in: 30, 61 and 62 have none, the reader's its own
---   lentBy step       ==  what the lent sheet or reply holds at the step
+--   lentBy step       ==  what the lent sheet or reply holds before the step
 --   DuetRows          ==  in every box whatever, every step's number is the one that its rows say (plugs, unplugs, loads, requests), and there is no
 --                         other (one-plug, one-unplug, one-load, one-request); a refused plug-in has its place (places); a refused step leaves the box,
 --                         and the lent sheet or reply, as they stood (keeps); and "Unplugging a side gives its room back": what the box then holds is

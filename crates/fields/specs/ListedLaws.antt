@@ -7,7 +7,7 @@
 --                       its fields are found
 --   mixer-some, feature-some  ==  such a descriptor has a byte
 --   read-one        ==  two results that the reader's contract allows are equal
---   read-some       ==  and there is one, of every descriptor
+--   read-some       ==  and there is one, of every descriptor of bytes
 --   moved-same      ==  read of a descriptor and moved to where that stands in a slice, an entity is the same in the slice
 use Prim.Native.Nat.{ℕ, _+_, _-_, _*_, _/_, _%_, _≤_, _<_}
 use native.Mathlib.Omega.{arith}

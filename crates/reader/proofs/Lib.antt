@@ -3,3 +3,4 @@ pub mod Exactly
 pub mod Shows
 pub mod Tables
 pub mod Plainly
+pub mod NeverSixteen

@@ -36,6 +36,7 @@ use Rattle.reader.specs.Configuration.{runOf, Configuration}
 use Rattle.reader.specs.Refusals.{tableOfRows, Refused}
 use Rattle.reader.proofs.Surveyed.{entitiesOf, survey-kept, represented}
 use Rattle.reader.proofs.Exactly.{accepted-exactly, refused-exactly}
+use Rattle.reader.proofs.NeverSixteen.{never-sixteen}
 use Rattle.upstream.specs.declared.Listing.{Listing}
 use Rattle.upstream.specs.Ways.{Way, written}
 use Rattle.upstream.specs.Telling.{mostDepth, mostRoutes}
@@ -207,28 +208,12 @@ module _ (s : List ℕ) (x room : ℕ) where
       go (inl e) = absurd (sixteen _ n p z f (sym (judged-chain s .on e (roomJudged (surveyOf s) sheet none)) ∙ given))
       go (inr m) = reader-refuses n p z (sym (judged-chain s .stays m (roomJudged (surveyOf s) sheet none)) ∙ given)
 
--- no row of a table gives the number m at the place p
-Never : ℕ → ℕ → Rows → Type 0
-Never m p end = Unit {0}
-Never m p (row n K B behind) = (m ≡ n → B p → ⊥) × ((k : K) → Never m p (behind k))
-
-never-first : (m p : ℕ) (t : Rows) → Never m p t → FirstBroken t m p → ⊥
-unfolding Never
-never-first m p end n f = f
-never-first m p (row i K B behind) n (inl (e, b)) = n .0 e b
-never-first m p (row i K B behind) n (inr (k, f)) = never-first m p (behind k) (n .1 k) f
-
--- of the rows only the last has the number 16, and it is kept with a whole sheet, by row 8
-never-refused : (s : List ℕ) (p : ℕ) → Never 16 p (tableOfRows s wholeSheet)
-unfolding Never
-never-refused s p = (λ x y. omega arith, λ r1. (λ x y. omega arith, λ r2. (λ x y. omega arith, λ r3. (λ x y. omega arith, λ r4. (λ x y. omega arith, λ r5. (λ x y. omega arith, λ r6. (λ x y. omega arith, λ r7. (λ x y. omega arith, λ h. (λ x y. omega arith, λ r9. (λ x y. omega arith, λ r17. (λ x y. omega arith, λ r10. (λ x y. omega arith, λ r11. (λ x y. omega arith, λ r12. (λ x y. omega arith, λ r13. (λ x y. omega arith, λ r14. (λ x y. omega arith, λ r15. (λ x y. y .1 (let few = h .1 in omega arith), λ z. tt)))))))))))))))))
-
 never-16 : (s : List ℕ) (x room : ℕ) → listingOf s x room .number ≡ 16 → ⊥
 unfolding refusedWith listed
 never-16 s x room = go (answered s x room)
   where
     go : {r : Listing} → RightListing s x room r → r .number ≡ 16 → ⊥
-    go (statement.by-reader {n} {p} z f) e = never-first 16 p (tableOfRows s wholeSheet) (never-refused s p) (subst (λ (m : ℕ). Refused s wholeSheet m p) e f)
+    go (statement.by-reader {n} {p} z f) e = never-sixteen s p (subst (λ (m : ℕ). Refused s wholeSheet m p) e f)
     go (statement.by-id c n) e = omega arith
     go (statement.by-many c f h) e = omega arith
     go (statement.by-room c f h b) e = omega arith

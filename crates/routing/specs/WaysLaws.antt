@@ -1,7 +1,7 @@
 -- Laws of the ways upstream, over any sources: what is among them, and that they rise in the order of pins.
 --   ByPin ask x k ys w  ==  w goes by a pin of x, whose sources from pin k on are ys, and on from there by what is behind it
 --   pins-has, pins-in  ==  what is behind an entity's pins: by a pin of it, and what is behind that
---   rising-one       ==  two lists that rise and have the same members are the same
+--   pins-rise-one       ==  two lists that rise and have the same members are the same
 --   ways-rise        ==  the ways upstream rise
 --   ways-same        ==  sources that agree on bytes, and are bytes, have the same ways upstream from a byte
 use Prim.Native.Nat.{ℕ, zero, suc, _+_, _<_}
@@ -56,15 +56,15 @@ before-not (later a) (later b) = before-not a b
 before-self : {p : List ℕ} → PinsBefore p p → ⊥
 before-self b = before-not b b
 
-pub rising-one : (x y : List Way) → PinsRise x → PinsRise y → ((w : Way) → w ∈ x → w ∈ y) → ((w : Way) → w ∈ y → w ∈ x) → x ≡ y
-rising-one [] [] r s f g = refl
-rising-one [] (w ∷ y) r s f g = absurd (List·Memᴰ·not-nil (g w (List·Memᴰ·head refl)))
-rising-one (w ∷ x) [] r s f g = absurd (List·Memᴰ·not-nil (f w (List·Memᴰ·head refl)))
-rising-one (w ∷ x) (v ∷ y) (a, r) (b, s) f g =
+pub pins-rise-one : (x y : List Way) → PinsRise x → PinsRise y → ((w : Way) → w ∈ x → w ∈ y) → ((w : Way) → w ∈ y → w ∈ x) → x ≡ y
+pins-rise-one [] [] r s f g = refl
+pins-rise-one [] (w ∷ y) r s f g = absurd (List·Memᴰ·not-nil (g w (List·Memᴰ·head refl)))
+pins-rise-one (w ∷ x) [] r s f g = absurd (List·Memᴰ·not-nil (f w (List·Memᴰ·head refl)))
+pins-rise-one (w ∷ x) (v ∷ y) (a, r) (b, s) f g =
     let same : w ≡ v = heads (List·Memᴰ·cases-cons (f w (List·Memᴰ·head refl))) (List·Memᴰ·cases-cons (g v (List·Memᴰ·head refl))) in
     ap (λ (u : Way). u ∷ x) same
     ∙ ap (λ (l : List Way). v ∷ l)
-    (rising-one x y r s
+    (pins-rise-one x y r s
     (λ u m. behind same a u m (List·Memᴰ·cases-cons (f u (List·Memᴰ·tail m))))
     (λ u m. behind (sym same) b u m (List·Memᴰ·cases-cons (g u (List·Memᴰ·tail m)))))
   where
