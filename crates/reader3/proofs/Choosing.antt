@@ -78,11 +78,14 @@ module _ (s b : List ℕ) where
         let m : eqb (thirdVerdict s b (length d) .number) 0 ≡ false = ne-eqb _ _ (λ q. stopped (sym (ap (λ (r : Refusal). r .number) third-verdict) ∙ q)) in
         (ap sheetReading (no _ _ m ∙ ap sheetRefused third-verdict), no _ _ m)
 
+    alike : (sheetReading (thirdAnswer s b (length d)) ≡ readingOf s (length d)) × (thirdSheet s b d ≡ sheetOf s d)
+    alike = (third-stops .0 ∙ sym (first-stops .0), third-stops .1 ∙ sym (first-stops .1))
+
     unopened : (eitherReading s b (length d) ≡ readingOf s (length d)) × (eitherSheet s b d ≡ sheetOf s d)
     unopened = go (eqb (protocolOf s) version3) refl
       where
         go : (c : Bool) → eqb (protocolOf s) version3 ≡ c → (eitherReading s b (length d) ≡ readingOf s (length d)) × (eitherSheet s b d ≡ sheetOf s d)
-        go true e = (chosen e d .0 ∙ third-stops .0 ∙ sym (first-stops .0), chosen e d .1 ∙ third-stops .1 ∙ sym (first-stops .1))
+        go true e = (chosen e d .0 ∙ alike .0, chosen e d .1 ∙ alike .1)
         go false e = left e d
 
 -- the AudioControl interface that the reader finds is the one behind the rules 1 to 4
@@ -146,6 +149,7 @@ pub choice : (s b : List ℕ) → Choice s b
 choice s b = record {
   third-read = λ o e. chosen s b (eq-eqb _ _ (protocol-told s o ∙ e));
   others-read = λ o n. left s b (ne-eqb _ _ (λ q. n (sym (protocol-told s o) ∙ q)));
+  alike = λ n d. alike s b n d;
   unopened = λ n d. unopened s b n d;
   either-accepted = either-accepted s b;
 }

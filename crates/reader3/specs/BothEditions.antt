@@ -14,7 +14,8 @@
 --                           answer-shows, sheet-shows, record-shows, record-bytes: the answer, and the sheet, which shows them
 --   EitherConfiguration s b  ==  the bytes are a configuration of the 3.0 edition, whose protocol byte is 0x30, or one of Audio 1.0 with another
 --   Choice s b          ==  THE CHOICE: by the protocol byte of the AudioControl interface, at offset 7, 0x30 or another; where the rules 1
---                           to 4 are not kept both editions refuse alike, and the answer is Audio 1.0's (unopened). either-accepted: so demand 3 of both editions together
+--                           to 4 are not kept both editions refuse alike (alike), and the answer is Audio 1.0's (unopened). either-accepted: so demand 3 of both
+--                           editions together
 use Prim.Native.Nat.{ℕ, _*_, _≤_, _<_}
 use mathlib.Core.Path.{_≡_}
 use mathlib.Core.List.{List, [], _++_}
@@ -94,5 +95,6 @@ pub record Choice (s b : List ℕ) : Type 0 where
       → (eitherReading s b (length d) ≡ sheetReading (thirdAnswer s b (length d))) × (eitherSheet s b d ≡ thirdSheet s b d)
   pub others-read : (o : Opened s) → (byte (o .control) 7 ≡ version3 → ⊥) → (d : List ℕ)
       → (eitherReading s b (length d) ≡ readingOf s (length d)) × (eitherSheet s b d ≡ sheetOf s d)
+  pub alike : (Opened s → ⊥) → (d : List ℕ) → (sheetReading (thirdAnswer s b (length d)) ≡ readingOf s (length d)) × (thirdSheet s b d ≡ sheetOf s d)
   pub unopened : (Opened s → ⊥) → (d : List ℕ) → (eitherReading s b (length d) ≡ readingOf s (length d)) × (eitherSheet s b d ≡ sheetOf s d)
   pub either-accepted : (d : List ℕ) → wholeSheet ≤ length d → (eitherReading s b (length d) .number ≡ 0) ↔ EitherConfiguration s b
