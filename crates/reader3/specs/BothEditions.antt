@@ -13,9 +13,10 @@
 --                           behind 52: the rule, and who breaks it
 --                           answer-shows, sheet-shows, record-shows, record-bytes: the answer, and the sheet, which shows them
 --   EitherConfiguration s b  ==  the bytes are a configuration of the 3.0 edition, whose protocol byte is 0x30, or one of Audio 1.0 with another
+--   EitherPlainly s b   ==  the same of the two in plain words
 --   Choice s b          ==  THE CHOICE: by the protocol byte of the AudioControl interface, at offset 7, 0x30 or another; where the rules 1
 --                           to 4 are not kept both editions refuse alike (alike), and the answer is Audio 1.0's (unopened). either-accepted: so demand 3 of both
---                           editions together
+--                           editions together; either-plainly: and in plain words
 use Prim.Native.Nat.{ℕ, _*_, _≤_, _<_}
 use mathlib.Core.Path.{_≡_}
 use mathlib.Core.List.{List, [], _++_}
@@ -36,6 +37,7 @@ use Rattle.protocol.specs.Protocol.{version3, sheetReading, eitherReading, eith
 use Rattle.reader3.specs.ThirdConfiguration.{KeptThird, runIn3, clustersIn, ThirdConfiguration}
 use Rattle.reader3.specs.ThirdRefusals.{RefusedThird}
 use Rattle.reader.specs.Configuration.{Configuration}
+use Rattle.reader.specs.Plainly as first
 use Rattle.reader3.specs.ThirdRecord.{ThirdRecord}
 use Rattle.reader3.specs.Plainly.{Plainly, KeptPlainly, BrokenPlainly}
 use Rattle.reader3.specs.PlainConfiguration.{PlainConfiguration}
@@ -90,6 +92,10 @@ abbrev pub EitherConfiguration : List ℕ → List ℕ → Type 0
 EitherConfiguration s b =
     ((t : ThirdConfiguration s b) × (byte (t .kept .opened .control) 7 ≡ version3)) ⊎ ((t : Configuration s) × (byte (t .kept .opened .control) 7 ≡ version3 → ⊥))
 
+abbrev pub EitherPlainly : List ℕ → List ℕ → Type 0
+EitherPlainly s b =
+    ((p : PlainConfiguration s b) × (byte (p .opened .control) 7 ≡ version3)) ⊎ ((p : first.PlainConfiguration s) × (byte (p .opened .control) 7 ≡ version3 → ⊥))
+
 pub record Choice (s b : List ℕ) : Type 0 where
   pub third-read : (o : Opened s) → byte (o .control) 7 ≡ version3 → (d : List ℕ)
       → (eitherReading s b (length d) ≡ sheetReading (thirdAnswer s b (length d))) × (eitherSheet s b d ≡ thirdSheet s b d)
@@ -98,3 +104,4 @@ pub record Choice (s b : List ℕ) : Type 0 where
   pub alike : (Opened s → ⊥) → (d : List ℕ) → (sheetReading (thirdAnswer s b (length d)) ≡ readingOf s (length d)) × (thirdSheet s b d ≡ sheetOf s d)
   pub unopened : (Opened s → ⊥) → (d : List ℕ) → (eitherReading s b (length d) ≡ readingOf s (length d)) × (eitherSheet s b d ≡ sheetOf s d)
   pub either-accepted : (d : List ℕ) → wholeSheet ≤ length d → (eitherReading s b (length d) .number ≡ 0) ↔ EitherConfiguration s b
+  pub either-plainly : (d : List ℕ) → wholeSheet ≤ length d → (eitherReading s b (length d) .number ≡ 0) ↔ EitherPlainly s b
