@@ -7,6 +7,7 @@
 --   SourceNamed ds x      ==  rule 11 of the source ID x: it is not 0, and it is borne in the run, by what is no Output Terminal and no Clock Source
 --   ClockNamed ds x       ==  x is the ID of a Clock Source of the run
 --   ClockedPlainly ds d   ==  rule 11 of a clock: a Terminal's clock ID names a Clock Source
+--   UnknownPlainly ks d   ==  refusal 52: d is an Input Terminal or a Mixer, and the cluster ID which it names, at 12 or behind its source IDs, is borne by none of ks
 --   GivesPlainly ks cl d  ==  an Input Terminal's and a Mixer's cluster is the descriptor of the buffer that bears the ID which it names; an Output Terminal, a Selector and
 --                             a Feature Unit pass on pin 1's; nothing leaves a Clock Source
 --   KeepsPlainly cl d     ==  an Input Terminal's and a Mixer's cluster has 1 to 16 channels; a Mixer's length is 13+p+N, a Feature Unit's 7+4(c+1); a Selector's pins have
@@ -17,6 +18,7 @@
 use Prim.Native.Nat.{ℕ, _+_, _≤_}
 use mathlib.Core.Path.{_≡_}
 use mathlib.Core.List.{List, [], map}
+use mathlib.Core.Logic.{_⊎_}
 use lib.ListN.{length, take, drop}
 use Rattle.ground.specs.Numbers.{byte, word}
 use Rattle.ground.specs.Lists.{Some}
@@ -52,6 +54,10 @@ ClockNamed ds x = Some (λ e. (ownId e ≡ x) × (byte e 2 ≡ 0x0B)) ds
 pub record ClockedPlainly (ds : List (List ℕ)) (d : List ℕ) : Type 0 where
   pub input : byte d 2 ≡ 2 → ClockNamed ds (byte d 7)
   pub output : byte d 2 ≡ 3 → ClockNamed ds (byte d 8)
+
+abbrev pub UnknownPlainly : List (List ℕ) → List ℕ → Type 0
+UnknownPlainly ks d =
+    ((byte d 2 ≡ 2) × ((k : List ℕ) → k ∈ ks → clusterId k ≡ word d 12 → ⊥)) ⊎ ((byte d 2 ≡ 5) × ((k : List ℕ) → k ∈ ks → clusterId k ≡ word d (5 + byte d 4) → ⊥))
 
 pub record GivesPlainly (ks : List (List ℕ)) (cl : ℕ → List ℕ) (d : List ℕ) : Type 0 where
   pub input : byte d 2 ≡ 2 → (cl (ownId d) ∈ ks) × (clusterId (cl (ownId d)) ≡ word d 12)
