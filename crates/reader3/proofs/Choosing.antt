@@ -38,10 +38,12 @@ use Rattle.topology.specs.Reading.{judgedThen, verdictOf, refusedReading, readi
 use Rattle.third.specs.declared.SheetAnswer.{SheetAnswer}
 use Rattle.third.specs.Judgement.{thirdThen, thirdVerdict, sheetRefused, thirdAnswer, thirdSheet}
 use Rattle.protocol.specs.Protocol.{version3, protocolOf, sheetReading, eitherReading, eitherSheet}
-use Rattle.reader3.specs.BothEditions.{EitherConfiguration, Choice}
+use Rattle.reader3.specs.BothEditions.{EitherConfiguration, EitherPlainly, Choice}
+use Rattle.reader3.proofs.InPlainWords.{plain-third, third-plain}
 use Rattle.reader3.proofs.ThirdShows.{third-demand}
 use Rattle.reader.proofs.Exactly.{accepted-exactly}
 use Rattle.reader.proofs.Shows.{number-told}
+use Rattle.reader.proofs.Plainly.{plain-configuration, configuration-plain}
 
 module _ (s b : List ℕ) where
   chosen : eqb (protocolOf s) version3 ≡ true → (d : List ℕ) → (eitherReading s b (length d) ≡ sheetReading (thirdAnswer s b (length d))) × (eitherSheet s b d ≡ thirdSheet s b d)
@@ -78,11 +80,14 @@ module _ (s b : List ℕ) where
         let m : eqb (thirdVerdict s b (length d) .number) 0 ≡ false = ne-eqb _ _ (λ q. stopped (sym (ap (λ (r : Refusal). r .number) third-verdict) ∙ q)) in
         (ap sheetReading (no _ _ m ∙ ap sheetRefused third-verdict), no _ _ m)
 
+    alike : (sheetReading (thirdAnswer s b (length d)) ≡ readingOf s (length d)) × (thirdSheet s b d ≡ sheetOf s d)
+    alike = (third-stops .0 ∙ sym (first-stops .0), third-stops .1 ∙ sym (first-stops .1))
+
     unopened : (eitherReading s b (length d) ≡ readingOf s (length d)) × (eitherSheet s b d ≡ sheetOf s d)
     unopened = go (eqb (protocolOf s) version3) refl
       where
         go : (c : Bool) → eqb (protocolOf s) version3 ≡ c → (eitherReading s b (length d) ≡ readingOf s (length d)) × (eitherSheet s b d ≡ sheetOf s d)
-        go true e = (chosen e d .0 ∙ third-stops .0 ∙ sym (first-stops .0), chosen e d .1 ∙ third-stops .1 ∙ sym (first-stops .1))
+        go true e = (chosen e d .0 ∙ alike .0, chosen e d .1 ∙ alike .1)
         go false e = left e d
 
 -- the AudioControl interface that the reader finds is the one behind the rules 1 to 4
@@ -114,6 +119,19 @@ module _ (s : List ℕ) (o : Opened s) where
           ∙ ap (λ (p : ℕ). byte (part s p (endAt s p)) 7) z
           ∙ ap (λ (d : List ℕ). byte d 7) control-is
 
+-- a configuration of either edition is one in plain words, and the other way round: the protocol byte is one
+module _ (s b : List ℕ) where
+  same-byte : (o q : Opened s) → byte (o .control) 7 ≡ byte (q .control) 7
+  same-byte o q = sym (protocol-told s o) ∙ protocol-told s q
+
+  plain-either : EitherConfiguration s b → EitherPlainly s b
+  plain-either (inl (t, q)) = let p = plain-third t in inl (p, same-byte (p .opened) (t .kept .opened) ∙ q)
+  plain-either (inr (t, n)) = let p = plain-configuration t in inr (p, λ q. n (same-byte (t .kept .opened) (p .opened) ∙ q))
+
+  either-plain : EitherPlainly s b → EitherConfiguration s b
+  either-plain (inl (p, q)) = let t = third-plain p in inl (t, same-byte (t .kept .opened) (p .opened) ∙ q)
+  either-plain (inr (p, n)) = let t = configuration-plain p in inr (t, λ q. n (same-byte (p .opened) (t .kept .opened) ∙ q))
+
 -- demand 3 of both editions together
 module _ (s b d : List ℕ) (h : wholeSheet ≤ length d) where
   by-third : eqb (protocolOf s) version3 ≡ true → (eitherReading s b (length d) .number ≡ 0) ↔ EitherConfiguration s b
@@ -142,10 +160,15 @@ module _ (s b d : List ℕ) (h : wholeSheet ≤ length d) where
       go true e = by-third e
       go false e = by-first e
 
+  either-plainly : (eitherReading s b (length d) .number ≡ 0) ↔ EitherPlainly s b
+  either-plainly = (λ e. plain-either s b (either-accepted .0 e), λ p. either-accepted .1 (either-plain s b p))
+
 pub choice : (s b : List ℕ) → Choice s b
 choice s b = record {
   third-read = λ o e. chosen s b (eq-eqb _ _ (protocol-told s o ∙ e));
   others-read = λ o n. left s b (ne-eqb _ _ (λ q. n (sym (protocol-told s o) ∙ q)));
+  alike = λ n d. alike s b n d;
   unopened = λ n d. unopened s b n d;
   either-accepted = either-accepted s b;
+  either-plainly = either-plainly s b;
 }

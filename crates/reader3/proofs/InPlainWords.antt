@@ -32,7 +32,8 @@ use Rattle.clusters.specs.Rule13.{entering, GivenOut, Fits, Rule13, Broken, Con
 use Rattle.clusters.specs.Topology.{source-of}
 use Rattle.clusters3.specs.Rule13Laws.{FoundById, borne, unborne, found-by-id, found-only}
 use Rattle.reader3.specs.ThirdConfiguration.{runIn3, clustersIn, ThirdConfiguration}
-use Rattle.reader3.specs.Plainly.{pinIds, SourceNamed, GivesPlainly, KeepsPlainly, Plainly, KeptPlainly, BrokenPlainly}
+use Rattle.reader.specs.Plainly.{pinIds}
+use Rattle.reader3.specs.Plainly.{SourceNamed, GivesPlainly, KeepsPlainly, Plainly, KeptPlainly, BrokenPlainly}
 use Rattle.reader3.specs.PlainConfiguration.{PlainConfiguration}
 use Rattle.reader3.proofs.PlainSources.{laid-plainly, plainly-laid, each-plainly, plainly-each, named-plainly, plainly-named, clocked-plainly, plainly-clocked}
 

@@ -1,14 +1,16 @@
--- The rules 9 and 11 of the 3.0 edition, and what is said plainly of the bytes, are one.
+-- The rules 9, 11 and 52 of the 3.0 edition, and what is said plainly of the bytes, are one.
 --   clock-kind        ==  what is shown as 0B is a Clock Source of 001; clock-shown: and the other way round
 --   laid-plainly, plainly-laid  ==  a layout of 001, and the kind's length and pins
 --   each-plainly, plainly-each  ==  what holds of each source ID, and of those that stand where the kind has them
 --   named-plainly, plainly-named  ==  a source ID that is not wrong, and one that is named, where IDs are distinct
 --   clocked-plainly, plainly-clocked  ==  a clock ID that is not wrong, and one that names a Clock Source
+--   links-plainly     ==  so rule 11, of one descriptor
+--   unknown-plainly   ==  a cluster ID that is unknown, where its kind has it
 use Prim.Native.Nat.{ℕ, _<_}
 use mathlib.Core.Path.{_≡_, refl, sym, ap, _∙_, subst}
 use mathlib.Core.Bool.{true, false, _&&_}
 use mathlib.Core.List.{List, List·Memᴰ·head, List·Memᴰ·not-nil, List·Memᴰ·cases-cons}
-use mathlib.Core.Logic.{_⊎_, inl, inr, ⊎-elim}
+use mathlib.Core.Logic.{_⊎_, inl, inr, ⊎-elim, _↔_}
 use lib.ListN.{length, take, drop}
 use lib.Dec.{eqb}
 use native.Mathlib.Omega.{arith}
@@ -23,12 +25,14 @@ use Rattle.layout3.specs.Facts.{factsOf}
 use Rattle.layout3.specs.Layout.{entityOf, isUnknown}
 use Rattle.layout3.specs.LayoutLaws.{Told, told, unknown, input, output, mixer, selector, feature, clock, reads-unknown, laid-decided, kind-input, kind-output, kind-mixer, kind-selector, kind-feature, kind-clock, input-right, output-right, mixer-right, selector-right, feature-right, clock-right}
 use Rattle.edition.specs.Edition.{ownId}
-use Rattle.edition3.specs.Third.{saidBy, third, WrongClock}
+use Rattle.buffer.specs.Clusters.{clusterId}
+use Rattle.edition3.specs.Third.{saidBy, third, UnknownCluster, WrongClock}
+use Rattle.links3.specs.Rules.{WrongLinks}
 use Rattle.ids.specs.Rule10.{Rule10}
 use Rattle.ids.specs.OwnIds.{own-one}
 use Rattle.sources.specs.Rule11.{WrongSource, zero-source, no-output}
 use Rattle.sources.specs.Rule11 as source
-use Rattle.reader3.specs.Plainly.{LaidPlainly, EachSource, SourceNamed, ClockNamed, ClockedPlainly}
+use Rattle.reader3.specs.Plainly.{LaidPlainly, EachSource, SourceNamed, ClockNamed, ClockedPlainly, UnknownPlainly}
 use Rattle.reader3.specs.Plainly as plain
 
 -- what is shown as 0B is a Clock Source of 001
@@ -236,3 +240,55 @@ module _ (ds : List (List ℕ)) (laid : (e : List ℕ) → e ∈ ds → LaidOut 
       go (selector l k p i) w = true≠false (sym (w .0))
       go (feature l k i) w = true≠false (sym (w .0))
       go (clock l k i) w = true≠false (sym (w .0))
+
+-- rule 11, of one descriptor of such a run
+module _ (ks ds : List (List ℕ)) (laid : (e : List ℕ) → e ∈ ds → LaidOut e) where
+  bears : (x : ℕ) → (WrongSource (third ks) ds x → ⊥) → Some (λ e. ownId e ≡ x) ds
+  bears x n =
+      ⊎-elim (λ h. h) (λ none. absurd (n (source.unknown (λ e m q. none (record { one = e; among = m; has = q })))))
+      (decided _ (reads-any (λ e. eqb (ownId e) x) (λ e. ownId e ≡ x) (λ e. reads-eq (ownId e) x) ds))
+
+  pub links-plainly : Rule10 ds → (d : List ℕ) → d ∈ ds → (WrongLinks ks ds d → ⊥) ↔ (EachSource (SourceNamed ds) d × ClockedPlainly ds d)
+  links-plainly r d m = (
+    λ n. (
+      each-plainly (SourceNamed ds) d (laid d m) (λ x i.
+          let right : WrongSource (third ks) ds x → ⊥ = λ w. n (inl (record { one = x; among = i; has = w })) in
+          named-plainly ks ds laid x (bears x right) right),
+      clocked-plainly ds laid d (laid d m) (λ w. n (inr w)),
+    ),
+    λ h. ⊎-elim
+        (λ w. plainly-named ks ds laid (w .one) r (plainly-each (SourceNamed ds) d (laid d m) (h .0) (w .one) (w .among)) (w .has))
+        (plainly-clocked ds laid d (laid d m) (h .1)),
+  )
+
+-- refusal 52, of one descriptor
+module _ (ks : List (List ℕ)) (d : List ℕ) (o : LaidOut d) where
+  abbrev unborne : Entity → Type 0
+  unborne x = (factsOf x .declares ≡ true) × ((k : List ℕ) → k ∈ ks → clusterId k ≡ factsOf x .cluster → ⊥)
+
+  pub unknown-plainly : UnknownCluster ks d ↔ UnknownPlainly ks d
+  unfolding factsOf
+  unknown-plainly = (to (told d), of (told d))
+    where
+      to : {x : Entity} → Told d x → unborne x → UnknownPlainly ks d
+      to (unknown n) w = absurd (n o)
+      to (input l k i) w = inl (k, w .1)
+      to (output l k i) w = absurd (true≠false (sym (w .0)))
+      to (mixer l k p i) w = inr (k, w .1)
+      to (selector l k p i) w = absurd (true≠false (sym (w .0)))
+      to (feature l k i) w = absurd (true≠false (sym (w .0)))
+      to (clock l k i) w = absurd (true≠false (sym (w .0)))
+
+      other : {n : ℕ} → byte d 2 ≡ n → (n ≡ 2 → ⊥) → (n ≡ 5 → ⊥) → UnknownPlainly ks d → ⊥
+      other k a b = ⊎-elim (λ w. a (sym k ∙ w .0)) (λ w. b (sym k ∙ w .0))
+
+      of : {x : Entity} → Told d x → UnknownPlainly ks d → unborne x
+      of (unknown n) w = absurd (n o)
+      of (input l k i) (inl w) = (refl, w .1)
+      of (input l k i) (inr w) = let q = w .0 in absurd (omega arith)
+      of (output l k i) w = absurd (other k (λ e. omega arith) (λ e. omega arith) w)
+      of (mixer l k p i) (inl w) = let q = w .0 in absurd (omega arith)
+      of (mixer l k p i) (inr w) = (refl, w .1)
+      of (selector l k p i) w = absurd (other k (λ e. omega arith) (λ e. omega arith) w)
+      of (feature l k i) w = absurd (other k (λ e. omega arith) (λ e. omega arith) w)
+      of (clock l k i) w = absurd (other k (λ e. omega arith) (λ e. omega arith) w)

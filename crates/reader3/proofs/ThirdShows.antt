@@ -52,7 +52,7 @@ use Rattle.reader3.specs.PlainConfiguration.{PlainConfiguration}
 use Rattle.reader3.specs.BothEditions.{thirdRun, thirdCluster, thirdBuffer, RefusedSheet, PlainAlike, ThirdDemand}
 use Rattle.reader3.proofs.KeptRun.{entitiesThird, run-kept, represented}
 use Rattle.reader3.proofs.ThirdExactly.{third-accepted, third-refused}
-use Rattle.reader3.proofs.PlainSources.{clock-kind}
+use Rattle.reader3.proofs.PlainSources.{clock-kind, laid-plainly, plainly-laid, links-plainly, unknown-plainly}
 use Rattle.reader3.proofs.InPlainWords.{plainly, rule13-plainly, broken-plainly, third-plain, plain-exactly}
 
 -- the answer's number and place are the verdict's
@@ -244,6 +244,9 @@ third-demand s b = record {
   one-plainly = one-plainly s b;
   from-buffer = λ t d m n. cluster-in-buffer (thirdBuffer t) (thirdRun t) (t .connected) (t .rule52) d m (t .kept .rule9 d m) (λ e. n (clock-kind d (t .kept .rule9 d m) e));
   plainly = λ t. plainly (thirdBuffer t) (thirdRun t) (t .kept .rule51 .ids) (t .kept .rule9) (t .connected) (t .clocks) (t .rule52);
+  laid-plainly = λ ks d. (laid-plainly d, plainly-laid d);
+  links-plainly = λ k. links-plainly (clustersIn k) (runIn3 k) (k .rule9);
+  unknown-plainly = λ k d m. unknown-plainly (clustersIn k) d (k .rule9 d m);
   rule13-plainly = λ k. rule13-plainly (clustersIn k) (runIn3 k) (k .rule51 .ids) (k .rule9);
   broken-plainly = λ k. broken-plainly (clustersIn k) (runIn3 k) (k .rule51 .ids) (k .rule9);
   answer-shows = answer-shows s b;

@@ -10,11 +10,14 @@
 --                           the run's descriptors byte by byte, the cluster on each ID; one-plainly: and what keeps them in plain words is the same
 --                           from-buffer: the cluster on the output of each entity but a Clock Source is one of the buffer's descriptors
 --                           plainly: what each entity gives out and keeps, in bytes; rule13-plainly, broken-plainly: so the row 13 of the table, which stands
---                           behind 52: the rule, and who breaks it
+--                           behind 52: the rule, and who breaks it; laid-plainly, links-plainly, unknown-plainly: so who keeps 9, who keeps 11, which stands
+--                           behind 10, and who breaks 52
 --                           answer-shows, sheet-shows, record-shows, record-bytes: the answer, and the sheet, which shows them
 --   EitherConfiguration s b  ==  the bytes are a configuration of the 3.0 edition, whose protocol byte is 0x30, or one of Audio 1.0 with another
+--   EitherPlainly s b   ==  the same of the two in plain words
 --   Choice s b          ==  THE CHOICE: by the protocol byte of the AudioControl interface, at offset 7, 0x30 or another; where the rules 1
---                           to 4 are not kept both editions refuse alike, and the answer is Audio 1.0's (unopened). either-accepted: so demand 3 of both editions together
+--                           to 4 are not kept both editions refuse alike (alike), and the answer is Audio 1.0's (unopened). either-accepted: so demand 3 of both
+--                           editions together; either-plainly: and in plain words
 use Prim.Native.Nat.{ℕ, _*_, _≤_, _<_}
 use mathlib.Core.Path.{_≡_}
 use mathlib.Core.List.{List, [], _++_}
@@ -23,8 +26,10 @@ use lib.ListN.{length, getD, take, drop}
 use Rattle.ground.specs.Numbers.{byte}
 use Rattle.graph.specs.Members.{_∈_}
 use Rattle.edition.specs.Edition.{ownId}
-use Rattle.edition3.specs.Third.{third, Rule52}
+use Rattle.edition3.specs.Third.{third, UnknownCluster, Rule52}
 use Rattle.cutting.specs.Rules1to9.{Opened}
+use Rattle.ids.specs.Rule10.{Rule10}
+use Rattle.links3.specs.Rules.{WrongLinks}
 use Rattle.clusters.specs.Rule13.{Rule13, Broken}
 use Rattle.clusters3.specs.Shown.{shownCluster}
 use Rattle.records.specs.Records.{recordSize, recordFor}
@@ -35,8 +40,9 @@ use Rattle.protocol.specs.Protocol.{version3, sheetReading, eitherReading, eith
 use Rattle.reader3.specs.ThirdConfiguration.{KeptThird, runIn3, clustersIn, ThirdConfiguration}
 use Rattle.reader3.specs.ThirdRefusals.{RefusedThird}
 use Rattle.reader.specs.Configuration.{Configuration}
+use Rattle.reader.specs.Plainly as first
 use Rattle.reader3.specs.ThirdRecord.{ThirdRecord}
-use Rattle.reader3.specs.Plainly.{Plainly, KeptPlainly, BrokenPlainly}
+use Rattle.reader3.specs.Plainly.{LaidPlainly, EachSource, SourceNamed, ClockedPlainly, UnknownPlainly, Plainly, KeptPlainly, BrokenPlainly}
 use Rattle.reader3.specs.PlainConfiguration.{PlainConfiguration}
 
 module _ {s b : List ℕ} (t : ThirdConfiguration s b) where
@@ -73,6 +79,10 @@ pub record ThirdDemand (s b : List ℕ) : Type 0 where
   pub one-plainly : (t : ThirdConfiguration s b) (p : PlainConfiguration s b) → PlainAlike t p
   pub from-buffer : (t : ThirdConfiguration s b) (d : List ℕ) → d ∈ thirdRun t → (byte d 2 ≡ 0x0B → ⊥) → thirdCluster t (ownId d) ∈ thirdBuffer t
   pub plainly : (t : ThirdConfiguration s b) (d : List ℕ) → d ∈ thirdRun t → Plainly (thirdBuffer t) (thirdRun t) (thirdCluster t) d
+  pub laid-plainly : (ks : List (List ℕ)) (d : List ℕ) → third ks .LaidOut d ↔ LaidPlainly d
+  pub links-plainly : (k : KeptThird s b) → Rule10 (runIn3 k) → (d : List ℕ) → d ∈ runIn3 k
+      → (WrongLinks (clustersIn k) (runIn3 k) d → ⊥) ↔ (EachSource (SourceNamed (runIn3 k)) d × ClockedPlainly (runIn3 k) d)
+  pub unknown-plainly : (k : KeptThird s b) (d : List ℕ) → d ∈ runIn3 k → UnknownCluster (clustersIn k) d ↔ UnknownPlainly (clustersIn k) d
   pub rule13-plainly : (k : KeptThird s b) → Rule52 (clustersIn k) (runIn3 k) → Rule13 (third (clustersIn k)) (runIn3 k) ↔ KeptPlainly (clustersIn k) (runIn3 k)
   pub broken-plainly : (k : KeptThird s b) → Rule52 (clustersIn k) (runIn3 k) → (d : List ℕ) → d ∈ runIn3 k
       → Broken (third (clustersIn k)) (runIn3 k) d ↔ BrokenPlainly (clustersIn k) (runIn3 k) d
@@ -89,10 +99,16 @@ abbrev pub EitherConfiguration : List ℕ → List ℕ → Type 0
 EitherConfiguration s b =
     ((t : ThirdConfiguration s b) × (byte (t .kept .opened .control) 7 ≡ version3)) ⊎ ((t : Configuration s) × (byte (t .kept .opened .control) 7 ≡ version3 → ⊥))
 
+abbrev pub EitherPlainly : List ℕ → List ℕ → Type 0
+EitherPlainly s b =
+    ((p : PlainConfiguration s b) × (byte (p .opened .control) 7 ≡ version3)) ⊎ ((p : first.PlainConfiguration s) × (byte (p .opened .control) 7 ≡ version3 → ⊥))
+
 pub record Choice (s b : List ℕ) : Type 0 where
   pub third-read : (o : Opened s) → byte (o .control) 7 ≡ version3 → (d : List ℕ)
       → (eitherReading s b (length d) ≡ sheetReading (thirdAnswer s b (length d))) × (eitherSheet s b d ≡ thirdSheet s b d)
   pub others-read : (o : Opened s) → (byte (o .control) 7 ≡ version3 → ⊥) → (d : List ℕ)
       → (eitherReading s b (length d) ≡ readingOf s (length d)) × (eitherSheet s b d ≡ sheetOf s d)
+  pub alike : (Opened s → ⊥) → (d : List ℕ) → (sheetReading (thirdAnswer s b (length d)) ≡ readingOf s (length d)) × (thirdSheet s b d ≡ sheetOf s d)
   pub unopened : (Opened s → ⊥) → (d : List ℕ) → (eitherReading s b (length d) ≡ readingOf s (length d)) × (eitherSheet s b d ≡ sheetOf s d)
   pub either-accepted : (d : List ℕ) → wholeSheet ≤ length d → (eitherReading s b (length d) .number ≡ 0) ↔ EitherConfiguration s b
+  pub either-plainly : (d : List ℕ) → wholeSheet ≤ length d → (eitherReading s b (length d) .number ≡ 0) ↔ EitherPlainly s b
