@@ -11,7 +11,7 @@
 --                       plainly: each descriptor of the run has its kind's length and fields, and the cluster on its ID is what its kind
 --                       gives out and keeps its kind's rule, in bytes
 --                       laid-plainly, sources-plainly, rule13-plainly, broken-plainly: the rows 9, 11 and 13 of the refusals in the same words: who has a
---                       layout; whose source IDs are right, where the rules 9 and 10 are kept; that clusters keep every rule, and who does not
+--                       layout (what row 17 asks, Printed, is in bytes itself); whose source IDs are right, where the rules 9 and 10 are kept; that clusters keep every rule, and who does not
 --                       keep its own by those that are given out, where rule 9 is kept
 --                       answer-shows: the whole answer: the AudioControl number, the count of entities, the controls
 --                       sheet-shows: the sheet: the records of the run's descriptors with those clusters, then the lent bytes as they

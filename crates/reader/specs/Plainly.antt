@@ -4,8 +4,8 @@
 --   pinIds d           ==  "p at 4, sources from 5": the p source IDs of a Mixer or a Selector
 --   SourceId d x       ==  x is one of the source IDs of d, which stand where its kind has them (SourcesAt)
 --   SourceNamed ds x   ==  rule 11 of the source ID x: it is not 0, and it is borne in the run ds, by what is no Output Terminal
---   LaidPlainly d      ==  rule 9: d is one of the five kinds, with that kind's length, 1 to 24 pins, and a control size of 1 to 4; a Mixer's and a Feature Unit's exact
---                          lengths are rule 13's
+--   LaidPlainly d      ==  rule 9: d is one of the five kinds, with that kind's length; a Mixer and a Selector have 1 to 24 pins, a Feature Unit a control size of 1 to 4. A
+--                          Mixer's and a Feature Unit's exact lengths are rule 13's; here these have room for their fields
 --   Selected cl d      ==  what a Selector gives out: pin 1's c and bitmap; pin 1's name index where no two pins' differ, and "If their name indices differ, the
 --                          Selector gives out index 0"
 --   GivesPlainly cl d  ==  with the clusters cl on IDs, d gives out what its kind gives out: an Input Terminal its cluster at 7..10, a Mixer its own at 5+p..8+p; a
