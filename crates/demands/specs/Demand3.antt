@@ -10,9 +10,10 @@
 --                       by byte, the cluster on each ID; one-plainly: .. and what keeps them as they are said of the bytes is the same
 --                       plainly: each descriptor of the run has its kind's length and fields, and the cluster on its ID is what its kind
 --                       gives out and keeps its kind's rule, in bytes
---                       laid-plainly, sources-plainly, rule13-plainly, broken-plainly: the rows 9, 11 and 13 of the refusals in the same words: who has a
---                       layout (what row 17 asks, Printed, is in bytes itself); whose source IDs are right, where the rules 9 and 10 are kept; that clusters keep every rule, and who does not
---                       keep its own by those that are given out, where rule 9 is kept
+--                       laid-plainly, sources-plainly, rule13-plainly, broken-plainly: the rows 9, 11 and 13 of the refusals, in bytes: who
+--                       has a layout (what row 17 asks, Printed, is in bytes itself); whose source IDs are right, where the rules 9 and
+--                       10 are kept; that there are clusters by which all keep their rules, and who does not keep its own by those that
+--                       are given out, where rule 9 is kept
 --                       answer-shows: the whole answer: the AudioControl number, the count of entities, the controls
 --                       sheet-shows: the sheet: the records of the run's descriptors with those clusters, then the lent bytes as they
 --                       stood; record-shows: of which the 32 bytes at 32·i are the record of the i-th descriptor with the cluster on
