@@ -12,7 +12,7 @@ use Rattle.reader.specs.Configuration.{runOf, Configuration}
 use Rattle.reader.specs.Plainly.{PlainConfiguration}
 use Rattle.reader.proofs.Exactly.{accepted-exactly}
 use Rattle.reader.proofs.Shows.{number-told, one-cutting, one-descriptors, one-clusters, answer-shows, sheet-shows, record-shows, record-bytes, controls-stand, controls-order, controls-counted}
-use Rattle.reader.proofs.Plainly.{run-plainly, plain-configuration, configuration-plain, one-plainly}
+use Rattle.reader.proofs.Plainly.{source-ids, laid-plainly, sources-plainly, rule13-plainly, broken-plainly, run-plainly, plain-configuration, configuration-plain, one-plainly}
 use Rattle.demands.specs.Demand3.{Demand3}
 
 pub room-enough : (s : List ℕ) (room : ℕ) → wholeSheet ≤ room → (t : Configuration s) → Rule16 (runOf (t .kept)) room
@@ -37,6 +37,11 @@ demand-3 s = record {
   one-clusters = one-clusters s;
   one-plainly = one-plainly;
   plainly = run-plainly;
+  laid-plainly = laid-plainly;
+  source-ids = λ k d m x. source-ids d x (k .rule9 d m);
+  sources-plainly = λ k. sources-plainly (runOf k) (k .rule9);
+  rule13-plainly = λ k. rule13-plainly (runOf k) (k .rule9);
+  broken-plainly = λ k. broken-plainly (runOf k) (k .rule9);
   answer-shows = answer-shows s;
   sheet-shows = sheet-shows s;
   record-shows = record-shows s;

@@ -10,6 +10,10 @@
 --                       by byte, the cluster on each ID; one-plainly: .. and what keeps them as they are said of the bytes is the same
 --                       plainly: each descriptor of the run has its kind's length and fields, and the cluster on its ID is what its kind
 --                       gives out and keeps its kind's rule, in bytes
+--                       laid-plainly, sources-plainly, rule13-plainly, broken-plainly: the rows 9, 11 and 13 of the refusals, in bytes: who
+--                       has a layout (what row 17 asks, Printed, is in bytes itself); whose source IDs are right, where the rules 9 and
+--                       10 are kept; that there are clusters by which all keep their rules, and who does not keep its own by those that
+--                       are given out, where rule 9 is kept; source-ids: the source IDs along which the chains of row 12 go, in bytes
 --                       answer-shows: the whole answer: the AudioControl number, the count of entities, the controls
 --                       sheet-shows: the sheet: the records of the run's descriptors with those clusters, then the lent bytes as they
 --                       stood; record-shows: of which the 32 bytes at 32·i are the record of the i-th descriptor with the cluster on
@@ -26,7 +30,12 @@ use lib.ListN.{length, getD, take, drop}
 use Rattle.ground.specs.Numbers.{byte}
 use Rattle.graph.specs.Members.{_∈_}
 use Rattle.layout.specs.declared.Cluster.{Cluster}
-use Rattle.edition.specs.Edition.{ownId}
+use Rattle.edition.specs.Edition.{ownId, sources}
+use Rattle.edition.specs.Audio.{audio}
+use Rattle.cutting.specs.Rules1to9.{Kept}
+use Rattle.ids.specs.Rule10.{Rule10}
+use Rattle.sources.specs.Rule11.{WrongSources}
+use Rattle.clusters.specs.Rule13.{Rule13, Broken}
 use Rattle.table.specs.declared.Control.{Control}
 use Rattle.table.specs.Controls.{at}
 use Rattle.table.specs.Keys.{InTable}
@@ -39,7 +48,7 @@ use Rattle.records.specs.Sheet.{recordsOf, Rule16, wholeSheet}
 use Rattle.records.specs.Bytes.{RecordBytes}
 use Rattle.topology.specs.Reading.{readingOf, sheetOf}
 use Rattle.reader.specs.Configuration.{runOf, Configuration}
-use Rattle.reader.specs.Plainly.{Plainly, PlainConfiguration}
+use Rattle.reader.specs.Plainly.{SourceId, SourceNamed, LaidPlainly, Plainly, KeptPlainly, BrokenPlainly, PlainConfiguration}
 
 module _ {s : List ℕ} (t : Configuration s) where
   abbrev pub run : List (List ℕ)
@@ -60,6 +69,12 @@ pub record Demand3 (s : List ℕ) : Type 0 where
   pub one-plainly : (t : Configuration s) (p : PlainConfiguration s)
       → (p .opened .descriptors ≡ t .kept .opened .descriptors) × (p .rule6 .run ≡ run t) × ((d : List ℕ) → d ∈ run t → p .cluster (ownId d) ≡ cluster t (ownId d))
   pub plainly : (t : Configuration s) (d : List ℕ) → d ∈ run t → Plainly (cluster t) d
+  pub laid-plainly : (d : List ℕ) → audio .LaidOut d ↔ LaidPlainly d
+  pub source-ids : (k : Kept s) (d : List ℕ) → d ∈ runOf k → (x : ℕ) → x ∈ sources audio d ↔ SourceId d x
+  pub sources-plainly : (k : Kept s) → Rule10 (runOf k) → (d : List ℕ) → d ∈ runOf k
+      → (WrongSources audio (runOf k) d → ⊥) ↔ ((x : ℕ) → SourceId d x → SourceNamed (runOf k) x)
+  pub rule13-plainly : (k : Kept s) → Rule13 audio (runOf k) ↔ KeptPlainly (runOf k)
+  pub broken-plainly : (k : Kept s) (d : List ℕ) → d ∈ runOf k → Broken audio (runOf k) d ↔ BrokenPlainly (runOf k) d
   pub answer-shows : (t : Configuration s) (room : ℕ) → Rule16 (run t) room
       → readingOf s room
       ≡ record {

@@ -1,7 +1,11 @@
 -- The rules of the edition are the rules that Plainly says of the bytes, descriptor by descriptor and so of a configuration as a whole.
---   to-plain, of-plain      ==  a descriptor that has its layout, gives out by its rule and keeps it does so plainly, and the other way
 --   source-ids              ==  the source IDs of a descriptor that has its layout are those that stand where its kind has them
---   run-plainly             ==  each descriptor of a configuration's run does so
+--   laid-plainly            ==  rule 9: who has a layout, and who is laid out plainly
+--   gives-plainly, plainly-gives  ==  what a descriptor that has its layout gives out by its rule, it gives out plainly, and the other way
+--   keeps-plainly, plainly-keeps  ==  so with the rule that it keeps, by what it gives out
+--   sources-plainly         ==  rule 11, of each descriptor of a run that keeps the rules 9 and 10
+--   all-give, fits-plainly  ==  what is given out and kept, of a run that keeps rule 9; rule13-plainly, broken-plainly: so rule 13, and who breaks it
+--   run-plainly             ==  each descriptor of a configuration's run has its layout, gives out and keeps so
 --   plain-configuration, configuration-plain  ==  THE LAWS: a configuration is a plain one, and the other way
 --   one-plainly             ==  .. with the same cutting, the same run and the same clusters
 use Prim.Native.Nat.{ℕ, suc, _+_, _-_, _<_}
@@ -11,9 +15,11 @@ use mathlib.Core.Logic.{_↔_, _⊎_, inl, inr, ⊎-elim}
 use mathlib.Core.List.{List, [], _∷_, map, List·Memᴰ·head, Memᴰ·map, Memᴰ·of-map}
 use lib.ListN.{length, getD, take, drop}
 use lib.Seq.{drop-cons}
+use lib.Dec.{eqb}
 use native.Mathlib.Omega.{arith}
 use Rattle.ground.specs.Pick.{decided, true≠false, reads-eq}
 use Rattle.ground.specs.Numbers.{byte}
+use Rattle.ground.specs.Lists.{Some, reads-any}
 use Rattle.graph.specs.Members.{_∈_, along}
 use Rattle.layout.specs.declared.Cluster.{Cluster}
 use Rattle.layout.specs.declared.Entity.{Entity}
@@ -26,11 +32,12 @@ use Rattle.edition.specs.Edition.{ownId, sources}
 use Rattle.edition.specs.Audio.{audio, firstOf, channelsIn, namesEach, named, giveOut, mixerLength, featureLength, Keeps}
 use Rattle.edition.specs.Audio as audio
 use Rattle.records.specs.Bytes.{sources-stand, sources-one}
+use Rattle.ids.specs.Rule10.{Rule10}
 use Rattle.ids.specs.OwnIds.{own-one}
-use Rattle.sources.specs.Rule11.{WrongSource, zero-source, unknown, no-output}
-use Rattle.clusters.specs.Topology.{source-of}
+use Rattle.sources.specs.Rule11.{WrongSource, WrongSources, zero-source, unknown, no-output}
+use Rattle.clusters.specs.Rule13.{GivenOut, Fits, Rule13, Broken}
 use Rattle.reader.specs.Configuration.{runOf, Configuration}
-use Rattle.reader.specs.Plainly.{pinIds, SourceId, SourceNamed, Selected, Plainly, PlainConfiguration}
+use Rattle.reader.specs.Plainly.{pinIds, SourceId, SourceNamed, LaidPlainly, Selected, GivesPlainly, KeepsPlainly, Plainly, KeptPlainly, BrokenPlainly, PlainConfiguration}
 use Rattle.reader.specs.Plainly as plain
 use Rattle.reader.proofs.Shows.{one-cutting, one-descriptors, one-clusters}
 
@@ -91,13 +98,36 @@ module _ (d : List ℕ) where
       go (selector i q l) = refl
       go (feature i q l) = refl
 
+-- a layout, and the kind's length and pins
+laid-known : (d : List ℕ) {x : Entity} → entityOf d ≡ x → isUnknown x ≡ false → LaidOut d
+laid-known d e f = ⊎-elim (λ o. o) (λ n. absurd (reads-unknown d .denies (ap isUnknown e ∙ f) n)) (laid-out d)
+
+pub laid-plainly : (d : List ℕ) → LaidOut d ↔ LaidPlainly d
+unfolding isUnknown
+laid-plainly d = (λ o. to o (told d), of)
+  where
+    to : LaidOut d → {e : Entity} → Told d e → LaidPlainly d
+    to o (unknown n) = absurd (n o)
+    to o (input k l) = plain.input k l
+    to o (output k l) = plain.output k l
+    to o (mixer k p l) = plain.mixer k p l
+    to o (selector k p l) = plain.selector k p l
+    to o (feature k p l) = plain.feature k p l
+
+    of : LaidPlainly d → LaidOut d
+    of (plain.input k l) = laid-known d (entity-input d k l) refl
+    of (plain.output k l) = laid-known d (entity-output d k l) refl
+    of (plain.mixer k p l) = laid-known d (entity-mixer d k p l) refl
+    of (plain.selector k p l) = laid-known d (entity-selector d k p l) refl
+    of (plain.feature k p l) = laid-known d (entity-feature d k p l) refl
+
 module _ (cl : ℕ → Cluster) (d : List ℕ) where
   abbrev out : Cluster
   out = cl (ownId d)
 
-  -- what the entity x gives out and keeps
-  abbrev KeptAs : Entity → Type 0
-  KeptAs x = (out ≡ giveOut x (map cl (idsBy d x))) × Keeps x (length d) (map cl (idsBy d x))
+  -- what enters the entity x
+  abbrev entered : Entity → List Cluster
+  entered x = map cl (idsBy d x)
 
   pins-first : Pins (byte d 4) → 5 < length d → pinIds d ≡ byte d 5 ∷ take (byte d 4 - 1) (drop 6 d)
   pins-first q h =
@@ -129,10 +159,11 @@ module _ (cl : ℕ → Cluster) (d : List ℕ) where
     number-same : (f : Cluster → ℕ) → ((x : ℕ) → x ∈ pinIds d → f (cl x) ≡ f (cl (byte d 5))) → AllSame (map f cs)
     number-same f h = all-first cl f (pinIds d) (λ x m. h x m ∙ sym (first-number f))
 
-    to-selected : out ≡ named (firstOf cs) (namesEach cs) → audio.Alike cs → Selected cl d
+    to-selected : out ≡ named (firstOf cs) (namesEach cs) → Selected cl d
     unfolding named
-    to-selected given (a, b) = record {
-      alike = λ x m. (same-number channelsOf a x m ∙ sym (ap channelsOf g), same-number locationsOf b x m ∙ sym (ap locationsOf g));
+    to-selected given = record {
+      first-channels = ap channelsOf g;
+      first-locations = ap locationsOf g;
       one-name = λ h. ap namesOf g ∙ audio.one-name (cl (byte d 5)) (namesEach cs) (number-same namesOf (λ x m. h x (byte d 5) m first-in));
       other-names = λ x y m n f. ap namesOf g ∙ audio.other-names (cl (byte d 5)) (namesEach cs) (λ h. f (same-number namesOf h x m ∙ sym (same-number namesOf h y n)));
     }
@@ -141,13 +172,6 @@ module _ (cl : ℕ → Cluster) (d : List ℕ) where
         g = given ∙ ap (λ (k : Cluster). named k (namesEach cs)) first-cluster
 
     module _ (s : Selected cl d) where
-      -- c and bitmap are pin 1's, and all pins'
-      channels-first : channelsOf out ≡ channelsOf (cl (byte d 5))
-      channels-first = sym (s .alike (byte d 5) first-in .0)
-
-      locations-first : locationsOf out ≡ locationsOf (cl (byte d 5))
-      locations-first = sym (s .alike (byte d 5) first-in .1)
-
       -- where not all indices are one, some pin's is not pin 1's
       names-differ : (AllSame (namesEach cs) → ⊥) → namesOf out ≡ 0
       names-differ n =
@@ -158,46 +182,153 @@ module _ (cl : ℕ → Cluster) (d : List ℕ) where
       name-given (inl h) = s .one-name (λ x y m n. same-number namesOf h x m ∙ sym (same-number namesOf h y n)) ∙ sym (audio.one-name (cl (byte d 5)) (namesEach cs) h)
       name-given (inr n) = names-differ n ∙ sym (audio.other-names (cl (byte d 5)) (namesEach cs) n)
 
-      given-named : out ≡ named (firstOf cs) (namesEach cs)
+      of-selected : out ≡ named (firstOf cs) (namesEach cs)
       unfolding named
-      given-named = rw (first-cluster, channels-first, locations-first, name-given (decided _ (reads-all-same (namesEach cs)))) refl
+      of-selected = rw (first-cluster, s .first-channels, s .first-locations, name-given (decided _ (reads-all-same (namesEach cs)))) refl
 
-      of-selected : (out ≡ named (firstOf cs) (namesEach cs)) × audio.Alike cs
-      of-selected = (given-named, (number-same channelsOf (λ x m. s .alike x m .0 ∙ channels-first), number-same locationsOf (λ x m. s .alike x m .1 ∙ locations-first)))
+      -- all pins' c and bitmap are one exactly where they are what is given out
+      to-alike : audio.Alike cs → (x : ℕ) → x ∈ pinIds d → (cl x .channels ≡ out .channels) × (cl x .locations ≡ out .locations)
+      to-alike (a, b) x m = (same-number channelsOf a x m ∙ sym (s .first-channels), same-number locationsOf b x m ∙ sym (s .first-locations))
 
-  -- ---- a descriptor, by its kind
+      of-alike : ((x : ℕ) → x ∈ pinIds d → (cl x .channels ≡ out .channels) × (cl x .locations ≡ out .locations)) → audio.Alike cs
+      of-alike h = (number-same channelsOf (λ x m. h x m .0 ∙ s .first-channels), number-same locationsOf (λ x m. h x m .1 ∙ s .first-locations))
 
-  pub to-plain : {x : Entity} → Told d x → LaidOut d → KeptAs x → Plainly cl d
+  -- ---- a descriptor that has its layout, by its kind
+
+  pub gives-plainly : {x : Entity} → Told d x → LaidOut d → out ≡ giveOut x (entered x) → GivesPlainly cl d
+  unfolding giveOut pinsOf sourcesFrom firstOf
+  gives-plainly (unknown n) o g = absurd (n o)
+  gives-plainly (input k l) o g = record {
+    input = λ q. g;
+    output = λ q. absurd (omega arith);
+    mixer = λ q. absurd (omega arith);
+    selector = λ q. absurd (omega arith);
+    feature = λ q. absurd (omega arith);
+  }
+  gives-plainly (output k l) o g = record {
+    input = λ q. absurd (omega arith);
+    output = λ q. g ∙ ap (λ (ids : List ℕ). firstOf (map cl ids)) (one-at d 7 (omega arith));
+    mixer = λ q. absurd (omega arith);
+    selector = λ q. absurd (omega arith);
+    feature = λ q. absurd (omega arith);
+  }
+  gives-plainly (mixer k p l) o g = record {
+    input = λ q. absurd (omega arith);
+    output = λ q. absurd (omega arith);
+    mixer = λ q. g;
+    selector = λ q. absurd (omega arith);
+    feature = λ q. absurd (omega arith);
+  }
+  gives-plainly (selector k p l) o g = record {
+    input = λ q. absurd (omega arith);
+    output = λ q. absurd (omega arith);
+    mixer = λ q. absurd (omega arith);
+    selector = λ q. to-selected p l g;
+    feature = λ q. absurd (omega arith);
+  }
+  gives-plainly (feature k p l) o g = record {
+    input = λ q. absurd (omega arith);
+    output = λ q. absurd (omega arith);
+    mixer = λ q. absurd (omega arith);
+    selector = λ q. absurd (omega arith);
+    feature = λ q. g ∙ ap (λ (ids : List ℕ). firstOf (map cl ids)) (one-at d 4 (omega arith));
+  }
+
+  pub plainly-gives : {x : Entity} → Told d x → LaidOut d → GivesPlainly cl d → out ≡ giveOut x (entered x)
+  unfolding giveOut pinsOf sourcesFrom firstOf
+  plainly-gives (unknown n) o g = absurd (n o)
+  plainly-gives (input k l) o g = g .input k
+  plainly-gives (output k l) o g = g .output k ∙ sym (ap (λ (ids : List ℕ). firstOf (map cl ids)) (one-at d 7 (omega arith)))
+  plainly-gives (mixer k p l) o g = g .mixer k
+  plainly-gives (selector k p l) o g = of-selected p l (g .selector k)
+  plainly-gives (feature k p l) o g = g .feature k ∙ sym (ap (λ (ids : List ℕ). firstOf (map cl ids)) (one-at d 4 (omega arith)))
+
+  pub keeps-plainly : {x : Entity} → Told d x → LaidOut d → out ≡ giveOut x (entered x) → Keeps x (length d) (entered x) → KeepsPlainly cl d
   unfolding giveOut Keeps pinsOf sourcesFrom firstOf
-  to-plain (unknown n) o k = absurd (n o)
-  to-plain (input k l) o (g, h) = plain.input k l g (subst ClusterKept (sym g) h)
-  to-plain (output k l) o (g, h) = plain.output k l (g ∙ ap (λ (ids : List ℕ). firstOf (map cl ids)) (one-at d 7 (omega arith)))
-  to-plain (mixer k q l) o (g, h) =
-      plain.mixer k q g (subst ClusterKept (sym g) (h .0))
-      (subst (λ (y : Cluster). length d ≡ mixerLength (byte d 4) (y .channels) (channelsIn (map cl (pinIds d)))) (sym g) (h .1))
-  to-plain (selector k q l) o (g, h) = plain.selector k q l (to-selected q l g h)
-  to-plain (feature k q l) o (g, h) =
-      plain.feature k q (g ∙ ap (λ (ids : List ℕ). firstOf (map cl ids)) (one-at d 4 (omega arith)))
-      (subst (λ (y : Cluster). length d ≡ featureLength (y .channels) (byte d 5)) (sym g) h)
+  keeps-plainly (unknown n) o g h = absurd (n o)
+  keeps-plainly (input k l) o g h = record {
+    input = λ q. subst ClusterKept (sym g) h;
+    mixer = λ q. absurd (omega arith);
+    selector = λ q. absurd (omega arith);
+    feature = λ q. absurd (omega arith);
+  }
+  keeps-plainly (output k l) o g h = record {
+    input = λ q. absurd (omega arith);
+    mixer = λ q. absurd (omega arith);
+    selector = λ q. absurd (omega arith);
+    feature = λ q. absurd (omega arith);
+  }
+  keeps-plainly (mixer k p l) o g h = record {
+    input = λ q. absurd (omega arith);
+    mixer = λ q. (subst ClusterKept (sym g) (h .0), subst (λ (y : Cluster). length d ≡ mixerLength (byte d 4) (y .channels) (channelsIn (map cl (pinIds d)))) (sym g) (h .1));
+    selector = λ q. absurd (omega arith);
+    feature = λ q. absurd (omega arith);
+  }
+  keeps-plainly (selector k p l) o g h = record {
+    input = λ q. absurd (omega arith);
+    mixer = λ q. absurd (omega arith);
+    selector = λ q. to-alike p l (to-selected p l g) h;
+    feature = λ q. absurd (omega arith);
+  }
+  keeps-plainly (feature k p l) o g h = record {
+    input = λ q. absurd (omega arith);
+    mixer = λ q. absurd (omega arith);
+    selector = λ q. absurd (omega arith);
+    feature = λ q. subst (λ (y : Cluster). length d ≡ featureLength (y .channels) (byte d 5)) (sym g) h;
+  }
 
-  laid-known : {x : Entity} → entityOf d ≡ x → isUnknown x ≡ false → LaidOut d
-  laid-known e f = ⊎-elim (λ o. o) (λ n. absurd (reads-unknown d .denies (ap isUnknown e ∙ f) n)) (laid-out d)
+  pub plainly-keeps : {x : Entity} → Told d x → LaidOut d → out ≡ giveOut x (entered x) → KeepsPlainly cl d → Keeps x (length d) (entered x)
+  unfolding giveOut Keeps pinsOf sourcesFrom firstOf
+  plainly-keeps (unknown n) o g h = absurd (n o)
+  plainly-keeps (input k l) o g h = subst ClusterKept g (h .input k)
+  plainly-keeps (output k l) o g h = tt
+  plainly-keeps (mixer k p l) o g h = (subst ClusterKept g (h .mixer k .0), subst (λ (y : Cluster). length d ≡ mixerLength (byte d 4) (y .channels) (channelsIn (map cl (pinIds d)))) g (h .mixer k .1))
+  plainly-keeps (selector k p l) o g h = of-alike p l (to-selected p l g) (h .selector k)
+  plainly-keeps (feature k p l) o g h = subst (λ (y : Cluster). length d ≡ featureLength (y .channels) (byte d 5)) g (h .feature k)
 
-  kept-as : {x : Entity} → entityOf d ≡ x → KeptAs x → KeptAs (entityOf d)
-  kept-as e k = subst KeptAs (sym e) k
+-- ---- a run whose descriptors have their layouts
 
-  pub of-plain : Plainly cl d → LaidOut d × KeptAs (entityOf d)
-  unfolding giveOut Keeps pinsOf sourcesFrom firstOf isUnknown mixerLength featureLength
-  of-plain (plain.input k l g h) = let e = entity-input d k l in (laid-known e refl, kept-as e (g, subst ClusterKept g h))
-  of-plain (plain.output k l g) = let e = entity-output d k l in (laid-known e refl, kept-as e (g ∙ sym (ap (λ (ids : List ℕ). firstOf (map cl ids)) (one-at d 7 (omega arith))), tt))
-  of-plain (plain.mixer k q g h l) =
-      let e = entity-mixer d k q (omega arith) in
-      (laid-known e refl, kept-as e (g, (subst ClusterKept g h, subst (λ (y : Cluster). length d ≡ mixerLength (byte d 4) (y .channels) (channelsIn (map cl (pinIds d)))) g l)))
-  of-plain (plain.selector k q l s) = let e = entity-selector d k q l in (laid-known e refl, kept-as e (of-selected q l s))
-  of-plain (plain.feature k q g l) =
-      let e = entity-feature d k q (omega arith) in
-      let f = ap (λ (ids : List ℕ). firstOf (map cl ids)) (one-at d 4 (omega arith)) in
-      (laid-known e refl, kept-as e (g ∙ sym f, subst (λ (y : Cluster). length d ≡ featureLength (y .channels) (byte d 5)) (g ∙ sym f) l))
+module _ (ds : List (List ℕ)) (laid : (e : List ℕ) → e ∈ ds → LaidOut e) where
+  -- rule 11, of one source ID
+  named-plainly : (x : ℕ) → (WrongSource audio ds x → ⊥) → SourceNamed ds x
+  named-plainly x n = (λ z. n (zero-source z), record { one = b .one; among = b .among; has = (b .has, λ k. n (no-output (b .one) (b .among) (b .has) (output-feeds (b .one) k))) })
+    where
+      b : Some (λ e. ownId e ≡ x) ds
+      b =
+          ⊎-elim (λ h. h) (λ none. absurd (n (unknown (λ e m q. none (record { one = e; among = m; has = q })))))
+          (decided _ (reads-any (λ e. eqb (ownId e) x) (λ e. ownId e ≡ x) (λ e. reads-eq (ownId e) x) ds))
+
+  plainly-named : Rule10 ds → (x : ℕ) → SourceNamed ds x → WrongSource audio ds x → ⊥
+  plainly-named r x (n, e) (zero-source z) = n z
+  plainly-named r x (n, e) (unknown f) = f (e .one) (e .among) (e .has .0)
+  plainly-named r x (n, e) (no-output d m q f) =
+      let same = own-one ds r (e .one) d (e .among) m (e .has .0 ∙ sym q) in
+      true≠false (sym (other-feeds (e .one) (laid (e .one) (e .among)) (e .has .1)) ∙ ap (λ (b : List ℕ). feedsOf (entityOf b)) same ∙ f)
+
+  pub sources-plainly : Rule10 ds → (d : List ℕ) → d ∈ ds → (WrongSources audio ds d → ⊥) ↔ ((x : ℕ) → SourceId d x → SourceNamed ds x)
+  sources-plainly r d m = (
+    λ n x i. named-plainly x (λ w. n (record { one = x; among = source-ids d x (laid d m) .1 i; has = w })),
+    λ h w. plainly-named r (w .one) (h (w .one) (source-ids d (w .one) (laid d m) .0 (w .among))) (w .has),
+  )
+
+  module _ (cl : ℕ → Cluster) where
+    pub all-give : GivenOut audio ds cl ↔ ((e : List ℕ) → e ∈ ds → GivesPlainly cl e)
+    all-give = (λ g e m. gives-plainly cl e (told e) (laid e m) (g e m), λ g e m. plainly-gives cl e (told e) (laid e m) (g e m))
+
+    pub fits-plainly : GivenOut audio ds cl → (d : List ℕ) → d ∈ ds → Fits audio cl d ↔ KeepsPlainly cl d
+    fits-plainly g d m = (keeps-plainly cl d (told d) (laid d m) (g d m), plainly-keeps cl d (told d) (laid d m) (g d m))
+
+  pub rule13-plainly : Rule13 audio ds ↔ KeptPlainly ds
+  rule13-plainly = (
+    λ (cl, g, h). (cl, all-give cl .0 g, λ d m. fits-plainly cl g d m .0 (h d m)),
+    λ (cl, g, h). let given = all-give cl .1 g in (cl, given, λ d m. fits-plainly cl given d m .1 (h d m)),
+  )
+
+  pub broken-plainly : (d : List ℕ) → d ∈ ds → Broken audio ds d ↔ BrokenPlainly ds d
+  broken-plainly d m = (
+    λ (cl, g, n). (cl, all-give cl .0 g, λ h. n (fits-plainly cl g d m .1 h)),
+    λ (cl, g, n). let given = all-give cl .1 g in (cl, given, λ h. n (fits-plainly cl given d m .0 h)),
+  )
 
 -- ---- a configuration as a whole
 
@@ -206,15 +337,12 @@ module _ {s : List ℕ} where
     laid : (d : List ℕ) → d ∈ runOf (t .kept) → LaidOut d
     laid = t .kept .rule9
 
-    -- rule 11, of one source ID
-    named-source : (d : List ℕ) → d ∈ runOf (t .kept) → (x : ℕ) → x ∈ sources audio d → SourceNamed (runOf (t .kept)) x
-    named-source d m x i =
-        let e = source-of (t .connected .rule11) d m x i in
-        let wrong : WrongSource audio (runOf (t .kept)) x → ⊥ = λ w. t .connected .rule11 d m (record { one = x; among = i; has = w }) in
-        (λ z. wrong (zero-source z), record { one = e .one; among = e .among; has = (e .has, λ k. wrong (no-output (e .one) (e .among) (e .has) (output-feeds (e .one) k))) })
-
     pub run-plainly : (d : List ℕ) → d ∈ runOf (t .kept) → Plainly (t .connected .cluster) d
-    run-plainly d m = to-plain (t .connected .cluster) d (told d) (laid d m) (t .connected .given-out d m, t .connected .fits d m)
+    run-plainly d m = record {
+      laid = laid-plainly d .0 (laid d m);
+      gives = all-give (runOf (t .kept)) laid (t .connected .cluster) .0 (t .connected .given-out) d m;
+      keeps = fits-plainly (runOf (t .kept)) laid (t .connected .cluster) (t .connected .given-out) d m .0 (t .connected .fits d m);
+    }
 
     pub plain-configuration : PlainConfiguration s
     plain-configuration = record {
@@ -224,7 +352,7 @@ module _ {s : List ℕ} where
       rule7 = t .kept .rule7;
       rule8 = t .kept .rule8;
       rule10 = t .connected .rule10;
-      rule11 = λ d m x i. named-source d m x (source-ids d x (laid d m) .1 i);
+      rule11 = λ d m. sources-plainly (runOf (t .kept)) laid (t .connected .rule10) d m .0 (t .connected .rule11 d m);
       rank = t .connected .rank;
       ranked = λ d m x i. t .connected .ranked d m x (source-ids d x (laid d m) .1 i);
       cluster = t .connected .cluster;
@@ -238,26 +366,22 @@ module _ {s : List ℕ} where
     ds = p .rule6 .run
 
     laid-plain : (d : List ℕ) → d ∈ ds → LaidOut d
-    laid-plain d m = of-plain (p .cluster) d (p .plainly d m) .0
+    laid-plain d m = laid-plainly d .1 (p .plainly d m .laid)
 
-    not-wrong : (x : ℕ) → SourceNamed ds x → WrongSource audio ds x → ⊥
-    not-wrong x (n, e) (zero-source z) = n z
-    not-wrong x (n, e) (unknown f) = f (e .one) (e .among) (e .has .0)
-    not-wrong x (n, e) (no-output d m q f) =
-        let same = own-one ds (p .rule10) (e .one) d (e .among) m (e .has .0 ∙ sym q) in
-        true≠false (sym (other-feeds (e .one) (laid-plain (e .one) (e .among)) (e .has .1)) ∙ ap (λ (b : List ℕ). feedsOf (entityOf b)) same ∙ f)
+    given : GivenOut audio ds (p .cluster)
+    given = all-give ds laid-plain (p .cluster) .1 (λ d m. p .plainly d m .gives)
 
     pub configuration-plain : Configuration s
     configuration-plain = record {
       kept = record { opened = p .opened; rule5 = p .rule5; rule6 = p .rule6; rule7 = p .rule7; rule8 = p .rule8; rule9 = laid-plain };
       connected = record {
         rule10 = p .rule10;
-        rule11 = λ d m w. not-wrong (w .one) (p .rule11 d m (w .one) (source-ids d (w .one) (laid-plain d m) .0 (w .among))) (w .has);
+        rule11 = λ d m. sources-plainly ds laid-plain (p .rule10) d m .1 (p .rule11 d m);
         rank = p .rank;
         ranked = λ d m x i. p .ranked d m x (source-ids d x (laid-plain d m) .0 i);
         cluster = p .cluster;
-        given-out = λ d m. of-plain (p .cluster) d (p .plainly d m) .1 .0;
-        fits = λ d m. of-plain (p .cluster) d (p .plainly d m) .1 .1;
+        given-out = given;
+        fits = λ d m. fits-plainly ds laid-plain (p .cluster) given d m .1 (p .plainly d m .keeps);
       };
       rule14 = p .rule14;
       rule15 = p .rule15;
