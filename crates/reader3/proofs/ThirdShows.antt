@@ -6,7 +6,8 @@ use mathlib.Core.Path.{_≡_, refl, sym, ap, _∙_, subst}
 use mathlib.Core.Bool.{Bool, true, false}
 use mathlib.Core.List.{List, [], _++_}
 use mathlib.Core.Logic.{_↔_}
-use lib.ListN.{length, getD, take, drop, length-take, List·getD-eq-default}
+use lib.ListN.{length, getD, take, drop, List·getD-eq-default}
+use lib.Seq.{getD-take, getD-drop}
 use lib.Dec.{eqb}
 use native.Mathlib.Omega.{arith}
 use borrow.Author.Tests.{eq-eqb, ne-eqb, eqb-true, eqb-false}
@@ -16,12 +17,12 @@ use Rattle.ground.specs.Numbers.{byte}
 use Rattle.ground.specs.Lists.{member-at}
 use Rattle.graph.specs.Members.{_∈_}
 use Rattle.layout.specs.declared.Cluster.{Cluster}
-use Rattle.layout.specs.Layouts.{mostPins}
+use Rattle.layout.specs.FormatLaws.{stretch-length}
 use Rattle.layout.specs.Layout.{noCluster}
 use Rattle.layout3.specs.declared.Entity.{Entity}
 use Rattle.layout3.specs.Layouts.{LaidOut}
 use Rattle.layout3.specs.Facts.{factsOf}
-use Rattle.layout3.specs.LayoutLaws.{Told, told, unknown, input, output, mixer, selector, feature, clock, pins-few, sources-laid}
+use Rattle.layout3.specs.LayoutLaws.{Told, told, unknown, input, output, mixer, selector, feature, clock, pins-few, sources-within}
 use Rattle.scan.specs.PieceLaws.{cut-one}
 use Rattle.buffer.specs.Clusters.{twoBytes}
 use Rattle.buffer.specs.BufferLaws.{buffer-pieces}
@@ -39,14 +40,14 @@ use Rattle.clusters.specs.Topology.{clusters-one}
 use Rattle.clusters3.specs.Shown.{shownCluster, clustersBy}
 use Rattle.clusters3.specs.Rule13Laws.{third-shown}
 use Rattle.clusters3.specs.InBuffer.{cluster-in-buffer}
-use Rattle.records.specs.Records.{headSize, recordSize, recordFor, shownIn}
+use Rattle.records.specs.Records.{recordSize, recordFor, shownIn}
 use Rattle.records.specs.Bytes.{source-at}
 use Rattle.records.specs.Sheet.{recordsFor, Rule16, wholeSheet, shown-same, record-long, record-at}
 use Rattle.third.specs.declared.SheetAnswer.{SheetAnswer}
 use Rattle.third.specs.Judgement.{runFor, clustersShown, thirdVerdict, sheetRefused, sheetTaken, thirdAnswer, thirdSheet}
 use Rattle.reader3.specs.ThirdConfiguration.{runIn3, placeIn3, clustersIn, ThirdConfiguration}
 use Rattle.reader3.specs.ThirdRefusals.{RefusedThird}
-use Rattle.reader3.specs.ThirdRecord.{ShownKind, fedIn, ThirdRecord}
+use Rattle.reader3.specs.ThirdRecord.{ShownKind, ThirdSourcesAt, ThirdRecord}
 use Rattle.reader3.specs.ThirdRecord as shown
 use Rattle.reader3.specs.PlainConfiguration.{PlainConfiguration}
 use Rattle.reader3.specs.BothEditions.{thirdRun, thirdCluster, thirdBuffer, RefusedSheet, PlainAlike, ThirdDemand}
@@ -139,34 +140,41 @@ kind-shown d o = of (told d)
     of (feature l k i) = at k shown.feature
     of (clock l k i) = at k shown.clock
 
+-- its source IDs, where its kind has them
+sources-stand : (d : List ℕ) → LaidOut d → ThirdSourcesAt d (saidBy d .first) (saidBy d .pins)
+unfolding factsOf
+sources-stand d o = of (told d)
+  where
+    of : {e : Entity} → Told d e → ThirdSourcesAt d (factsOf e .first) (factsOf e .pins)
+    of (unknown n) = absurd (n o)
+    of (input l k i) = shown.input k
+    of (output l k i) = shown.output k
+    of (mixer l k q i) = shown.mixer k
+    of (selector l k q i) = shown.selector k
+    of (feature l k i) = shown.feature k
+    of (clock l k i) = shown.clock k
+
 module _ (ks : List (List ℕ)) (d c : List ℕ) (o : LaidOut d) where
-  fed-is : sources (third ks) d ≡ fedIn o
-  fed-is = sources-laid d o
+  ids-long : length (sources (third ks) d) ≡ saidBy d .pins
+  ids-long = stretch-length d (saidBy d .first) (saidBy d .pins) (sources-within d)
 
-  source-byte : (j : ℕ) → j < mostPins → byte (recordFor (third ks) d (shownCluster c)) (headSize + j) ≡ byte (fedIn o) j
-  source-byte j h = source-at (third ks) d (shownCluster c) j h ∙ ap (λ (l : List ℕ). byte l j) fed-is
-
-  few : length (fedIn o) ≤ mostPins
-  few =
-      let m = pins-few d in
-      let e : length (fedIn o) ≡ length (sources (third ks) d) = ap length (sym fed-is) in
-      let l : length (sources (third ks) d) ≤ saidBy d .pins = simp length-take (omega arith) in
-      omega arith
+  id-at : (j : ℕ) → j < saidBy d .pins → byte (sources (third ks) d) j ≡ byte d (saidBy d .first + j)
+  id-at j h = getD-take (saidBy d .pins) (drop (saidBy d .first) d) j 0 h ∙ getD-drop (saidBy d .first) d j 0
 
   bytes-told : ThirdRecord d c (recordFor (third ks) d (shownCluster c))
   unfolding recordFor
   bytes-told = record {
-    laid = o;
     long = record-long (third ks) d (shownCluster c);
     id = refl;
     kind = kind-shown d o;
     channels = refl;
     no-bitmap = (refl, refl);
     no-name = refl;
-    pins = ap length fed-is;
+    from = saidBy d .first;
+    pins = subst (ThirdSourcesAt d (saidBy d .first)) (sym ids-long) (sources-stand d o);
     spare = refl;
-    source = λ j h. source-byte j (let m = few in omega arith);
-    unused = λ j h l. source-byte j l ∙ List·getD-eq-default (fedIn o) 0 h;
+    source = λ j h. let n = ids-long in let m = pins-few d in source-at (third ks) d (shownCluster c) j (omega arith) ∙ id-at j (omega arith);
+    unused = λ j h l. source-at (third ks) d (shownCluster c) j l ∙ List·getD-eq-default (sources (third ks) d) 0 h;
   }
 
 module _ (s b : List ℕ) (t : ThirdConfiguration s b) where

@@ -1,9 +1,10 @@
--- The bytes of a record of the 3.0 edition, each said of the descriptor and of the cluster on its ID. Document 02, No. 12: "The answer is the sheet only, with
--- document 01's kind numbers, 0B and no channels for a Clock Source, and 00 for bitmap and name index".
---   ShownKind n k      ==  an entity of subtype n (001, table A-15) is shown as kind k
---   fedIn l            ==  the source IDs that the fields of a layout hold
---   ThirdRecord d c r  ==  the bytes r are the record of the descriptor d with the cluster c: "ID; kind ..; c; bitmap (2); name index; pins; 00", then
---                         twenty-four source IDs, unused ones 00; pins and sources are those of the fields that the layout gives d
+-- The bytes of a record of the 3.0 edition, each said of the descriptor's bytes and of the cluster on its ID. Document 02, No. 12: "The answer is the sheet only,
+-- with document 01's kind numbers, 0B and no channels for a Clock Source, and 00 for bitmap and name index".
+--   ShownKind n k         ==  an entity of subtype n (001, table A-15) is shown as kind k
+--   ThirdSourcesAt d k p  ==  d has p source IDs, one behind another from offset k on, as its kind has them: an Input Terminal and a Clock Source none; an Output
+--                             Terminal one, at 7; a Mixer and a Selector p at 4, sources from 5; a Feature Unit one, at 4
+--   ThirdRecord d c r     ==  the bytes r are the record of the descriptor d with the cluster c: "ID; kind ..; c; bitmap (2); name index; pins; 00", then
+--                             twenty-four source IDs, unused ones 00
 use Prim.Native.Nat.{ℕ, _+_, _≤_, _<_}
 use mathlib.Core.Path.{_≡_}
 use mathlib.Core.List.{List}
@@ -11,8 +12,6 @@ use lib.ListN.{length}
 use Rattle.ground.specs.Numbers.{byte}
 use Rattle.layout.specs.Layouts.{mostPins}
 use Rattle.buffer.specs.Clusters.{channelsOf}
-use Rattle.layout.specs.Format.{fed}
-use Rattle.layout3.specs.Layouts.{formatOf, LaidOut}
 use Rattle.edition.specs.Edition.{ownId}
 use Rattle.records.specs.Records.{headSize, recordSize}
 
@@ -24,18 +23,23 @@ pub data ShownKind : ℕ → ℕ → Type 0 where
   feature : ShownKind 7 6
   clock : ShownKind 0x0B 0x0B
 
-abbrev pub fedIn : {d : List ℕ} → LaidOut d → List ℕ
-fedIn l = fed (formatOf (l .kind)) (l .value)
+pub data ThirdSourcesAt (d : List ℕ) : ℕ → ℕ → Type 0 where
+  input : byte d 2 ≡ 2 → ThirdSourcesAt d 0 0
+  output : byte d 2 ≡ 3 → ThirdSourcesAt d 7 1
+  mixer : byte d 2 ≡ 5 → ThirdSourcesAt d 5 (byte d 4)
+  selector : byte d 2 ≡ 6 → ThirdSourcesAt d 5 (byte d 4)
+  feature : byte d 2 ≡ 7 → ThirdSourcesAt d 4 1
+  clock : byte d 2 ≡ 0x0B → ThirdSourcesAt d 0 0
 
 pub record ThirdRecord (d c r : List ℕ) : Type 0 where
-  pub laid : LaidOut d
   pub long : length r ≡ recordSize
   pub id : byte r 0 ≡ ownId d
   pub kind : ShownKind (byte d 2) (byte r 1)
   pub channels : byte r 2 ≡ channelsOf c
   pub no-bitmap : (byte r 3 ≡ 0) × (byte r 4 ≡ 0)
   pub no-name : byte r 5 ≡ 0
-  pub pins : byte r 6 ≡ length (fedIn laid)
+  pub from : ℕ
+  pub pins : ThirdSourcesAt d from (byte r 6)
   pub spare : byte r 7 ≡ 0
-  pub source : (j : ℕ) → j < length (fedIn laid) → byte r (headSize + j) ≡ byte (fedIn laid) j
-  pub unused : (j : ℕ) → length (fedIn laid) ≤ j → j < mostPins → byte r (headSize + j) ≡ 0
+  pub source : (j : ℕ) → j < byte r 6 → byte r (headSize + j) ≡ byte d (from + j)
+  pub unused : (j : ℕ) → byte r 6 ≤ j → j < mostPins → byte r (headSize + j) ≡ 0
