@@ -25,7 +25,7 @@ use Rattle.request.specs.declared.State.{State}
 use Rattle.request.specs.declared.Answer.{Answer}
 use Rattle.deed.specs.Reply.{laid}
 use Rattle.request.specs.Outcome.{answerOf}
-use Rattle.request.specs.Plugged.{stateOf}
+use Rattle.plug.specs.Plugged.{stateOf}
 use Rattle.runs.specs.Runs.{Step, after, Wired}
 use Rattle.runs.specs.Runs.Step.{load, request}
 use Rattle.runs.proofs.Alone.{run-sound}

@@ -31,9 +31,9 @@ use Rattle.sound.specs.Fresh.{Fresh}
 use Rattle.setup.specs.Setup.{AsksSet, AsksGet, WellAsked}
 use Rattle.answers.specs.Held.{valueIn}
 use Rattle.request.specs.declared.State.{State}
-use Rattle.request.specs.declared.Plugged.{Plugged}
+use Rattle.plug.specs.declared.Plugged.{Plugged}
 use Rattle.request.specs.Outcome.{numberOf, bytesOf}
-use Rattle.request.specs.Plugged.{PluggedIn}
+use Rattle.plug.specs.Plugged.{PluggedIn}
 use Rattle.runs.specs.Runs.{namedBy, addressedBy, Step, stepOf, accepted, next, after, rangesIn, numbersIn, told, Wired}
 use Rattle.runs.specs.Runs.Step.{load, request}
 use Rattle.runs.specs.RequestRows.{Names, Addressed, stepRows}

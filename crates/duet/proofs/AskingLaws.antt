@@ -37,7 +37,7 @@ use Rattle.duet.specs.declared.Duet.{Duet}
 use Rattle.duet.specs.declared.Answer.{Answer}
 use Rattle.duet.specs.Box.{socketOf, withSocket, soundBeside, soundDuet}
 use Rattle.duet.specs.BoxLaws.{kept-socket, unsound-beside, sound-empty, own-or-rest}
-use Rattle.duet.specs.Plugging.{refusal}
+use Rattle.duet.specs.Coming.{refusal}
 use Rattle.duet.specs.Asking.{handedTo, loadedOn, loadIn, askedOn, requestOn, requestIn, answerIn, answerFor, answeredBy, HandedDown, AnsweredIn}
 
 pub refused-answer : (b : Duet) (k : Side) (n : ℕ) (o : Outcome) → o ≡ refused n → refusal b n ≡ answerIn b k o

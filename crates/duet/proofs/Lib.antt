@@ -1,3 +1,2 @@
 mod AskingLaws
-mod Drafted
-mod Admitting
+mod Coming

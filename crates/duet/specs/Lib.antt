@@ -1,6 +1,4 @@
 pub mod Box
-pub mod Plugging
+pub mod Coming
 pub mod Asking
-pub mod Drafts
 pub mod BoxLaws
-pub mod PluggingLaws

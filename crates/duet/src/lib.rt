@@ -1,24 +1,14 @@
-// The duet box (document 02, No. 11): two microphones behind one laptop. It stands on the request layer's promises: a plug-in, a load and a request
-// are handed down to one side's state; of a table only its count is read, and 30's test asked. What it promises: for every box whatever, every side, configuration, sheet,
-// load, setup, data and reply, exactly what specs/Plugging.antt and specs/Asking.antt say; a refusal leaves box, sheet and reply as they stood.
+// The duet box (document 02, No. 11): two microphones behind one laptop. It stands on the request layer's promises: a load and a request are handed
+// down to one side's state; of a table only its count is read, and 30's test asked. How a microphone comes in is crate `admission`. What it promises:
+// for every box whatever, every side, load, setup, data and reply, exactly what specs/Coming.antt and specs/Asking.antt say; a refusal leaves box and
+// reply as they stood.
 ghost use mathlib.Core.Path.{_≡_};
-ghost use mathlib.Core.List.{_++_};
-ghost use Prim.Native.Nat.{_*_, _≤_, min};
-ghost use lib.ListN.{length, take, drop};
-ghost use Rattle.records.specs.Records.{recordSize};
-ghost use Rattle.topology.specs.Reading.{readingOf};
-ghost use Rattle.records.specs.Sheet.{wholeSheet};
-ghost use Rattle.duet.specs.Drafts.{Drafted};
 ghost use Rattle.duet.specs.Box.{otherSide, socketOf, withSocket, emptySocket, emptyDuet, controlsOn, soundSocket, soundBeside, soundDuet};
-ghost use Rattle.duet.specs.Plugging.{admittedBy, welcomed, Settled, turnedAway, AdmittedIn, PlugsIn, refusal, unplugAnswer};
+ghost use Rattle.duet.specs.Coming.{vacancyOf, occupied, refusal, unplugAnswer};
 ghost use Rattle.duet.specs.Asking.{loadIn, answerIn, answeredBy, HandedDown, AnsweredIn};
-use request::Plugged;
 use request::State;
 use sides::Addressee;
 use sides::Side;
-
-// The bytes of a sheet that holds the records of every configuration.
-const SHEET: usize = entities::MOST_ENTITIES * records::RECORD;
 
 // One side: whether a microphone is plugged in, and the request layer's state of it.
 pub struct Socket {
@@ -32,15 +22,10 @@ pub struct Duet {
     pub right: Socket,
 }
 
-// What a plug-in comes to: 0 or the number of the refusal, with its place where it is the reader's; of an acceptance the microphone's own
-// AudioControl number and the counts of its entities and controls; and the box after it.
-pub struct Admitted {
+// What a microphone finds that is to come to a side: 0, or the number that refuses it, 30 or 61; and how many controls the other side has.
+pub struct Vacancy {
     pub number: u8,
-    pub place: usize,
-    pub control: u8,
-    pub entities: usize,
-    pub controls: usize,
-    pub duet: Duet,
+    pub met: usize,
 }
 
 // What an unplugging, a load or a request comes to: 0 or the number of the refusal, how many bytes of the reply were written, and the box.
@@ -168,6 +153,32 @@ fn refused(duet: Duet, number: u8) -> Answer
     }
 }
 
+// Whether a microphone may come to a side.
+pub fn vacancy_on(duet: Duet, side: Side) -> Vacancy
+    ensures { λ r. ⌜ r ≡ vacancyOf duet side ⌝ }
+{
+    let met = controls_on(socket_of(duet, other(side)));
+    if !sound_duet(duet) {
+        return Vacancy { number: 30, met };
+    }
+    let socket = socket_of(duet, side);
+    if socket.plugged {
+        return Vacancy { number: 61, met };
+    }
+    Vacancy { number: 0, met }
+}
+
+// The box with a microphone's state on a side.
+pub fn occupy(duet: Duet, side: Side, state: State) -> Duet
+    ensures { λ r. ⌜ r ≡ occupied duet side state ⌝ }
+{
+    let socket = Socket {
+        plugged: true,
+        state,
+    };
+    with_socket(duet, side, socket)
+}
+
 // The microphone of a side is taken out; its room is free.
 pub fn unplug(duet: Duet, side: Side) -> Answer
     ensures { λ r. ⌜ r ≡ unplugAnswer duet side ⌝ }
@@ -190,15 +201,10 @@ pub fn unplug(duet: Duet, side: Side) -> Answer
 fn answered(duet: Duet, side: Side, answer: request::Answer) -> Answer
     ensures { λ r. ⌜ r ≡ answeredBy duet side answer ⌝ }
 {
-    let state = answer.state;
-    let socket = Socket {
-        plugged: true,
-        state,
-    };
     Answer {
         number: answer.number,
         written: answer.written,
-        duet: with_socket(duet, side, socket),
+        duet: occupy(duet, side, answer.state),
     }
 }
 
@@ -261,125 +267,4 @@ pub fn request(duet: Duet, setup: &[u8], data: &[u8], reply: &mut [u8]) -> Answe
         }
         Addressee::At(side) => hand_down(duet, side, setup, data, reply),
     }
-}
-
-// A plug-in that is refused leaves the box as it stood.
-fn turned_away(duet: Duet, number: u8, place: usize) -> Admitted
-    ensures { λ r. ⌜ r ≡ turnedAway duet number place ⌝ }
-{
-    Admitted {
-        number,
-        place,
-        control: 0,
-        entities: 0,
-        controls: 0,
-        duet,
-    }
-}
-
-// How many bytes of a draft a sheet of that many stands for.
-fn draft_room(bytes: usize) -> usize
-    ensures { λ r. ⌜ r ≡ min bytes wholeSheet ⌝ }
-{
-    if bytes < SHEET { bytes } else { SHEET }
-}
-
-// The first n bytes written to the front of the sheet.
-fn copy_front(from: &[u8], n: usize, sheet: &mut [u8])
-    requires { ⌜ n ≤ length (now from) ⌝ }
-    requires { ⌜ n ≤ length (now sheet) ⌝ }
-    ensures { λ _. ⌜ now (sheet .exit) ≡ take n (now (from .entry)) ++ drop n (now (sheet .entry)) ⌝ }
-{
-    let mut i: usize = 0;
-    while i < n {
-        sheet[i] = from[i];
-        i += 1;
-    }
-}
-
-// So many records of a draft written to the front of the sheet.
-fn copy_records(draft: &[u8], count: usize, sheet: &mut [u8])
-    requires { ⌜ count * recordSize ≤ length (now draft) ⌝ }
-    requires { ⌜ count * recordSize ≤ length (now sheet) ⌝ }
-    ensures { λ _. ⌜ now (sheet .exit) ≡ take (count * recordSize) (now (draft .entry)) ++ drop (count * recordSize) (now (sheet .entry)) ⌝ }
-{
-    copy_front(draft, count * records::RECORD, sheet);
-}
-
-// A microphone read with a draft lent in the place of a sheet of that many bytes.
-fn read_draft(config: &[u8], bytes: usize, draft: &mut [u8]) -> Plugged
-    requires { ⌜ length (now draft) ≡ wholeSheet ⌝ }
-    ensures { λ r. ⌜ Drafted (now (config .entry)) (min bytes wholeSheet) (now (draft .entry)) r (now (draft .exit)) ⌝ }
-{
-    let room = draft_room(bytes);
-    request::plug_in(config, &mut draft[..room])
-}
-
-// The answer where a microphone is let in.
-fn welcome(duet: Duet, side: Side, plugged: Plugged) -> Admitted
-    ensures { λ r. ⌜ r ≡ welcomed duet side plugged ⌝ }
-{
-    let reading = plugged.reading;
-    let state = plugged.state;
-    let socket = Socket {
-        plugged: true,
-        state,
-    };
-    Admitted {
-        number: 0,
-        place: 0,
-        control: reading.control,
-        entities: reading.entities,
-        controls: reading.controls,
-        duet: with_socket(duet, side, socket),
-    }
-}
-
-// A microphone is let in: its records are written to the sheet, its state to the side's socket.
-fn settle(duet: Duet, side: Side, plugged: Plugged, draft: &[u8], sheet: &mut [u8]) -> Admitted
-    requires { ⌜ plugged .reading .entities * recordSize ≤ length (now draft) ⌝ }
-    requires { ⌜ plugged .reading .entities * recordSize ≤ length (now sheet) ⌝ }
-    ensures { λ r. ⌜ Settled duet side plugged (now (draft .entry)) (now (sheet .entry)) r (now (sheet .exit)) ⌝ }
-{
-    let reading = plugged.reading;
-    copy_records(draft, reading.entities, sheet);
-    welcome(duet, side, plugged)
-}
-
-// A microphone on a side that is free, where the other has so many controls. It is read with a draft lent, and the sheet is written from there:
-// 62 comes behind the reader's refusals and must leave the sheet.
-fn admit(
-    duet: Duet,
-    side: Side,
-    met: usize,
-    config: &[u8],
-    draft: &mut [u8],
-    sheet: &mut [u8],
-) -> Admitted
-    requires { ⌜ length (now draft) ≡ wholeSheet ⌝ }
-    ensures { λ r. ⌜ AdmittedIn duet side (admittedBy met (readingOf (now (config .entry)) (length (now (sheet .entry))))) (now (config .entry)) (now (sheet .entry)) r (now (sheet .exit)) ⌝ }
-{
-    let plugged = read_draft(config, sheet.len(), draft);
-    let reading = plugged.reading;
-    let refusal = sides::judge_reading(reading.number, reading.place, reading.controls, met);
-    if refusal.number != 0 {
-        return turned_away(duet, refusal.number, refusal.place);
-    }
-    settle(duet, side, plugged, draft, sheet)
-}
-
-// Plugs a microphone in on a side.
-pub fn plug_in(duet: Duet, side: Side, config: &[u8], sheet: &mut [u8]) -> Admitted
-    ensures { λ r. ⌜ PlugsIn duet side (now (config .entry)) (now (sheet .entry)) r (now (sheet .exit)) ⌝ }
-{
-    if !sound_duet(duet) {
-        return turned_away(duet, 30, 0);
-    }
-    let socket = socket_of(duet, side);
-    if socket.plugged {
-        return turned_away(duet, 61, 0);
-    }
-    let met = controls_on(socket_of(duet, other(side)));
-    let mut draft = [0u8; SHEET];
-    admit(duet, side, met, config, &mut draft, sheet)
 }

@@ -112,7 +112,7 @@ fn side_of(mark: u8) -> Side {
 
 fn plug_in(duet: Duet, side: Side, config: &[u8]) -> Next {
     let mut sheet = [0u8; SHEET];
-    let admitted = duet::plug_in(duet, side, config, &mut sheet);
+    let admitted = admission::plug_in(duet, side, config, &mut sheet);
     if admitted.number == 0 {
         say(b"accepted");
         say_next(admitted.control as u64);

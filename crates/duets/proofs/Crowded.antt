@@ -59,14 +59,14 @@ use Rattle.topology.specs.Reading.{restJudged, surveyJudged, judgedThen, roomJu
 use Rattle.ground.specs.Pick.{yes, no}
 use Rattle.topology.specs.declared.Reading.{Reading}
 use Rattle.reader.proofs.Shows.{controls-counted}
-use Rattle.request.specs.Plugged.{stateOf}
+use Rattle.plug.specs.Plugged.{stateOf}
 use Rattle.sides.specs.declared.Side.the-variants.{Left, Right}
 use Rattle.sides.specs.Sides.{mostTogether}
 use Rattle.duet.specs.declared.Duet.{Duet}
 use Rattle.duet.specs.Box.{emptySocket, emptyDuet, controlsOn}
-use Rattle.duet.specs.PluggingLaws.{plug-cases}
-use Rattle.duet.specs.Plugging.{Plugging, plugOf, duetAfter}
-use Rattle.duet.specs.Plugging.Plugging.{refused, let-in}
+use Rattle.admission.specs.PluggingLaws.{plug-cases}
+use Rattle.admission.specs.Plugging.{Plugging, plugOf, duetAfter}
+use Rattle.admission.specs.Plugging.Plugging.{refused, let-in}
 use Rattle.duets.specs.Steps.{Step, Seen, seenPlug, boxNext, seenBy, stepsOf, sentBy}
 use Rattle.duets.specs.Steps.Step.{plug}
 use Rattle.duets.specs.Isolation.{CountTold}

@@ -36,9 +36,10 @@ use Rattle.duet.specs.declared.Socket.{Socket}
 use Rattle.duet.specs.declared.Duet.{Duet}
 use Rattle.duet.specs.Box.{otherSide, socketOf, withSocket, emptySocket, controlsOn, together, soundSocket, soundDuet}
 use Rattle.duet.specs.BoxLaws.{kept-socket}
-use Rattle.duet.specs.PluggingLaws.{plug-cases}
-use Rattle.duet.specs.Plugging.{Plugging, plugOf, duetAfter, refusal, unplugAnswer}
-use Rattle.duet.specs.Plugging.Plugging.{refused, let-in}
+use Rattle.admission.specs.PluggingLaws.{plug-cases}
+use Rattle.duet.specs.Coming.{refusal, unplugAnswer}
+use Rattle.admission.specs.Plugging.{Plugging, plugOf, duetAfter}
+use Rattle.admission.specs.Plugging.Plugging.{refused, let-in}
 use Rattle.duet.specs.Asking.{handedTo, askedOn, requestIn, loadedOn, loadIn, boxAfter, answerIn, answerFor}
 use Rattle.duets.specs.Steps.{Step, presentedFor, seenPlug, seenIn, boxNext}
 use Rattle.duets.specs.Steps.Step.{plug, unplug, load, request}

@@ -20,7 +20,7 @@ use Rattle.topology.specs.Reading.{readingOf}
 use Rattle.reader.proofs.Tables.{reader-table}
 use Rattle.request.specs.declared.State.{State}
 use Rattle.request.specs.Outcome.{Outcome}
-use Rattle.request.specs.Plugged.{stateOf}
+use Rattle.plug.specs.Plugged.{stateOf}
 use Rattle.request.specs.Request.{requestOf}
 use Rattle.runs.specs.Runs as runs
 use Rattle.runs.specs.Runs.Step.{load as single-load, request as single-request}
@@ -35,8 +35,9 @@ use Rattle.duet.specs.declared.Socket.{Socket}
 use Rattle.duet.specs.declared.Duet.{Duet}
 use Rattle.duet.specs.Box.{socketOf, withSocket, emptySocket, emptyDuet}
 use Rattle.duet.specs.BoxLaws.{own-socket}
-use Rattle.duet.specs.Plugging.{Plugging, plugOf, duetAfter, refusal, unplugAnswer}
-use Rattle.duet.specs.Plugging.Plugging.{refused, let-in}
+use Rattle.duet.specs.Coming.{refusal, unplugAnswer}
+use Rattle.admission.specs.Plugging.{Plugging, plugOf, duetAfter}
+use Rattle.admission.specs.Plugging.Plugging.{refused, let-in}
 use Rattle.duet.specs.Asking.{loadIn, requestIn, socketAfter, boxAfter, answerIn, answerFor}
 use Rattle.duets.specs.DuetRuns.Life.{none, since}
 use Rattle.duets.specs.Steps.{Step, isFor, isOf, boxNext, boxAfterRun, sentBy, Carried}

@@ -17,7 +17,7 @@ use Rattle.table.specs.Keys.{Key}
 use Rattle.setup.specs.Setup.{askedOf}
 use Rattle.topology.specs.Reading.{readingOf}
 use Rattle.request.specs.Outcome.{Outcome}
-use Rattle.request.specs.Plugged.{stateOf}
+use Rattle.plug.specs.Plugged.{stateOf}
 use Rattle.sides.specs.declared.Side.{Side}
 use Rattle.sides.specs.declared.Side.the-variants.{Left, Right}
 use Rattle.sides.specs.declared.Addressee.{Addressee}
@@ -28,8 +28,9 @@ use Rattle.duet.specs.declared.Duet.{Duet}
 use Rattle.duet.specs.declared.Answer.{Answer}
 use Rattle.duet.specs.Box.{otherSide, socketOf, withSocket, emptySocket, emptyDuet, controlsOn}
 use Rattle.duet.specs.BoxLaws.{own-socket}
-use Rattle.duet.specs.Plugging.{Plugging, admittedBy, plugOf, duetAfter, refusal, unplugAnswer}
-use Rattle.duet.specs.Plugging.Plugging.{refused, let-in}
+use Rattle.duet.specs.Coming.{refusal, unplugAnswer}
+use Rattle.admission.specs.Plugging.{Plugging, admittedBy, plugOf, duetAfter}
+use Rattle.admission.specs.Plugging.Plugging.{refused, let-in}
 use Rattle.duet.specs.Asking.{handedTo, askedOn, requestIn, loadedOn, loadIn, socketAfter, boxAfter, answerIn, answerFor}
 use Rattle.duets.specs.Steps.{Step, isFor, isOf, Seen, seenPlug, seenNumber, seenOutcome, seenIn, boxNext, boxAfterRun, seenBy, stepsOf, metAt, metBy, Carried}
 use Rattle.duets.specs.Steps.Step.{plug, unplug, load, request}

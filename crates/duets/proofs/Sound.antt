@@ -27,7 +27,7 @@ use Rattle.reader.proofs.Shows.{controls-counted}
 use Rattle.request.specs.declared.State.{State}
 use Rattle.request.specs.Outcome.{Outcome}
 use Rattle.request.specs.Outcome.Outcome.{refused as refuses}
-use Rattle.request.specs.Plugged.{stateOf}
+use Rattle.plug.specs.Plugged.{stateOf}
 use Rattle.request.specs.Load.{loadOf}
 use Rattle.request.specs.Request.{requestOf}
 use Rattle.runs.specs.Runs as runs
@@ -42,9 +42,10 @@ use Rattle.duet.specs.declared.Socket.{Socket}
 use Rattle.duet.specs.declared.Duet.{Duet}
 use Rattle.duet.specs.Box.{otherSide, socketOf, withSocket, emptySocket, emptyDuet, controlsOn, soundSocket, soundBeside, soundDuet}
 use Rattle.duet.specs.BoxLaws.{sound-split, kept-socket}
-use Rattle.duet.specs.PluggingLaws.{plug-cases}
-use Rattle.duet.specs.Plugging.{Plugging, plugOf, duetAfter, refusal, unplugAnswer}
-use Rattle.duet.specs.Plugging.Plugging.{refused, let-in}
+use Rattle.admission.specs.PluggingLaws.{plug-cases}
+use Rattle.duet.specs.Coming.{refusal, unplugAnswer}
+use Rattle.admission.specs.Plugging.{Plugging, plugOf, duetAfter}
+use Rattle.admission.specs.Plugging.Plugging.{refused, let-in}
 use Rattle.duet.specs.Asking.{handedTo, askedOn, requestIn, loadedOn, loadIn, boxAfter, answerIn, answerFor}
 use Rattle.duets.specs.Steps.{Step, sameSide, isFor, isOf, boxNext, boxAfterRun, sentBy, Carried}
 use Rattle.duets.specs.Steps.Step.{plug, unplug, load, request}

@@ -16,11 +16,12 @@ use Rattle.sides.specs.declared.Addressee.{Addressee}
 use Rattle.sides.specs.declared.Addressee.the-variants.{Nobody, At}
 use Rattle.sides.specs.Sides.{addresseeOf}
 use Rattle.duet.specs.declared.Duet.{Duet}
-use Rattle.duet.specs.declared.Admitted.{Admitted}
+use Rattle.admission.specs.declared.Admitted.{Admitted}
 use Rattle.duet.specs.declared.Answer.{Answer}
 use Rattle.duet.specs.Box.{socketOf, withSocket, emptySocket, soundDuet}
-use Rattle.duet.specs.Plugging.{Plugging, plugOf, duetAfter, plugAnswer, sheetAfter, PlugsIn, refusal, unplugAnswer}
-use Rattle.duet.specs.Plugging.Plugging.{refused, let-in}
+use Rattle.duet.specs.Coming.{refusal, unplugAnswer}
+use Rattle.admission.specs.Plugging.{Plugging, plugOf, duetAfter, plugAnswer, sheetAfter, PlugsIn}
+use Rattle.admission.specs.Plugging.Plugging.{refused, let-in}
 use Rattle.duet.specs.Asking.{loadIn, requestIn, answerIn, answerFor, AnsweredIn}
 use Rattle.duets.specs.Steps.{seenPlug, seenOutcome, seenIn, boxNext}
 use Rattle.duets.specs.Steps.Step.{plug, unplug, load, request}

@@ -31,8 +31,9 @@ use Rattle.sides.specs.declared.Side.{Side}
 use Rattle.sides.specs.Sides.{mostTogether, ownSetup}
 use Rattle.duet.specs.declared.Duet.{Duet}
 use Rattle.duet.specs.Box.{otherSide, socketOf, controlsOn, together}
-use Rattle.duet.specs.Plugging.{Plugging, plugOf, unplugAnswer}
-use Rattle.duet.specs.Plugging.Plugging.{refused, let-in}
+use Rattle.duet.specs.Coming.{unplugAnswer}
+use Rattle.admission.specs.Plugging.{Plugging, plugOf}
+use Rattle.admission.specs.Plugging.Plugging.{refused, let-in}
 use Rattle.duet.specs.Asking.{loadIn, requestIn}
 use Rattle.duets.specs.Steps.{Step, presentedFor, seenIn, boxNext}
 use Rattle.duets.specs.Steps.Step.{plug, unplug, load, request}

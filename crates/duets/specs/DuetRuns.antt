@@ -25,7 +25,7 @@ use Rattle.setting.specs.declared.Range.{Range}
 use Rattle.setup.specs.Setup.{WellAsked}
 use Rattle.topology.specs.Reading.{readingOf}
 use Rattle.request.specs.declared.State.{State}
-use Rattle.request.specs.Plugged.{stateOf}
+use Rattle.plug.specs.Plugged.{stateOf}
 use Rattle.request.specs.Load.{loadOf}
 use Rattle.request.specs.Request.{requestOf}
 use Rattle.runs.specs.Runs as runs
@@ -36,8 +36,9 @@ use Rattle.sides.specs.Sides.{ownSetup}
 use Rattle.duet.specs.declared.Socket.{Socket}
 use Rattle.duet.specs.declared.Duet.{Duet}
 use Rattle.duet.specs.Box.{socketOf, emptyDuet}
-use Rattle.duet.specs.Plugging.{Plugging, plugOf, unplugAnswer}
-use Rattle.duet.specs.Plugging.Plugging.{refused, let-in}
+use Rattle.duet.specs.Coming.{unplugAnswer}
+use Rattle.admission.specs.Plugging.{Plugging, plugOf}
+use Rattle.admission.specs.Plugging.Plugging.{refused, let-in}
 use Rattle.duet.specs.Asking.{loadIn, requestIn}
 use Rattle.duets.specs.Steps.{Step, presentedFor, isOf, boxNext, boxAfterRun, Carried}
 use Rattle.duets.specs.Steps.Step.{plug, unplug, load, request}

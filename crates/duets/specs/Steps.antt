@@ -34,8 +34,9 @@ use Rattle.sides.specs.declared.Addressee.the-variants.{Nobody, At}
 use Rattle.sides.specs.Sides.{addresseeOf}
 use Rattle.duet.specs.declared.Duet.{Duet}
 use Rattle.duet.specs.Box.{otherSide, socketOf, controlsOn}
-use Rattle.duet.specs.Plugging.{Plugging, plugOf, duetAfter, unplugAnswer}
-use Rattle.duet.specs.Plugging.Plugging.{refused, let-in}
+use Rattle.duet.specs.Coming.{unplugAnswer}
+use Rattle.admission.specs.Plugging.{Plugging, plugOf, duetAfter}
+use Rattle.admission.specs.Plugging.Plugging.{refused, let-in}
 use Rattle.duet.specs.Asking.{loadIn, requestIn, boxAfter, answerFor}
 
 pub data Step : Type 0 where

@@ -13,9 +13,10 @@ use Rattle.table.specs.Keys.{Key}
 use Rattle.setup.specs.Setup.{WellAsked}
 use Rattle.sides.specs.declared.Side.{Side}
 use Rattle.duet.specs.declared.Duet.{Duet}
-use Rattle.duet.specs.declared.Admitted.{Admitted}
+use Rattle.admission.specs.declared.Admitted.{Admitted}
 use Rattle.duet.specs.declared.Answer.{Answer}
-use Rattle.duet.specs.Plugging.{PlugsIn, unplugAnswer}
+use Rattle.duet.specs.Coming.{unplugAnswer}
+use Rattle.admission.specs.Plugging.{PlugsIn}
 use Rattle.duet.specs.Asking.{loadIn, answerIn, AnsweredIn}
 use Rattle.duets.specs.Steps.{presentedFor, isOf, Seen, seenIn, boxNext}
 use Rattle.duets.specs.Steps.Step.{plug, unplug, load, request}

@@ -71,7 +71,7 @@ fn bad(state: State) -> Next {
 
 fn plug_in(config: &[u8]) -> Next {
     let mut sheet = [0u8; SHEET];
-    let plugged = request::plug_in(config, &mut sheet);
+    let plugged = plug::plug_in(config, &mut sheet);
     let reading = plugged.reading;
     if reading.number == 0 {
         say(b"accepted");

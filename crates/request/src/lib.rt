@@ -1,11 +1,10 @@
-// Layer 3: the box. A microphone is plugged in, its controls are loaded, and class requests are answered (document 01, "What the box
-// does"). What this crate promises: for every configuration and sheet, every state whatever, every load, setup, data and reply, exactly
-// what specs/Plugged.antt, specs/Load.antt and specs/Request.antt say; a refused load or request leaves state and reply as they stood.
+// Layer 3: the box. The controls of a microphone are loaded, and class requests are answered (document 01, "What the box does"). What this crate
+// promises: for every state whatever, every load, setup, data and reply, exactly what specs/Load.antt and specs/Request.antt say; a refused load or
+// request leaves state and reply as they stood.
 ghost use mathlib.Core.Path.{_≡_};
 ghost use lib.ListN.{length};
 ghost use Rattle.answers.specs.Answers.{setOf, getOf};
 ghost use Rattle.request.specs.Outcome.{refusal, deedAnswer, answerOf, Answered};
-ghost use Rattle.request.specs.Plugged.{PluggedIn};
 ghost use Rattle.request.specs.Load.{loadOf};
 ghost use Rattle.request.specs.Stored.{indicesIn, Seated, outcomeOf};
 ghost use Rattle.request.specs.Request.{elsewhereBy, barredBy, requestOf};
@@ -17,7 +16,6 @@ use setup::Part;
 use setup::Target;
 use table::Entry;
 use table::Table;
-use topology::Reading;
 
 // The box's state: the AudioControl number and the table of controls.
 pub struct State {
@@ -25,28 +23,11 @@ pub struct State {
     pub table: Table,
 }
 
-// What a plug-in comes to: the reading of the microphone's configuration, and the state.
-pub struct Plugged {
-    pub reading: Reading,
-    pub state: State,
-}
-
 // What a load or a request comes to: 0 or the number of the refusal, how many bytes of the reply were written, and the state after it.
 pub struct Answer {
     pub number: u8,
     pub written: usize,
     pub state: State,
-}
-
-// Plugs a microphone in: the reader reads its configuration and writes the lent sheet, and the state is what it answers.
-pub fn plug_in(config: &[u8], sheet: &mut [u8]) -> Plugged
-    ensures { λ r. ⌜ PluggedIn (now (config .entry)) (now (sheet .entry)) r (now (sheet .exit)) ⌝ }
-{
-    let reading = topology::read(config, sheet);
-    let control = reading.control;
-    let table = reading.table;
-    let state = State { control, table };
-    Plugged { reading, state }
 }
 
 fn refused(state: State, number: u8) -> Answer

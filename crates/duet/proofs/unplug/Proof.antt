@@ -1,6 +1,6 @@
 -- The ways of an unplugging.
 use borrow.Author.Needs.{needs}
-use Rattle.duet.specs.PluggingLaws.{unplug-thirty, unplug-empty, unplug-done}
+use Rattle.duet.proofs.Coming.{unplug-thirty, unplug-empty, unplug-done}
 use Rattle.duet.proofs.unplug.Statement.{statement}
 use Rattle.duet.proofs.unplug.Tie as tie
 

@@ -7,12 +7,12 @@ use native.Mathlib.Omega.{arith}
 use lib.ListN.{length, take, drop}
 use lib.Seq.{length-take-le}
 use Rattle.topology.specs.Reading.{readingOf}
-use Rattle.request.specs.declared.Plugged.{Plugged}
-use Rattle.request.specs.Plugged.{stateOf, PluggedIn}
+use Rattle.plug.specs.declared.Plugged.{Plugged}
+use Rattle.plug.specs.Plugged.{stateOf, PluggedIn}
 use Rattle.records.specs.Sheet.{wholeSheet}
-use Rattle.duet.specs.Drafts.{Drafted}
-use Rattle.duet.proofs.read_draft.Statement.{statement}
-use Rattle.duet.proofs.read_draft.Tie as tie
+use Rattle.admission.specs.Drafts.{Drafted}
+use Rattle.admission.proofs.read_draft.Statement.{statement}
+use Rattle.admission.proofs.read_draft.Tie as tie
 
 module _ (s z : List ℕ) (m n : ℕ) (l : length z ≡ wholeSheet) (e : m ≡ min n wholeSheet) where
   inside : m ≤ length z

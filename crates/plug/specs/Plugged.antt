@@ -10,8 +10,8 @@ use lib.ListN.{length}
 use Rattle.sound.specs.Meaning.{Sound}
 use Rattle.topology.specs.declared.Reading.{Reading}
 use Rattle.topology.specs.Reading.{readingOf, sheetOf}
 use Rattle.request.specs.declared.State.{State}
-use Rattle.request.specs.declared.Plugged.{Plugged}
+use Rattle.plug.specs.declared.Plugged.{Plugged}
 
 abbrev pub stateOf : Reading → State
 stateOf r = record { control = r .control; table = r .table }

@@ -8,8 +8,8 @@ use native.Mathlib.Numerals.{add-one}
 use lib.ListN.{length, getD, set, take, drop, length-set}
 use lib.Seq.{length-take-le, take-suc}
 use Rattle.deed.specs.Reply.{laid, laid-set}
-use Rattle.duet.proofs.copy_front.Statement.{statement}
-use Rattle.duet.proofs.copy_front.Tie as tie
+use Rattle.admission.proofs.copy_front.Statement.{statement}
+use Rattle.admission.proofs.copy_front.Tie as tie
 
 module _ (f d : List ℕ) (n : ℕ) where
   record Copied (s : List ℕ) (i : ℕ) : Type 0 where

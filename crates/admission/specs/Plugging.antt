@@ -1,5 +1,4 @@
--- A microphone comes and goes: "plugging in gives 61 if the side is taken, then the reader's, then 62 if both sides' controls would pass 192";
--- "unplugging .. 63 for an empty side"; "Unplugging a side gives its room back."
+-- A microphone is plugged in on a side: "plugging in gives 61 if the side is taken, then the reader's, then 62 if both sides' controls would pass 192".
 --   Plugging          ==  what a plug-in comes to: refused n p: refusal n, at place p where it is the reader's; let-in r: the reading r, whose state
 --                         is the side's from then on
 --   letInUnless x r   ==  the reading r is let in, unless it is refused by x
@@ -9,31 +8,26 @@
 --   duetAfter b k o   ==  the box after it: a refusal leaves it as it stood
 --   plugAnswer b k o  ==  what is answered
 --   welcomed b k q    ==  .. of the request layer's plug-in q
---   Settled b k q y d r a  ==  r is that answer, and a the sheet d with the records that stand in the draft y
 --   sheetAfter s d o  ==  what the lent sheet d holds then: a refusal leaves it, so that 62 is known before it is written
 --   AdmittedIn b k o s d r a  ==  r is the answer where the plug-in comes to o, and a the sheet at exit
 --   PlugsIn b k s d r a  ==  .. where it is the plug-in of the configuration s with the sheet d lent
---   refusal b n       ==  the answer of a refusal with no place
---   unplugAnswer b k  ==  what an unplugging answers, the box after it among it
-use Prim.Native.Nat.{ℕ, _*_}
+use Prim.Native.Nat.{ℕ}
 use mathlib.Core.Path.{_≡_}
-use mathlib.Core.Bool.{true}
-use mathlib.Core.List.{List, _++_}
+use mathlib.Core.List.{List}
 use lib.Dec.{eqb}
-use lib.ListN.{length, take, drop}
+use lib.ListN.{length}
 use Rattle.ground.specs.declared.Refusal.{Refusal}
 use Rattle.ground.specs.Pick.{pick}
-use Rattle.records.specs.Records.{recordSize}
 use Rattle.topology.specs.declared.Reading.{Reading}
 use Rattle.topology.specs.Reading.{readingOf, sheetOf}
-use Rattle.request.specs.declared.Plugged.{Plugged}
-use Rattle.request.specs.Plugged.{stateOf}
+use Rattle.plug.specs.declared.Plugged.{Plugged}
+use Rattle.plug.specs.Plugged.{stateOf}
 use Rattle.sides.specs.declared.Side.{Side}
 use Rattle.sides.specs.Sides.{admissionBy}
 use Rattle.duet.specs.declared.Duet.{Duet}
-use Rattle.duet.specs.declared.Admitted.{Admitted}
-use Rattle.duet.specs.declared.Answer.{Answer}
-use Rattle.duet.specs.Box.{otherSide, socketOf, withSocket, emptySocket, controlsOn, soundDuet}
+use Rattle.duet.specs.Box.{otherSide, socketOf, controlsOn, soundDuet}
+use Rattle.duet.specs.Coming.{occupied}
+use Rattle.admission.specs.declared.Admitted.{Admitted}
 
 pub data Plugging : Type 0 where
   refused : ℕ → ℕ → Plugging
@@ -53,7 +47,7 @@ plugOf b k s room =
 
 abbrev pub duetAfter : Duet → Side → Plugging → Duet
 duetAfter b k (refused n p) = b
-duetAfter b k (let-in r) = withSocket b k (record { plugged = true; state = stateOf r })
+duetAfter b k (let-in r) = occupied b k (stateOf r)
 
 abbrev pub turnedAway : Duet → ℕ → ℕ → Admitted
 turnedAway b n p = record { number = n; place = p; control = 0; entities = 0; controls = 0; duet = b }
@@ -76,16 +70,12 @@ welcomed b k q = record {
   control = q .reading .control;
   entities = q .reading .entities;
   controls = q .reading .controls;
-  duet = withSocket b k (record { plugged = true; state = q .state });
+  duet = occupied b k (q .state);
 }
 
 abbrev pub sheetAfter : List ℕ → List ℕ → Plugging → List ℕ
 sheetAfter s d (refused n p) = d
 sheetAfter s d (let-in r) = sheetOf s d
-
-pub record Settled (b : Duet) (k : Side) (q : Plugged) (y d : List ℕ) (r : Admitted) (a : List ℕ) : Type 0 where
-  pub result : r ≡ welcomed b k q
-  pub sheet : a ≡ take (q .reading .entities * recordSize) y ++ drop (q .reading .entities * recordSize) d
 
 pub record AdmittedIn (b : Duet) (k : Side) (o : Plugging) (s d : List ℕ) (r : Admitted) (a : List ℕ) : Type 0 where
   pub result : r ≡ plugAnswer b k o
@@ -93,12 +83,3 @@ pub record AdmittedIn (b : Duet) (k : Side) (o : Plugging) (s d : List ℕ) (r :
 
 abbrev pub PlugsIn : Duet → Side → List ℕ → List ℕ → Admitted → List ℕ → Type 0
 PlugsIn b k s d r a = AdmittedIn b k (plugOf b k s (length d)) s d r a
-
-abbrev pub refusal : Duet → ℕ → Answer
-refusal b n = record { number = n; written = 0; duet = b }
-
-unfoldable pub unplugAnswer : Duet → Side → Answer
-unplugAnswer b k =
-    pick (soundDuet b)
-    (pick (socketOf b k .plugged) (record { number = 0; written = 0; duet = withSocket b k emptySocket }) (refusal b 63))
-    (refusal b 30)

@@ -5,8 +5,8 @@ use mathlib.Core.Path.{_≡_}
 use mathlib.Core.List.{List, _++_}
 use lib.ListN.{take, drop}
 use Rattle.topology.specs.Reading.{readingOf, sheetOf}
-use Rattle.request.specs.declared.Plugged.{Plugged}
-use Rattle.request.specs.Plugged.{stateOf}
+use Rattle.plug.specs.declared.Plugged.{Plugged}
+use Rattle.plug.specs.Plugged.{stateOf}
 
 pub record Drafted (s : List ℕ) (room : ℕ) (z : List ℕ) (q : Plugged) (y : List ℕ) : Type 0 where
   pub reading : q .reading ≡ readingOf s room

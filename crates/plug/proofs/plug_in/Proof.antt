@@ -9,9 +9,9 @@ use Rattle.sound.specs.Fresh.{fresh-sound}
 use Rattle.topology.specs.declared.Reading.{Reading}
 use Rattle.topology.specs.Reading.{readingOf, sheetOf}
 use Rattle.reader.proofs.Tables.{reader-table}
-use Rattle.request.specs.Plugged.{stateOf, PluggedIn}
-use Rattle.request.proofs.plug_in.Statement.{statement}
-use Rattle.request.proofs.plug_in.Tie as tie
+use Rattle.plug.specs.Plugged.{stateOf, PluggedIn}
+use Rattle.plug.proofs.plug_in.Statement.{statement}
+use Rattle.plug.proofs.plug_in.Tie as tie
 
 plugged : (s d : List ℕ) (r : Reading) (a : List ℕ) → r ≡ readingOf s (length d) → a ≡ sheetOf s d
     → PluggedIn s d (record { reading = r; state = record { control = r .control; table = r .table } }) a

@@ -1,27 +1,26 @@
 -- The state is put in the side's socket.
 use borrow.Author.Needs.{needs}
 use mathlib.Core.Path.{_≡_, ap}
-use mathlib.Core.Bool.{true}
-use Rattle.request.specs.declared.Plugged.{Plugged}
+use Rattle.plug.specs.declared.Plugged.{Plugged}
 use Rattle.sides.specs.declared.Side.{Side}
 use Rattle.duet.specs.declared.Duet.{Duet}
-use Rattle.duet.specs.Box.{withSocket}
-use Rattle.duet.specs.Plugging.{welcomed}
-use Rattle.duet.proofs.welcome.Statement.{statement}
-use Rattle.duet.proofs.welcome.Tie as tie
+use Rattle.duet.specs.Coming.{occupied}
+use Rattle.admission.specs.Plugging.{welcomed}
+use Rattle.admission.proofs.welcome.Statement.{statement}
+use Rattle.admission.proofs.welcome.Tie as tie
 
-put-in : (b : Duet) (k : Side) (q : Plugged) (v : Duet) → v ≡ withSocket b k (record { plugged = true; state = q .state })
+put-in : (b : Duet) (k : Side) (q : Plugged) (v : Duet) → v ≡ occupied b k (q .state)
     → record { number = 0; place = 0; control = q .reading .control; entities = q .reading .entities; controls = q .reading .controls; duet = v } ≡ welcomed b k q
 put-in b k q v e =
     ap (λ (u : Duet). record { number = 0; place = 0; control = q .reading .control; entities = q .reading .entities; controls = q .reading .controls; duet = u }) e
 
 ruleset laws = (put-in, needs)
 
-with-socket-requires : tie.Need-with-socket-requires
-with-socket-requires c κs = search laws
+occupy-requires : tie.Need-occupy-requires
+occupy-requires c κs = search laws
 
 returns : tie.Need-returns
 returns c = search laws
 
 pub welcome-spec : {M : Type 1} → statement M
-welcome-spec = tie.close (tie.spec with-socket-requires returns)
+welcome-spec = tie.close (tie.spec occupy-requires returns)

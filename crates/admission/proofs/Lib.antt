@@ -1,0 +1,2 @@
+mod Drafted
+mod Admitting

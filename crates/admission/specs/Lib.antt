@@ -1,0 +1,4 @@
+pub mod Plugging
+pub mod Admission
+pub mod Drafts
+pub mod PluggingLaws
