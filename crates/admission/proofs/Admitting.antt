@@ -42,13 +42,16 @@ module _ (met : ℕ) (s z d : List ℕ) (long : length z ≡ wholeSheet) (q : Pl
   told : Judged R (admittedBy met R) x
   told = rw (f, reads) (judged met R)
 
-  answered : record { refusal = x; plugged = q } ≡ admissionOf met R
-  answered =
-      ap (λ (t : Refusal). record { refusal = t; plugged = q }) f
-      ∙ ap (λ (t : Reading). record { refusal = admissionBy (t .number) (t .place) (t .controls) met; plugged = record { reading = t; state = q .state } }) reads
-      ∙ ap (λ (t : State). record { refusal = admissionOf met R .refusal; plugged = record { reading = R; state = t } }) (p .state ∙ ap stateOf same)
+  abbrev come : Admission
+  come = record { refusal = x; entities = q .reading .entities; controls = q .reading .controls; state = q .state }
 
-  pub away : (x .number ≡ 0 → ⊥) → Admits met s d (record { refusal = x; plugged = q }) d
+  answered : come ≡ admissionOf met R
+  answered =
+      ap (λ (t : Refusal). record { refusal = t; entities = q .reading .entities; controls = q .reading .controls; state = q .state }) f
+      ∙ ap (λ (t : Reading). record { refusal = admissionBy (t .number) (t .place) (t .controls) met; entities = t .entities; controls = t .controls; state = q .state }) reads
+      ∙ ap (λ (t : State). record { refusal = admissionOf met R .refusal; entities = R .entities; controls = R .controls; state = t }) (p .state ∙ ap stateOf same)
+
+  pub away : (x .number ≡ 0 → ⊥) → Admits met s d come d
   away n = record { result = answered; sheet = sym (ap (sheetAfter s d) (told .refuses n)) }
 
   module _ (e : x .number ≡ 0) where
@@ -68,7 +71,7 @@ module _ (met : ℕ) (s z d : List ℕ) (long : length z ≡ wholeSheet) (q : Pl
     draft-holds = rw (entities, p .draft) (records-held s (take m z) (drop m z) accepted)
 
     pub settled : (a : List ℕ) → a ≡ take (q .reading .entities * recordSize) y ++ drop (q .reading .entities * recordSize) d
-        → Admits met s d (record { refusal = x; plugged = q }) a
+        → Admits met s d come a
     settled a h = record { result = answered; sheet = h ∙ copied ∙ sym (ap (sheetAfter s d) (told .accepts e .1)) }
       where
         copied : take (q .reading .entities * recordSize) y ++ drop (q .reading .entities * recordSize) d ≡ sheetOf s d

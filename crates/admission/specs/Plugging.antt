@@ -7,7 +7,6 @@
 --   turnedAway b n p  ==  the answer of a refusal at a plug-in: "interface number 0, zero counts"
 --   duetAfter b k o   ==  the box after it: a refusal leaves it as it stood
 --   plugAnswer b k o  ==  what is answered
---   welcomed b k q    ==  .. of the request layer's plug-in q
 --   sheetAfter s d o  ==  what the lent sheet d holds then: a refusal leaves it, so that 62 is known before it is written
 --   AdmittedIn b k o s d r a  ==  r is the answer where the plug-in comes to o, and a the sheet at exit
 --   PlugsIn b k s d r a  ==  .. where it is the plug-in of the configuration s with the sheet d lent
@@ -20,7 +19,6 @@ use Rattle.ground.specs.declared.Refusal.{Refusal}
 use Rattle.ground.specs.Pick.{pick}
 use Rattle.topology.specs.declared.Reading.{Reading}
 use Rattle.topology.specs.Reading.{readingOf, sheetOf}
-use Rattle.plug.specs.declared.Plugged.{Plugged}
 use Rattle.plug.specs.Plugged.{stateOf}
 use Rattle.sides.specs.declared.Side.{Side}
 use Rattle.sides.specs.Sides.{admissionBy}
@@ -61,16 +59,6 @@ plugAnswer b k (let-in r) = record {
   entities = r .entities;
   controls = r .controls;
   duet = duetAfter b k (let-in r);
-}
-
-abbrev pub welcomed : Duet → Side → Plugged → Admitted
-welcomed b k q = record {
-  number = 0;
-  place = 0;
-  control = q .reading .control;
-  entities = q .reading .entities;
-  controls = q .reading .controls;
-  duet = occupied b k (q .state);
 }
 
 abbrev pub sheetAfter : List ℕ → List ℕ → Plugging → List ℕ

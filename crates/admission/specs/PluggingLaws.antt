@@ -25,9 +25,9 @@ use Rattle.duet.specs.Box.{otherSide, socketOf, controlsOn, soundDuet}
 use Rattle.duet.specs.Coming.{vacancyOf}
 use Rattle.admission.specs.declared.Admitted.{Admitted}
 use Rattle.admission.specs.declared.Admission.{Admission}
-use Rattle.admission.specs.Plugging.{Plugging, letInUnless, admittedBy, plugOf, turnedAway, plugAnswer, welcomed, sheetAfter, PlugsIn}
+use Rattle.admission.specs.Plugging.{Plugging, letInUnless, admittedBy, plugOf, turnedAway, plugAnswer, sheetAfter, PlugsIn}
 use Rattle.admission.specs.Plugging.Plugging.{refused, let-in}
-use Rattle.admission.specs.Admission.{Admits}
+use Rattle.admission.specs.Admission.{welcomed, Admits}
 
 pub admitted-cases : (n : ℕ) (r : Reading)
     → admittedBy n r ≡ pick (eqb (r .number) 0) (pick (leb (n + r .controls) mostTogether) (let-in r) (refused 62 0)) (refused (r .number) (r .place))
@@ -116,5 +116,5 @@ module _ (b : Duet) (k : Side) (w : Vacancy) (h : w ≡ vacancyOf b k) (s d : Li
     pub plug-turned : (v .refusal .number ≡ 0 → ⊥) → r ≡ turnedAway b (v .refusal .number) (v .refusal .place) → PlugsIn b k s d r e
     plug-turned n = answered _ (told .refuses n)
 
-    pub plug-let-in : v .refusal .number ≡ 0 → r ≡ welcomed b k (v .plugged) → PlugsIn b k s d r e
-    plug-let-in n t = answered (let-in R) (told .accepts n .1) (t ∙ ap (λ (u : Admission). welcomed b k (u .plugged)) (z .result))
+    pub plug-let-in : v .refusal .number ≡ 0 → r ≡ welcomed b k v → PlugsIn b k s d r e
+    plug-let-in n t = answered (let-in R) (told .accepts n .1) (t ∙ ap (welcomed b k) (z .result))

@@ -8,12 +8,13 @@ ghost use Prim.Native.Nat.{_*_, _≤_, min};
 ghost use lib.ListN.{length, take, drop};
 ghost use Rattle.records.specs.Records.{recordSize};
 ghost use Rattle.records.specs.Sheet.{wholeSheet};
-ghost use Rattle.admission.specs.Plugging.{turnedAway, welcomed, PlugsIn};
-ghost use Rattle.admission.specs.Admission.{Admits};
+ghost use Rattle.admission.specs.Plugging.{turnedAway, PlugsIn};
+ghost use Rattle.admission.specs.Admission.{welcomed, Admits};
 ghost use Rattle.admission.specs.Drafts.{Drafted};
 use duet::Duet;
 use ground::Refusal;
 use plug::Plugged;
+use request::State;
 use sides::Side;
 
 // The bytes of a sheet that holds the records of every configuration.
@@ -30,10 +31,13 @@ pub struct Admitted {
     pub duet: Duet,
 }
 
-// What comes of a microphone's reading: its refusal, the reader's or 62, 0 and 0 where it is let in; and the request layer's plug-in of it.
+// What comes of a microphone's reading: its refusal, the reader's or 62, 0 and 0 where it is let in; the counts of its entities and controls; and
+// the request layer's state of it.
 struct Admission {
     refusal: Refusal,
-    plugged: Plugged,
+    entities: usize,
+    controls: usize,
+    state: State,
 }
 
 // How many bytes of a draft a sheet of that many stands for.
@@ -82,11 +86,24 @@ fn admit_by(config: &[u8], met: usize, draft: &mut [u8], sheet: &mut [u8]) -> Ad
     let plugged = read_draft(config, sheet.len(), draft);
     let reading = plugged.reading;
     let refusal = sides::judge_reading(reading.number, reading.place, reading.controls, met);
+    let entities = reading.entities;
+    let controls = reading.controls;
+    let state = plugged.state;
     if refusal.number != 0 {
-        return Admission { refusal, plugged };
+        return Admission {
+            refusal,
+            entities,
+            controls,
+            state,
+        };
     }
-    copy_records(draft, reading.entities, sheet);
-    Admission { refusal, plugged }
+    copy_records(draft, entities, sheet);
+    Admission {
+        refusal,
+        entities,
+        controls,
+        state,
+    }
 }
 
 // A microphone read for a side, where the other side has so many controls.
@@ -112,17 +129,16 @@ fn turned_away(duet: Duet, number: u8, place: usize) -> Admitted
 }
 
 // The answer where a microphone is let in.
-fn welcome(duet: Duet, side: Side, plugged: Plugged) -> Admitted
-    ensures { λ r. ⌜ r ≡ welcomed duet side plugged ⌝ }
+fn welcome(duet: Duet, side: Side, admission: Admission) -> Admitted
+    ensures { λ r. ⌜ r ≡ welcomed duet side admission ⌝ }
 {
-    let reading = plugged.reading;
     Admitted {
         number: 0,
         place: 0,
-        control: reading.control,
-        entities: reading.entities,
-        controls: reading.controls,
-        duet: duet::occupy(duet, side, plugged.state),
+        control: admission.state.control,
+        entities: admission.entities,
+        controls: admission.controls,
+        duet: duet::occupy(duet, side, admission.state),
     }
 }
 
@@ -139,5 +155,5 @@ pub fn plug_in(duet: Duet, side: Side, config: &[u8], sheet: &mut [u8]) -> Admit
     if refusal.number != 0 {
         return turned_away(duet, refusal.number, refusal.place);
     }
-    welcome(duet, side, admission.plugged)
+    welcome(duet, side, admission)
 }
