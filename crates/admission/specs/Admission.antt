@@ -1,4 +1,4 @@
--- A microphone's reading on a side that meets n controls on the other, with no box in hand.
+-- A microphone's reading for a side that meets n controls on the other; and the answer where it is let in.
 --   admissionOf n r   ==  what comes of the reading r: its refusal, its counts, and the request layer's state of it
 --   Admits n s d r a  ==  r is that of the configuration s, and a the sheet d at exit
 --   welcomed b k q    ==  the answer where q is let in on the side k of the box b

@@ -1,15 +1,15 @@
--- A microphone is plugged in on a side: "plugging in gives 61 if the side is taken, then the reader's, then 62 if both sides' controls would pass 192".
+-- A microphone is plugged in on a side: "30 comes first wherever a state is given"; "plugging in gives 61 if the side is taken, then the reader's, then 62
+-- if both sides' controls would pass 192".
 --   Plugging          ==  what a plug-in comes to: refused n p: refusal n, at place p where it is the reader's; let-in r: the reading r, whose state
 --                         is the side's from then on
 --   letInUnless x r   ==  the reading r is let in, unless it is refused by x
 --   admittedBy n r    ==  .. on a side that met n controls on the other: the reader's refusals, then 62 (admissionBy, crate sides)
 --   plugOf b k s room ==  the plug-in of the configuration s on the side k of the box b, with a sheet of room bytes lent
 --   turnedAway b n p  ==  the answer of a refusal at a plug-in: "interface number 0, zero counts"
---   duetAfter b k o   ==  the box after it: a refusal leaves it as it stood
+--   duetAfter b k o   ==  the box after a plug-in that comes to o: a refusal leaves it as it stood
 --   plugAnswer b k o  ==  what is answered
 --   sheetAfter s d o  ==  what the lent sheet d holds then: a refusal leaves it, so that 62 is known before it is written
---   AdmittedIn b k o s d r a  ==  r is the answer where the plug-in comes to o, and a the sheet at exit
---   PlugsIn b k s d r a  ==  .. where it is the plug-in of the configuration s with the sheet d lent
+--   PlugsIn b k s d r a  ==  of the plug-in of the configuration s with the sheet d lent, r is the answer, and a the sheet at exit
 use Prim.Native.Nat.{ℕ}
 use mathlib.Core.Path.{_≡_}
 use mathlib.Core.List.{List}
@@ -65,9 +65,6 @@ abbrev pub sheetAfter : List ℕ → List ℕ → Plugging → List ℕ
 sheetAfter s d (refused n p) = d
 sheetAfter s d (let-in r) = sheetOf s d
 
-pub record AdmittedIn (b : Duet) (k : Side) (o : Plugging) (s d : List ℕ) (r : Admitted) (a : List ℕ) : Type 0 where
-  pub result : r ≡ plugAnswer b k o
-  pub sheet : a ≡ sheetAfter s d o
-
-abbrev pub PlugsIn : Duet → Side → List ℕ → List ℕ → Admitted → List ℕ → Type 0
-PlugsIn b k s d r a = AdmittedIn b k (plugOf b k s (length d)) s d r a
+pub record PlugsIn (b : Duet) (k : Side) (s d : List ℕ) (r : Admitted) (a : List ℕ) : Type 0 where
+  pub result : r ≡ plugAnswer b k (plugOf b k s (length d))
+  pub sheet : a ≡ sheetAfter s d (plugOf b k s (length d))

@@ -22,7 +22,7 @@ use Rattle.sides.specs.Sides.{mostTogether, admissionBy}
 use Rattle.duet.specs.declared.Duet.{Duet}
 use Rattle.duet.specs.declared.Vacancy.{Vacancy}
 use Rattle.duet.specs.Box.{otherSide, socketOf, controlsOn, soundDuet}
-use Rattle.duet.specs.Coming.{vacancyOf}
+use Rattle.duet.specs.Coming.{barredBy, vacancyOf}
 use Rattle.admission.specs.declared.Admitted.{Admitted}
 use Rattle.admission.specs.declared.Admission.{Admission}
 use Rattle.admission.specs.Plugging.{Plugging, letInUnless, admittedBy, plugOf, turnedAway, plugAnswer, sheetAfter, PlugsIn}
@@ -71,28 +71,28 @@ pub judged : (met : ℕ) (r : Reading) → Judged r (admittedBy met r) (admissio
 unfolding admittedBy
 judged met r = record { accepts = λ e. (accepted-by (r .number) (r .place) (r .controls) met e, yes _ _ (eq-eqb _ _ e)); refuses = λ n. no _ _ (ne-eqb _ _ n) }
 
--- 30, 61 or 0, by whether 30 has nothing against the box and whether the side is taken
-abbrev bar : Bool → Bool → ℕ
-bar x y = pick x (pick y 61 0) 30
-
 module _ (b : Duet) (k : Side) (s : List ℕ) (room : ℕ) where
   barred : (vacancyOf b k .number ≡ 0 → ⊥) → plugOf b k s room ≡ refused (vacancyOf b k .number) 0
   unfolding plugOf vacancyOf
-  barred = go (soundDuet b) (socketOf b k .plugged) (admittedBy (controlsOn (socketOf b (otherSide k))) (readingOf s room))
+  barred = go (soundDuet b) (socketOf b k .plugged) (controlsOn (socketOf b (otherSide k)))
     where
-      go : (x y : Bool) (o : Plugging) → (bar x y ≡ 0 → ⊥) → pick x (pick y (refused 61 0) o) (refused 30 0) ≡ refused (bar x y) 0
-      go true true o n = refl
-      go true false o n = absurd (n refl)
-      go false y o n = refl
+      go : (x y : Bool) (m : ℕ) → (pick x (pick y (barredBy 61) (record { number = 0; met = m })) (barredBy 30) .number ≡ 0 → ⊥)
+          → pick x (pick y (refused 61 0) (admittedBy m (readingOf s room))) (refused 30 0)
+          ≡ refused (pick x (pick y (barredBy 61) (record { number = 0; met = m })) (barredBy 30) .number) 0
+      go true true m n = refl
+      go true false m n = absurd (n refl)
+      go false y m n = refl
 
   vacant : vacancyOf b k .number ≡ 0 → plugOf b k s room ≡ admittedBy (vacancyOf b k .met) (readingOf s room)
   unfolding plugOf vacancyOf
-  vacant = go (soundDuet b) (socketOf b k .plugged) (admittedBy (controlsOn (socketOf b (otherSide k))) (readingOf s room))
+  vacant = go (soundDuet b) (socketOf b k .plugged) (controlsOn (socketOf b (otherSide k)))
     where
-      go : (x y : Bool) (o : Plugging) → bar x y ≡ 0 → pick x (pick y (refused 61 0) o) (refused 30 0) ≡ o
-      go true true o e = absurd (omega arith)
-      go true false o e = refl
-      go false y o e = absurd (omega arith)
+      go : (x y : Bool) (m : ℕ) → pick x (pick y (barredBy 61) (record { number = 0; met = m })) (barredBy 30) .number ≡ 0
+          → pick x (pick y (refused 61 0) (admittedBy m (readingOf s room))) (refused 30 0)
+          ≡ admittedBy (pick x (pick y (barredBy 61) (record { number = 0; met = m })) (barredBy 30) .met) (readingOf s room)
+      go true true m e = absurd (omega arith)
+      go true false m e = refl
+      go false y m e = absurd (omega arith)
 
 module _ (b : Duet) (k : Side) (w : Vacancy) (h : w ≡ vacancyOf b k) (s d : List ℕ) (r : Admitted) where
   pub plug-barred : (w .number ≡ 0 → ⊥) → r ≡ turnedAway b (w .number) 0 → PlugsIn b k s d r d

@@ -5,32 +5,32 @@ use Prim.Native.Nat.{ℕ}
 use mathlib.Core.Path.{_≡_, sym, ap, _∙_}
 use mathlib.Core.Bool.{Bool, true, false, not}
 use borrow.Author.Tests.{not-true, not-false}
-use Rattle.ground.specs.Pick.{pick, yes, no}
+use Rattle.ground.specs.Pick.{yes, no}
 use Rattle.sides.specs.declared.Side.{Side}
 use Rattle.duet.specs.declared.Socket.{Socket}
 use Rattle.duet.specs.declared.Duet.{Duet}
 use Rattle.duet.specs.declared.Vacancy.{Vacancy}
 use Rattle.duet.specs.declared.Answer.{Answer}
 use Rattle.duet.specs.Box.{otherSide, socketOf, withSocket, emptySocket, controlsOn, soundDuet}
-use Rattle.duet.specs.Coming.{vacancyOf, refusal, unplugAnswer}
+use Rattle.duet.specs.Coming.{barredBy, vacancyOf, refusal, unplugAnswer}
 
 module _ (b : Duet) (k : Side) (a : Bool) (h : a ≡ soundDuet b) where
-  module _ (j : Side) (i : j ≡ otherSide k) (y : Socket) (g : y ≡ socketOf b j) (m : ℕ) (c : m ≡ controlsOn y) where
-    judged : (n : ℕ) → n ≡ pick (soundDuet b) (pick (socketOf b k .plugged) 61 0) 30 → record { number = n; met = m } ≡ vacancyOf b k
+  module _ (v : Vacancy) where
+    pub vacancy-thirty : not a ≡ true → v ≡ barredBy 30 → v ≡ vacancyOf b k
     unfolding vacancyOf
-    judged n e =
-        ap (λ (z : ℕ). record { number = z; met = m }) e
-        ∙ ap (λ (z : ℕ). record { number = vacancyOf b k .number; met = z }) (c ∙ ap controlsOn (g ∙ ap (socketOf b) i))
-
-    pub vacancy-thirty : not a ≡ true → record { number = 30; met = m } ≡ vacancyOf b k
-    vacancy-thirty t = judged 30 (sym (no _ _ (sym h ∙ not-true a t)))
+    vacancy-thirty t e = e ∙ sym (no _ _ (sym h ∙ not-true a t))
 
     module _ (sound : not a ≡ false) (x : Socket) (f : x ≡ socketOf b k) where
-      pub vacancy-taken : x .plugged ≡ true → record { number = 61; met = m } ≡ vacancyOf b k
-      vacancy-taken t = judged 61 (sym (yes _ _ (sym h ∙ not-false a sound) ∙ yes _ _ (ap (λ (u : Socket). u .plugged) (sym f) ∙ t)))
+      pub vacancy-taken : x .plugged ≡ true → v ≡ barredBy 61 → v ≡ vacancyOf b k
+      unfolding vacancyOf
+      vacancy-taken t e = e ∙ sym (yes _ _ (sym h ∙ not-false a sound) ∙ yes _ _ (ap (λ (u : Socket). u .plugged) (sym f) ∙ t))
 
-      pub vacancy-free : x .plugged ≡ false → record { number = 0; met = m } ≡ vacancyOf b k
-      vacancy-free t = judged 0 (sym (yes _ _ (sym h ∙ not-false a sound) ∙ no _ _ (ap (λ (u : Socket). u .plugged) (sym f) ∙ t)))
+  pub vacancy-free : not a ≡ false → (x : Socket) → x ≡ socketOf b k → x .plugged ≡ false
+      → (j : Side) → j ≡ otherSide k → (y : Socket) → y ≡ socketOf b j → (m : ℕ) → m ≡ controlsOn y → record { number = 0; met = m } ≡ vacancyOf b k
+  unfolding vacancyOf
+  vacancy-free sound x f t j i y g m c =
+      ap (λ (z : ℕ). record { number = 0; met = z }) (c ∙ ap controlsOn (g ∙ ap (socketOf b) i))
+      ∙ sym (yes _ _ (sym h ∙ not-false a sound) ∙ no _ _ (ap (λ (u : Socket). u .plugged) (sym f) ∙ t))
 
   module _ (r : Answer) where
     pub unplug-thirty : not a ≡ true → r ≡ refusal b 30 → r ≡ unplugAnswer b k

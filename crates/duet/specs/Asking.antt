@@ -14,7 +14,6 @@
 --   AnsweredIn b s d h r a  ==  the answer r of a request with the reply h lent, and a, the reply at exit
 use Prim.Native.Nat.{ℕ}
 use mathlib.Core.Path.{_≡_}
-use mathlib.Core.Bool.{true}
 use mathlib.Core.List.{List}
 use lib.ListN.{length}
 use Rattle.ground.specs.Pick.{pick}
@@ -34,6 +33,7 @@ use Rattle.duet.specs.declared.Socket.{Socket}
 use Rattle.duet.specs.declared.Duet.{Duet}
 use Rattle.duet.specs.declared.Answer.{Answer}
 use Rattle.duet.specs.Box.{socketOf, withSocket, soundDuet}
+use Rattle.duet.specs.Coming.{occupied}
 
 unfoldable pub handedTo : Socket → List ℕ → List ℕ → ℕ → Outcome
 handedTo x s d room = pick (x .plugged) (requestOf (x .state) (ownSetup (x .state .control) s) d room) (refused 63)
@@ -65,7 +65,7 @@ answerFor b (Nobody n) o = record { number = numberOf o; written = length (bytes
 answerFor b (At k) o = answerIn b k o
 
 abbrev pub answeredBy : Duet → Side → request.Answer → Answer
-answeredBy b k r = record { number = r .number; written = r .written; duet = withSocket b k (record { plugged = true; state = r .state }) }
+answeredBy b k r = record { number = r .number; written = r .written; duet = occupied b k (r .state) }
 
 abbrev pub requestOn : Duet → Side → List ℕ → List ℕ → ℕ → Outcome
 requestOn b k s d room = pick (soundDuet b) (handedTo (socketOf b k) s d room) (refused 30)

@@ -1,8 +1,7 @@
 -- Laws of the box, once over the side.
 --   sound-split   ==  30 has nothing against the box where it has nothing against the one side's table and nothing against the rest
 --   kept-socket   ==  the box with a side's own socket is the box
---   other-socket  ==  what is put in one side's socket leaves the other's
---   own-socket    ==  .. and stands there
+--   own-socket    ==  what is put in a side's socket stands there
 --   unsound-beside, sound-own, sound-empty  ==  the test of the box, from that of the rest
 --   own-or-rest   ==  of a side that has a microphone, the test of its own table may be left to what is done there
 use Prim.Native.Nat.{ℕ, _+_}
@@ -49,10 +48,6 @@ kept-socket b Right = refl
 pub own-socket : (b : Duet) (k : Side) (x : Socket) → socketOf (withSocket b k x) k ≡ x
 own-socket b Left x = refl
 own-socket b Right x = refl
-
-pub other-socket : (b : Duet) (k : Side) (x : Socket) → socketOf (withSocket b k x) (otherSide k) ≡ socketOf b (otherSide k)
-other-socket b Left x = refl
-other-socket b Right x = refl
 
 module _ (b : Duet) (k : Side) where
   pub unsound-beside : soundBeside b k ≡ false → soundDuet b ≡ false

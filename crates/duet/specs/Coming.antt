@@ -1,5 +1,7 @@
--- A microphone comes and goes: "plugging in gives 61 if the side is taken"; "unplugging .. 63 for an empty side"; "Unplugging a side gives its room back."
---   vacancyOf b k     ==  whether a microphone may come to the side k of the box b, 0, 30 or 61; and how many controls it meets on the other
+-- A microphone comes and goes: "30 comes first wherever a state is given"; "plugging in gives 61 if the side is taken"; "unplugging .. 63 for an empty
+-- side"; "Unplugging a side gives its room back."
+--   barredBy n        ==  no microphone may come, by n
+--   vacancyOf b k     ==  whether one may come to the side k of the box b: 30, 61, or 0 and how many controls it meets on the other
 --   occupied b k st   ==  the box with a microphone there, whose state is st
 --   refusal b n       ==  the answer of a refusal with no place
 --   unplugAnswer b k  ==  what an unplugging answers, the box after it among it
@@ -13,8 +15,14 @@ use Rattle.duet.specs.declared.Vacancy.{Vacancy}
 use Rattle.duet.specs.declared.Answer.{Answer}
 use Rattle.duet.specs.Box.{otherSide, socketOf, withSocket, emptySocket, controlsOn, soundDuet}
 
+abbrev pub barredBy : ℕ → Vacancy
+barredBy n = record { number = n; met = 0 }
+
 unfoldable pub vacancyOf : Duet → Side → Vacancy
-vacancyOf b k = record { number = pick (soundDuet b) (pick (socketOf b k .plugged) 61 0) 30; met = controlsOn (socketOf b (otherSide k)) }
+vacancyOf b k =
+    pick (soundDuet b)
+    (pick (socketOf b k .plugged) (barredBy 61) (record { number = 0; met = controlsOn (socketOf b (otherSide k)) }))
+    (barredBy 30)
 
 abbrev pub occupied : Duet → Side → State → Duet
 occupied b k st = withSocket b k (record { plugged = true; state = st })

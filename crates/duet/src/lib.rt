@@ -1,10 +1,10 @@
 // The duet box (document 02, No. 11): two microphones behind one laptop. It stands on the request layer's promises: a load and a request are handed
-// down to one side's state; of a table only its count is read, and 30's test asked. How a microphone comes in is crate `admission`. What it promises:
-// for every box whatever, every side, load, setup, data and reply, exactly what specs/Coming.antt and specs/Asking.antt say; a refusal leaves box and
-// reply as they stood.
+// down to one side's state; of a table only its count is read, and 30's test asked. What this crate promises: for every box whatever, every side,
+// state, load, setup, data and reply, exactly what specs/Coming.antt and specs/Asking.antt say; a refusal leaves box and reply as they stood. How a
+// microphone is read and let in is crate `admission`.
 ghost use mathlib.Core.Path.{_≡_};
 ghost use Rattle.duet.specs.Box.{otherSide, socketOf, withSocket, emptySocket, emptyDuet, controlsOn, soundSocket, soundBeside, soundDuet};
-ghost use Rattle.duet.specs.Coming.{vacancyOf, occupied, refusal, unplugAnswer};
+ghost use Rattle.duet.specs.Coming.{barredBy, vacancyOf, occupied, refusal, unplugAnswer};
 ghost use Rattle.duet.specs.Asking.{loadIn, answerIn, answeredBy, HandedDown, AnsweredIn};
 use request::State;
 use sides::Addressee;
@@ -22,7 +22,7 @@ pub struct Duet {
     pub right: Socket,
 }
 
-// What a microphone finds that is to come to a side: 0, or the number that refuses it, 30 or 61; and how many controls the other side has.
+// What a microphone finds that is to come to a side: the number that refuses it, 30 or 61; or 0, and how many controls the other side has.
 pub struct Vacancy {
     pub number: u8,
     pub met: usize,
@@ -153,22 +153,28 @@ fn refused(duet: Duet, number: u8) -> Answer
     }
 }
 
+fn barred(number: u8) -> Vacancy
+    ensures { λ r. ⌜ r ≡ barredBy number ⌝ }
+{
+    Vacancy { number, met: 0 }
+}
+
 // Whether a microphone may come to a side.
 pub fn vacancy_on(duet: Duet, side: Side) -> Vacancy
     ensures { λ r. ⌜ r ≡ vacancyOf duet side ⌝ }
 {
-    let met = controls_on(socket_of(duet, other(side)));
     if !sound_duet(duet) {
-        return Vacancy { number: 30, met };
+        return barred(30);
     }
     let socket = socket_of(duet, side);
     if socket.plugged {
-        return Vacancy { number: 61, met };
+        return barred(61);
     }
+    let met = controls_on(socket_of(duet, other(side)));
     Vacancy { number: 0, met }
 }
 
-// The box with a microphone's state on a side.
+// The box with a microphone's state on a side: what is left of a plug-in where nothing refuses it.
 pub fn occupy(duet: Duet, side: Side, state: State) -> Duet
     ensures { λ r. ⌜ r ≡ occupied duet side state ⌝ }
 {

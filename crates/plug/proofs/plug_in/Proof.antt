@@ -1,10 +1,9 @@
 -- The reader's answer and its sheet are handed on; its table is one that refusal 30 has nothing against.
 use borrow.Author.Needs.{needs}
 use Prim.Native.Nat.{ℕ}
-use mathlib.Core.Path.{_≡_, refl, ap}
+use mathlib.Core.Path.{_≡_, ap}
 use mathlib.Core.List.{List}
 use lib.ListN.{length}
-use Rattle.sound.specs.Meaning.{Sound}
 use Rattle.sound.specs.Fresh.{fresh-sound}
 use Rattle.topology.specs.declared.Reading.{Reading}
 use Rattle.topology.specs.Reading.{readingOf, sheetOf}
