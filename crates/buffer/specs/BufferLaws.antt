@@ -9,19 +9,19 @@
 use Prim.Native.Nat.{ℕ, _+_, _-_, _≤_, _<_}
 use mathlib.Core.Path.{_≡_, refl, sym, ap, _∙_}
 use mathlib.Core.Bool.{Bool, true, false, _||_}
-use mathlib.Core.Logic.{_⊎_, inl, inr, ⊎-elim, _↔_}
-use mathlib.Core.List.{List, [], _∷_, _++_, flatten, append-assoc, append-nil, List·Memᴰ, List·Memᴰ·head, Memᴰ·append-left, Memᴰ·append-right}
+use mathlib.Core.Logic.{_⊎_, ⊎-elim, _↔_}
+use mathlib.Core.List.{List, [], _∷_, _++_, flatten, append-assoc, append-nil, List·Memᴰ, Memᴰ·append-left}
 use native.Mathlib.Omega.{arith}
 use lib.ListN.{length, take, drop, take-append-drop, length-append, length-drop}
 use lib.Seq.{take-at, drop-at, length-take-le}
 use lib.Dec.{eqb}
 use Rattle.ground.specs.declared.Place.{Place}
 use Rattle.ground.specs.declared.Place.the-variants.{Nowhere, At}
-use Rattle.ground.specs.Pick.{pick, yes, no, Reads, reads-eq, reads-or, reads-true, decided, true≠false}
+use Rattle.ground.specs.Pick.{pick, yes, Reads, reads-eq, reads-or, reads-true, decided, true≠false}
 use Rattle.ground.specs.Numbers.{word}
-use Rattle.ground.specs.Lists.{any, Some, reads-any, total, total-append, part, part-drop, part-none, flatten-append, length-flatten, of-split}
+use Rattle.ground.specs.Lists.{any, reads-any, total, part, part-drop, flatten-append, length-flatten, of-split}
 use Rattle.ground.specs.First.{firstFrom, Sound, Breaks, first-nowhere, first-at, first-before, first-none-any, isBefore, sound-none}
-use Rattle.scan.specs.Cutting.{Piece, Pieces, endBy, restBy, breachBy, MisfitBy}
+use Rattle.scan.specs.Cutting.{Piece, endBy, restBy, breachBy, MisfitBy}
 use Rattle.scan.specs.PieceLaws.{StandingBy, standing, end-none, end-off, end-stands, rest-none, rest-more, rest-of, starts-end, starts-part, cut-rest, cut-exists, cut-misfit}
 use Rattle.scan.specs.Search.{PassedBy}
 use Rattle.buffer.specs.Clusters.{twoBytes, clusterId, WrongCluster, Buffer, Fault, no-piece, wrong-id, Broken51}

@@ -12,7 +12,7 @@
 --   allMarked marks l   ==  the test that each of l is marked
 --   listed-same, known-same  ==  by the marks the tests of rule 7 are what they are by the list and the descriptors
 use Prim.Native.Nat.{ℕ, _<_}
-use mathlib.Core.Path.{_≡_, refl, sym, ap, _∙_}
+use mathlib.Core.Path.{_≡_, refl, sym, _∙_}
 use mathlib.Core.Bool.{Bool, true, false, not, _&&_, _||_, or-true, or-false}
 use mathlib.Core.List.{List, [], _∷_, _++_}
 use mathlib.Core.Logic.{_⊎_, ⊎-elim}

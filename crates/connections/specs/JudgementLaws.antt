@@ -8,7 +8,7 @@
 --   judged-answers    ==  THE LAW: what is judged is put together by these rows
 --   connected-chain   ==  what comes behind the four is reached exactly where none of them is given
 use Prim.Native.Nat.{ℕ}
-use mathlib.Core.Path.{_≡_, refl}
+use mathlib.Core.Path.{refl}
 use mathlib.Core.List.{List}
 use native.Mathlib.Omega.{arith}
 use Rattle.ground.specs.declared.Refusal.{Refusal}

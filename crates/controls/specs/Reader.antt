@@ -28,7 +28,6 @@ use Rattle.entities.specs.Represents.{Represents}
 use Rattle.setting.specs.declared.Sort.{Sort}
 use Rattle.setting.specs.declared.Sort.the-variants.{Volume, Tone, Delay}
 use Rattle.table.specs.declared.Control.{Control}
-use Rattle.table.specs.declared.Table.{Table}
 use Rattle.table.specs.declared.Sense.{Sense}
 use Rattle.table.specs.declared.Sense.the-variants.{YesNo, Ranged}
 use Rattle.table.specs.Controls.{mostControls, blankControl, at, senseOf}

@@ -19,7 +19,7 @@ use Rattle.ground.specs.Lists.{split-of}
 use Rattle.ground.specs.Refuse.{kept-nowhere, kept-at}
 use Rattle.layout.specs.declared.Cluster.{Cluster}
 use Rattle.layout.specs.Layout.{LaidOut}
-use Rattle.edition.specs.Edition.{ownId, DistinctIds}
+use Rattle.edition.specs.Edition.{DistinctIds}
 use Rattle.table.specs.declared.Control.{Control}
 use Rattle.table.specs.Controls.{mostControls}
 use Rattle.table.specs.Same.{Same}

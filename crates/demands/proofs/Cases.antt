@@ -1,12 +1,7 @@
 -- The cases, computed from the definitions.
 --   together, printed-a, answer-b  ==  the proofs of three statements; of the fourth, OtherProtocol, it is AnyProtocol's
-use Prim.Native.Nat.{ℕ}
-use mathlib.Core.Path.{_≡_, refl}
-use mathlib.Core.Bool.{true, false}
-use mathlib.Core.List.{List, [], _∷_, map}
-use lib.ListN.{take, set, replicate}
+use mathlib.Core.Path.{refl}
 use lib.Count.{ones, onesIn}
-use Rattle.ground.specs.Numbers.{byte}
 use Rattle.ground.specs.Refuse.{refuse, placeOr}
 use Rattle.ground.specs.First.{firstFrom, isBefore}
 use Rattle.ground.specs.Lists.{total, any, pad}
@@ -50,8 +45,7 @@ use Rattle.masks.specs.Masks.{bitCarries, bitSet, bitControls, bitsFrom, maskCo
 use Rattle.controls.specs.Controls.{entityControls, controlsTo, controlsOfRun, breach15}
 use Rattle.controls.specs.Growth.{tableOf}
 use Rattle.records.specs.Records.{headOf, recordOf, recordsTo, roomFor, shownIn}
-use lib.IntN.{pos}
-use Rattle.setting.specs.Cases.{minus, found, volume, bass, cases-hold}
+use Rattle.setting.specs.Cases.{cases-hold}
 use Rattle.topology.specs.Reading.{restJudged, surveyJudged, judgedThen, roomJudged, verdictOf, refusedReading, takenReading, readingOf, sheetOf}
 use Rattle.demands.specs.Cases.{caseA, Configurations, Together, PrintedA, caseB, AnswerB}
 

@@ -1,8 +1,8 @@
 -- The writer's refusals are exactly the rules of the list: row by row, what decides each.
-use Prim.Native.Nat.{ℕ, _+_, _≤_, _<_}
-use mathlib.Core.Path.{_≡_, refl, sym, ap, _∙_}
-use mathlib.Core.Logic.{_⊎_, inl, inr, _↔_}
-use mathlib.Core.List.{List, [], _∷_, _++_, map, flatten, List·Memᴰ, List·Memᴰ·head, List·Memᴰ·tail, List·Memᴰ·not-nil, List·Memᴰ·cases-cons}
+use Prim.Native.Nat.{ℕ}
+use mathlib.Core.Path.{_≡_, refl, sym, ap}
+use mathlib.Core.Logic.{_⊎_, inl}
+use mathlib.Core.List.{List, [], _∷_, flatten, List·Memᴰ, List·Memᴰ·head, List·Memᴰ·tail, List·Memᴰ·not-nil, List·Memᴰ·cases-cons}
 use mathlib.Core.Logic.{⊎-elim}
 use native.Mathlib.Omega.{arith}
 use lib.ListN.{length, getD}
@@ -17,7 +17,6 @@ use Rattle.graph.specs.Members.{_∈_}
 use Rattle.scan.specs.Cutting.{Descriptor}
 use Rattle.layout.specs.Fields.{LaidOut, bodyOf}
 use Rattle.layout.specs.Withdrawn.{Printed}
-use Rattle.edition.specs.Audio.{audio}
 use Rattle.entities.specs.Run.{mostEntities}
 use Rattle.cutting.specs.Rules1to9.{Rule8}
 use Rattle.fields.specs.Listed.{Listed, wrong, laid, printed, writtenAs}

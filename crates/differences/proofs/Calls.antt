@@ -2,17 +2,17 @@
 --   every-call  ==  THE LAW, for any bytes
 use Prim.Native.Nat.{ℕ, zero, suc, _+_, _≤_, _<_}
 use mathlib.Core.Path.{_≡_, refl, sym, ap, _∙_}
-use mathlib.Core.Option.{Option, none, some}
+use mathlib.Core.Option.{Option}
 use mathlib.Core.Logic.{⊎-elim}
-use mathlib.Core.List.{List, [], _∷_, _++_, append-nil, List·Memᴰ·head, List·Memᴰ·tail, List·Memᴰ·not-nil, List·Memᴰ·cases-cons, List·Memᴰ·append-cases}
+use mathlib.Core.List.{List, [], _∷_, _++_, List·Memᴰ·head, List·Memᴰ·not-nil, List·Memᴰ·cases-cons, List·Memᴰ·append-cases}
 use lib.ListN.{length}
 use lib.Seq.{append-snoc}
 use native.Mathlib.Omega.{arith}
 use borrow.Author.Tests.{lt-ltb}
 use Rattle.ground.specs.Pick.{yes}
 use Rattle.graph.specs.Members.{_∈_}
-use Rattle.ground.specs.Rising.{Rising, none as nothing, more}
-use Rattle.differences.specs.InTurn.{inTurn, of-turn, AtMostOne, turn-few, turn-rising}
+use Rattle.ground.specs.Rising.{Rising, more}
+use Rattle.differences.specs.InTurn.{of-turn, turn-few, turn-rising}
 use Rattle.differences.specs.Lines.{Line, lineId, lastId, lineAt, linesOf, firstAbove}
 use Rattle.differences.specs.LinesLaws.{line-own, line-few, passed, none-above}
 use Rattle.differences.specs.Exact.{toldThen, called, EveryCall}

@@ -3,14 +3,13 @@
 --   no-line       ==  .. and no line exactly for the same set of records, a Selector's kind mended
 --   line-there    ==  the line of an ID that stands in one of the two sheets is among their lines
 --   LineSays, line-says  ==  what a line says of the two records of its ID
-use Prim.Native.Nat.{ℕ, _+_, _≤_, _<_}
+use Prim.Native.Nat.{ℕ, _≤_, _<_}
 use mathlib.Core.Path.{_≡_, refl, sym, ap, _∙_}
 use mathlib.Core.Option.{Option, none, some}
-use mathlib.Core.Logic.{_⊎_, inl, inr, ⊎-elim, _↔_}
+use mathlib.Core.Logic.{_⊎_, inl, inr, ⊎-elim}
 use mathlib.Core.List.{List, [], _∷_, List·Memᴰ·head, List·Memᴰ·not-nil, List·Memᴰ·cases-cons, map, Memᴰ·map, Memᴰ·of-map}
 use native.Mathlib.Omega.{arith}
 use Rattle.ground.specs.Numbers.{byte, Bytes}
-use Rattle.ground.specs.Lists.{Some}
 use Rattle.graph.specs.Members.{_∈_, along}
 use Rattle.legal.specs.Sheet.{recordsIn, idOf, Sheet}
 use Rattle.ground.specs.Rising.{rising-one}

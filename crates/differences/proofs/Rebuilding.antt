@@ -5,12 +5,12 @@ use Prim.Native.Nat.{ℕ, _≤_, _<_}
 use mathlib.Core.Path.{_≡_, refl, sym, ap, _∙_}
 use mathlib.Core.Bool.{Bool, true, false}
 use mathlib.Core.Option.{Option, none, some}
-use mathlib.Core.Logic.{_⊎_, inl, inr, ⊎-elim, _↔_}
+use mathlib.Core.Logic.{_⊎_, inl, inr, ⊎-elim}
 use mathlib.Core.List.{List, [], _∷_, _++_, map, List·Memᴰ·head, List·Memᴰ·tail, List·Memᴰ·not-nil, List·Memᴰ·cases-cons, List·Memᴰ·append-cases, Memᴰ·append-left, Memᴰ·append-right, Memᴰ·map, Memᴰ·of-map}
 use lib.Dec.{eqb}
 use Rattle.ground.specs.Pick.{pick, Reads, reads-eq, refutes, true≠false}
 use Rattle.ground.specs.Numbers.{Bytes}
-use Rattle.ground.specs.Lists.{any, Some, reads-any}
+use Rattle.ground.specs.Lists.{Some, reads-any}
 use Rattle.graph.specs.Members.{_∈_, along}
 use Rattle.legal.specs.Sheet.{recordsIn, idOf, Sheet}
 use Rattle.differences.specs.Mended.{mended}

@@ -6,19 +6,19 @@
 --   records-same    ==  two records in which no byte differs are the same, a Selector's kind mended
 use Prim.Native.Nat.{ℕ, _*_, _≤_, _<_}
 use mathlib.Core.Path.{_≡_, refl, sym, ap, _∙_}
-use mathlib.Core.Bool.{Bool, true, false, not}
+use mathlib.Core.Bool.{Bool, true, false}
 use mathlib.Core.Option.{Option, none, some}
 use mathlib.Core.Logic.{_↔_, ⊎-elim}
 use mathlib.Core.List.{List, [], _∷_, List·Memᴰ·head, List·Memᴰ·not-nil, List·Memᴰ·cases-cons}
 use lib.Dec.{eqb}
-use lib.ListN.{length, getD}
+use lib.ListN.{length}
 use lib.Seq.{ext-getD}
 use native.Mathlib.Omega.{arith}
 use borrow.Author.Tests.{eqb-true}
-use Rattle.ground.specs.Pick.{pick, Reads, reads-eq, reads-not, shows, true≠false}
+use Rattle.ground.specs.Pick.{pick, Reads, reads-not, shows}
 use Rattle.ground.specs.Numbers.{byte, Bytes}
 use Rattle.ground.specs.Lists.{member-at}
-use Rattle.ground.specs.Places.{firstIn, Finding, finding}
+use Rattle.ground.specs.Places.{Finding, finding}
 use Rattle.graph.specs.Members.{_∈_, along}
 use Rattle.graph.specs.Tables.{getD-tabulate, length-tabulate}
 use Rattle.graph.specs.Borne.{bears}

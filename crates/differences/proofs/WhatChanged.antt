@@ -2,7 +2,7 @@
 use Prim.Native.Nat.{ℕ}
 use mathlib.Core.Path.{_≡_, refl, sym, ap, _∙_}
 use mathlib.Core.Bool.{Bool, true, false}
-use mathlib.Core.Option.{Option, none, some}
+use mathlib.Core.Option.{Option, some}
 use mathlib.Core.Logic.{_⊎_, inl, inr}
 use mathlib.Core.List.{List, [], _∷_, List·Memᴰ·head, List·Memᴰ·tail}
 use lib.Dec.{eqb, ltb}
@@ -16,7 +16,7 @@ use Rattle.legal.specs.SheetLaws.{sheet-judged, judged-one, sheet-given}
 use Rattle.differences.specs.Lines.{Line, lineId, recordBearing, linesOf, firstAbove, differenceOf, lineTold, pairNumber}
 use Rattle.differences.specs.LinesLaws.{told-id, above-id}
 use Rattle.differences.specs.Masks.{numbers-back}
-use Rattle.differences.specs.WhatChanged.{JudgedPair, Sheets, WhatChanged}
+use Rattle.differences.specs.WhatChanged.{JudgedPair, WhatChanged}
 use Rattle.differences.specs.WhatChanged.JudgedPair.{by-left, by-right}
 use Rattle.differences.proofs.Exactly.{LineSays, line-of, lines-exact, no-line}
 use Rattle.differences.proofs.Exactly.LineSays.{says-left, says-right, says-changed}

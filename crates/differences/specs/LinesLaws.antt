@@ -18,7 +18,7 @@ use native.Mathlib.Omega.{arith}
 use native.Mathlib.Nat.{eq-or-lt-of-le}
 use borrow.Author.Tests.{eq-eqb, ne-eqb, lt-ltb, le-ltb}
 use Rattle.ground.specs.Pick.{pick, yes, no, Reads, decided, reads-lt}
-use Rattle.ground.specs.Places.{firstIn, first-some, first-none}
+use Rattle.ground.specs.Places.{first-some, first-none}
 use Rattle.graph.specs.Members.{_∈_}
 use Rattle.graph.specs.Borne.{bears}
 use Rattle.layout.specs.FieldsLaws.{none-some, some-one}

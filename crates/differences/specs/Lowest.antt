@@ -6,7 +6,7 @@
 --   Standing l i r j           ==  l has an i-th record, and r a j-th
 --   lowest-none, lowest-more   ==  among none; one ID more
 use Prim.Native.Nat.{ℕ, _+_, _≤_, _<_}
-use mathlib.Core.Path.{_≡_, refl, sym, _∙_}
+use mathlib.Core.Path.{_≡_, refl}
 use mathlib.Core.Logic.{⊎-elim}
 use mathlib.Core.List.{List}
 use native.Mathlib.Omega.{arith}

@@ -7,7 +7,7 @@
 --   same-compared, compared-same, reads-same-byte  ==  what is so compared is the same exactly where SameByte says so
 --   mended a         ==  the record a with a Selector's kind as 05
 --   mended-byte      ==  its bytes are those of a, as they are compared; mended-long, mended-id: it is as long, and bears the same ID
-use Prim.Native.Nat.{ℕ, _≤_, _<_}
+use Prim.Native.Nat.{ℕ, _<_}
 use mathlib.Core.Path.{_≡_, refl, sym, ap, _∙_}
 use mathlib.Core.Bool.{Bool, true, false, _&&_}
 use mathlib.Core.Logic.{_⊎_, inl, inr, ⊎-elim}
@@ -16,8 +16,8 @@ use native.Mathlib.Omega.{arith}
 use lib.Dec.{eqb, ltb}
 use lib.ListN.{length, set, length-set, List·getD-eq-default}
 use lib.Seq.{getD-set-same, getD-set-other}
-use borrow.Author.Tests.{eq-eqb, ne-eqb}
-use Rattle.ground.specs.Pick.{pick, yes, no, Reads, reads-eq, reads-lt, reads-same, decided}
+use borrow.Author.Tests.{ne-eqb}
+use Rattle.ground.specs.Pick.{pick, no, Reads, reads-eq, reads-lt, reads-same, decided}
 use Rattle.ground.specs.Numbers.{byte}
 use Rattle.legal.specs.Sheet.{idOf}
 

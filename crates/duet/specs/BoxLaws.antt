@@ -18,7 +18,7 @@ use Rattle.sides.specs.declared.Side.the-variants.{Left, Right}
 use Rattle.sides.specs.Sides.{mostTogether}
 use Rattle.duet.specs.declared.Socket.{Socket}
 use Rattle.duet.specs.declared.Duet.{Duet}
-use Rattle.duet.specs.Box.{otherSide, socketOf, withSocket, controlsOn, soundSocket, soundBeside, soundDuet}
+use Rattle.duet.specs.Box.{socketOf, withSocket, controlsOn, soundSocket, soundBeside, soundDuet}
 
 left-last : (x y z : Bool) → (x && (y && z)) ≡ (y && (x && z))
 left-last true true z = refl

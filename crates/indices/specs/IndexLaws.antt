@@ -14,11 +14,9 @@
 use Prim.Native.Nat.{ℕ, _+_, _≤_, _<_}
 use mathlib.Core.Path.{_≡_, refl, sym, ap, subst, _∙_}
 use mathlib.Core.Bool.{Bool, true, false}
-use mathlib.Core.Logic.{_↔_, _⊎_, ⊎-elim}
-use mathlib.Core.List.{List, [], _++_, flatten, append-nil}
+use mathlib.Core.List.{List, [], flatten, append-nil}
 use native.Mathlib.Omega.{arith}
-use native.Mathlib.Nat.{zero-add}
-use lib.ListN.{length, getD, take}
+use lib.ListN.{length, take}
 use lib.Dec.{eqb}
 use borrow.Author.Tests.{eq-eqb, ne-eqb, eqb-true}
 use Rattle.ground.specs.declared.Place.{Place}
@@ -26,13 +24,13 @@ use Rattle.ground.specs.declared.Place.the-variants.{Nowhere, At}
 use Rattle.ground.specs.declared.Refusal.{Refusal}
 use Rattle.ground.specs.Pick.{pick, yes, no}
 use Rattle.ground.specs.Lists.{total, total-rises}
-use Rattle.ground.specs.First.{Sound, Breaks, first-nowhere, first-at, sound-each}
+use Rattle.ground.specs.First.{Breaks, first-nowhere, first-at, sound-each}
 use Rattle.ground.specs.Places.{FirstPlace, first-some}
 use Rattle.ground.specs.Indexed.{WrongAt, breaks-index}
 use Rattle.ground.specs.Refuse.{none, refuse, Chain, chain-end, chain-more, chain-none}
 use Rattle.ground.specs.Rows.{Rows, row, Decides, Answers}
 use Rattle.graph.specs.Members.{_∈_}
-use Rattle.scan.specs.Cutting.{Descriptor, Cutting, rest}
+use Rattle.scan.specs.Cutting.{Descriptor, rest}
 use Rattle.scan.specs.CuttingLaws.{cutting-rest}
 use Rattle.scan.specs.Search.{searched}
 use Rattle.layout.specs.Layout.{entityOf, isUnknown}

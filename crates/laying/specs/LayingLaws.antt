@@ -7,21 +7,20 @@
 --   selector-pasted, feature-pasted, printed-pasted  ==  .. and so of the others
 --   paste-short, paste-behind, paste-done  ==  the ways out of paste
 --   lay-none, lay-short, lay-behind, lay-done  ==  the ways out of lay; lay-small, lay-room: what the last asks for
-use Prim.Native.Nat.{ℕ, suc, _+_, _-_, _/_, _%_, _≤_, _<_}
+use Prim.Native.Nat.{ℕ, _+_, _-_, _/_, _%_, _≤_, _<_}
 use native.Mathlib.Omega.{arith}
 use mathlib.Core.Path.{_≡_, refl, sym, ap, _∙_}
-use mathlib.Core.Bool.{Bool, true, false, _&&_}
-use mathlib.Core.Logic.{_⊎_, inl, inr, ⊎-elim}
-use mathlib.Core.List.{List, [], _∷_, _++_, append-assoc}
+use mathlib.Core.Bool.{Bool, true, false}
+use mathlib.Core.List.{List, [], _∷_, _++_}
 use lib.ListN.{length, length-append}
 use lib.Dec.{leb}
 use borrow.Author.Tests.{le-leb, lt-leb, leb-true, leb-false}
-use Rattle.ground.specs.Pick.{pick, yes, no, Reads, shows, refutes, decided, reads-and, reads-le}
+use Rattle.ground.specs.Pick.{pick, yes, no, Reads, shows, refutes, reads-and, reads-le}
 use Rattle.layout.specs.Format.{TwoBytes, twoOf}
 use Rattle.layout.specs.Fields.{mixer, selector, feature, bytesOf}
 use Rattle.fields.specs.Listed.{printed, writtenAs}
 use Rattle.laying.specs.Paste.{pasted, pastedIn, pasted-append, pasted-length, pasted-none}
-use Rattle.laying.specs.Laying.{mostLong, shortOf, fitsAt, laidSize, laidIn, Lay}
+use Rattle.laying.specs.Laying.{shortOf, fitsAt, laidSize, laidIn, Lay}
 
 pub short-some : (n : ℕ) → n ≤ 255 → n ≡ shortOf n
 unfolding shortOf

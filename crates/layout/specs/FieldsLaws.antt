@@ -16,16 +16,16 @@ use native.Mathlib.Omega.{arith}
 use mathlib.Core.Path.{_≡_, refl, sym, ap, _∙_}
 use mathlib.Core.Bool.{Bool, true, false}
 use mathlib.Core.Option.{Option, none, some}
-use mathlib.Core.List.{List, [], _∷_, _++_}
-use lib.ListN.{length, take, drop, length-append, length-drop}
+use mathlib.Core.List.{List, [], _∷_}
+use lib.ListN.{length, take, drop, length-drop}
 use lib.Dec.{eqb}
 use borrow.Author.Tests.{eqb-true}
-use Rattle.ground.specs.Pick.{pick, yes, no, refutes, reads-and, reads-within, reads-eq}
+use Rattle.ground.specs.Pick.{pick, yes}
 use Rattle.ground.specs.Numbers.{byte}
 use Rattle.layout.specs.Format.{Value, emit, fits, valueAt, InRange}
 use Rattle.layout.specs.FormatLaws.{found, again, fits-inside, here-at, after-at, fed-part, fed-inside}
 use Rattle.layout.specs.Layouts as kind
-use Rattle.layout.specs.Layouts.{Kind, numberOf, formatOf, mostPins, kinds, kindsIn, kindsOf}
+use Rattle.layout.specs.Layouts.{Kind, numberOf, formatOf, kinds, kindsIn, kindsOf}
 use Rattle.layout.specs.Fields.{Fields, input, output, mixer, selector, feature, layoutBy, valueOf, fieldsAt, bodyOf, descriptorType, bytesOf, InBounds, LaidOut, fieldsBy, fieldsOf, fedBy, fedFrom}
 
 -- ---- the layouts, one by one

@@ -17,11 +17,10 @@ use mathlib.Core.Bool.{Bool, true, _&&_}
 use mathlib.Core.List.{List, [], _∷_, _++_}
 use lib.ListN.{length, take, drop, take-append-drop, length-append, length-drop}
 use lib.Seq.{drop-cons, drop-drop, take-append-seam, drop-append-seam, getD-append-seam, getD-drop, length-take-le, take-suc, take-all, drop-length}
-use lib.Dec.{eqb}
 use borrow.Author.Tests.{eq-eqb, eqb-true, le-leb, leb-true}
 use Rattle.ground.specs.Pick.{within, shows, reads-within, reads-and, reads-true}
 use Rattle.ground.specs.Numbers as at
-use Rattle.layout.specs.Format.{Format, last, rest, byte, source, ranged, word, sources, TwoBytes, wordOf, twoOf, Value, emit, fits, valueAt, InRange, fed, firstSource}
+use Rattle.layout.specs.Format.{Format, last, rest, byte, source, ranged, word, sources, wordOf, twoOf, Value, emit, fits, valueAt, InRange, fed, firstSource}
 
 pub word-two : (n : ℕ) → wordOf (twoOf n) ≡ n
 word-two n = omega arith

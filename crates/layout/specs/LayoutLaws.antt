@@ -11,14 +11,14 @@
 --   selector-pins ==  a Selector's pins are 1 to 24
 use Prim.Native.Nat.{ℕ, _+_, _≤_}
 use mathlib.Core.Path.{_≡_, refl, sym, ap, _∙_}
-use mathlib.Core.Bool.{Bool, true, false}
-use mathlib.Core.Logic.{_⊎_, inl, inr, ⊎-elim, _↔_}
+use mathlib.Core.Bool.{true, false}
+use mathlib.Core.Logic.{_⊎_, inl, inr, ⊎-elim}
 use mathlib.Core.Option.{Option, none, some}
 use mathlib.Core.List.{List, [], _∷_}
 use lib.ListN.{length, take, drop}
 use borrow.Author.Tests.{ne-eqb}
 use native.Mathlib.Omega.{arith}
-use Rattle.ground.specs.Pick.{pick, yes, no, Reads, shows, refutes, true≠false, reads-same, reads-eq, reads-le, reads-and, reads-within}
+use Rattle.ground.specs.Pick.{yes, no, Reads, shows, refutes, true≠false, reads-same, reads-eq, reads-le, reads-and, reads-within}
 use Rattle.ground.specs.Numbers.{byte, word}
 use Rattle.layout.specs.declared.Entity.{Entity}
 use Rattle.layout.specs.declared.Entity.the-variants.{Unknown, Input, Output, Mixer, Selector, Feature}

@@ -7,7 +7,7 @@
 --   OfOne o                 ==  o is what a load may do: it is denied, or changes one control; load-of-one: so is every load
 use Prim.Native.Nat.{ℕ}
 use mathlib.Core.Bool.{Bool, true, false, _&&_}
-use mathlib.Core.List.{List, [], _∷_}
+use mathlib.Core.List.{[], _∷_}
 use Rattle.ground.specs.Pick.{pick}
 use Rattle.setting.specs.Setting.{fitsOf, legalOf, closestTo}
 use Rattle.setting.specs.declared.Sort.{Sort}

@@ -9,7 +9,7 @@ use Prim.Native.Nat.{ℕ, zero, suc, _+_, _*_, _/_, _%_, _≤_, _<_}
 use mathlib.Core.Path.{_≡_, refl, sym, ap, _∙_}
 use mathlib.Core.List.{List, [], _∷_, _++_, flatten, append-nil, List·Memᴰ·head, List·Memᴰ·tail}
 use native.Mathlib.Omega.{arith}
-use native.Mathlib.Nat.{add-zero, suc-mul, zero-mul, mul-div-cancel, div-add-mod', le-of-suc-le-suc}
+use native.Mathlib.Nat.{suc-mul, zero-mul, mul-div-cancel, div-add-mod', le-of-suc-le-suc}
 use lib.ListN.{length, getD, take, drop, length-append}
 use lib.Seq.{take-at, drop-at, drop-drop, take-add, take-length}
 use Rattle.ground.specs.Lists.{pad, pad-length, flatten-append}

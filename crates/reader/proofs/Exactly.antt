@@ -4,40 +4,33 @@
 --   answers                 ==  the verdict is put together by the table's rows, each by what decides it
 --   accepted-exactly, refused-exactly  ==  THE THEOREMS, for every configuration and every room
 use Prim.Native.Nat.{ℕ, _<_}
-use mathlib.Core.Path.{_≡_, refl, sym, ap, _∙_}
+use mathlib.Core.Path.{_≡_, refl}
 use mathlib.Core.List.{List, []}
 use mathlib.Core.Logic.{_↔_}
 use lib.ListN.{length, getD}
 use native.Mathlib.Omega.{arith}
-use Rattle.ground.specs.declared.Refusal.{Refusal}
 use Rattle.ground.specs.Refuse.{none, keptAt}
-use Rattle.ground.specs.Rows.{Rows, end, row, AllKept, FirstBroken, Numbered, Answers, Decides, kept-decides, answers-kept, answers-broken}
-use Rattle.layout.specs.declared.Cluster.{Cluster}
+use Rattle.ground.specs.Rows.{AllKept, Numbered, Answers, Decides, kept-decides, answers-kept, answers-broken}
 use Rattle.layout.specs.Layout.{noCluster}
 use Rattle.edition.specs.Edition.{ownId}
 use Rattle.edition.specs.Audio.{audio}
-use Rattle.cutting.specs.declared.Survey.{Survey}
-use Rattle.cutting.specs.Rules1to9.{headerPlace, Kept, BrokenAt, cuttingRows}
+use Rattle.cutting.specs.Rules1to9.{headerPlace, Kept, BrokenAt}
 use Rattle.cutting.specs.Survey.{surveyOf}
 use Rattle.cutting.specs.Exact.{cutting-answers, cutting-numbered, all-nine, nine-kept}
-use Rattle.ids.specs.Rule10.{Rule10}
-use Rattle.sources.specs.Rule11.{Rule11}
 use Rattle.ids.specs.OwnIds.{own-ids, distinct-ids}
-use Rattle.ranks.specs.Rule12.{Rule12}
-use Rattle.clusters.specs.Rule13.{Rule13, Connected}
+use Rattle.clusters.specs.Rule13.{Connected}
 use Rattle.clusters.specs.Topology.{connected-parts, clusters-shown}
-use Rattle.connections.specs.JudgementLaws.{connectedRows, judged-answers}
+use Rattle.connections.specs.JudgementLaws.{judged-answers}
 use Rattle.streaming.specs.Rule14.{Breaks14}
 use Rattle.terminals.specs.Terminals.{terminalsOf}
 use Rattle.streaming.specs.Tests.{breach14}
 use Rattle.terminals.specs.Standing.{terminals-are, one-each}
 use Rattle.streaming.specs.Breaches.{rule14-kept, rule14-broken}
 use Rattle.controls.specs.Controls.{controlsOf, controlsOfRun, breach15}
-use Rattle.controls.specs.Growth.{tableOf}
 use Rattle.controls.specs.Rule15.{rule15-kept, rule15-broken}
 use Rattle.controls.specs.Reader.{controls-same}
 use Rattle.records.specs.Records.{roomFor}
-use Rattle.records.specs.Sheet.{Rule16, reads-room}
+use Rattle.records.specs.Sheet.{reads-room}
 use Rattle.topology.specs.Reading.{clustersAt, tableFor, restJudged, surveyJudged, judgedThen, roomJudged, verdictOf}
 use Rattle.reader.proofs.Surveyed.{entitiesOf, keptSurvey, survey-kept, represented}
 use Rattle.reader.specs.Configuration.{runOf, Streams, FewControls}

@@ -10,16 +10,15 @@
 --   controls-counted  ==  the answer's count of controls is the table's, whatever the configuration and the sheet
 --   number-told     ==  the number in the answer is that of the refusal
 --   run s t, cluster s t, controls s t  ==  of the configuration t: the run's descriptors, the clusters on IDs, the controls
-use Prim.Native.Nat.{ℕ, _*_, _≤_, _<_}
+use Prim.Native.Nat.{ℕ, _*_, _<_}
 use mathlib.Core.Path.{_≡_, refl, sym, ap, _∙_, subst}
 use mathlib.Core.Bool.{Bool, true, false}
 use mathlib.Core.List.{List, [], _++_}
 use mathlib.Core.Logic.{_⊎_, inl, inr, _↔_}
 use lib.ListN.{length, getD, take, drop}
 use lib.Dec.{eqb}
-use native.Mathlib.Omega.{arith}
 use borrow.Author.Tests.{eq-eqb, ne-eqb}
-use Rattle.ground.specs.Pick.{pick, yes, no, decided, reads-eq, shows}
+use Rattle.ground.specs.Pick.{pick, yes, no, decided, reads-eq}
 use Rattle.ground.specs.Numbers.{byte}
 use Rattle.ground.specs.Lists.{member-at}
 use Rattle.graph.specs.Members.{_∈_}
@@ -45,7 +44,7 @@ use Rattle.records.specs.Sheet.{recordsOf, Rule16, shown-same, record-at}
 use Rattle.records.specs.Bytes.{RecordBytes, bytes-told}
 use Rattle.topology.specs.declared.Reading.{Reading}
 use Rattle.topology.specs.Reading.{clustersAt, verdictOf, refusedReading, takenReading, readingOf, sheetOf}
-use Rattle.reader.proofs.Surveyed.{entitiesOf, keptSurvey, survey-kept, represented}
+use Rattle.reader.proofs.Surveyed.{keptSurvey, survey-kept, represented}
 use Rattle.reader.specs.Configuration.{runOf, Configuration}
 use Rattle.reader.proofs.Exactly.{accepted-exactly, clusters-on, controls-on}
 

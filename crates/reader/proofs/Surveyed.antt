@@ -7,16 +7,14 @@
 --   run-cut        ==  each of the run is one of the cutting's descriptors
 --   represented    ==  so the entities that the reader hands on stand for the run's descriptors
 use Prim.Native.Nat.{ℕ, _+_}
-use mathlib.Core.Path.{_≡_, refl, sym, ap, _∙_}
-use mathlib.Core.List.{List, [], _∷_, _++_, flatten, List·Memᴰ, List·Memᴰ·tail, Memᴰ·append-left, Memᴰ·append-right}
-use lib.ListN.{length, drop, List·getD-append}
-use lib.Seq.{getD-append-add, drop-append-seam}
+use mathlib.Core.Path.{_≡_, ap, _∙_}
+use mathlib.Core.List.{List, _++_, flatten, List·Memᴰ}
+use lib.ListN.{drop}
 use native.Mathlib.Omega.{arith}
 use borrow.Author.Tests.{eq-eqb}
 use Rattle.ground.specs.declared.Refusal.{Refusal}
 use Rattle.ground.specs.Pick.{yes}
 use Rattle.ground.specs.Numbers.{byte}
-use Rattle.ground.specs.Lists.{total, length-flatten, flatten-append, total-append}
 use Rattle.ground.specs.Refuse.{none}
 use Rattle.scan.specs.Cutting.{Descriptor}
 use Rattle.entities.specs.declared.Run.{Run}
@@ -24,7 +22,6 @@ use Rattle.edition.specs.Audio.{audio}
 use Rattle.entities.specs.Run.{runIn}
 use Rattle.entities.specs.Represents.{Represents}
 use Rattle.entities.specs.RepresentsLaws.{run-represents}
-use Rattle.interfaces.specs.InterfaceLaws.{nine}
 use Rattle.groups.specs.Reading.{frameOf}
 use Rattle.cutting.specs.declared.Survey.{Survey}
 use Rattle.cutting.specs.Rules1to9.{headerPlace, Kept}

@@ -5,14 +5,14 @@ use Prim.Native.Nat.{ℕ, _≤_}
 use mathlib.Core.Path.{_≡_, refl, sym, ap, _∙_}
 use mathlib.Core.Bool.{Bool, true, false}
 use mathlib.Core.List.{List, _∷_, _++_, flatten}
-use mathlib.Core.Logic.{_⊎_, inl, inr, _↔_}
+use mathlib.Core.Logic.{inl, inr, _↔_}
 use native.Mathlib.Omega.{arith}
 use lib.Dec.{eqb}
 use lib.ListN.{length, drop}
 use lib.Seq.{drop-at}
 use borrow.Author.Tests.{eq-eqb, ne-eqb, eqb-true, eqb-false}
 use Rattle.ground.specs.declared.Refusal.{Refusal}
-use Rattle.ground.specs.Pick.{pick, yes, no}
+use Rattle.ground.specs.Pick.{yes, no}
 use Rattle.ground.specs.Numbers.{byte}
 use Rattle.ground.specs.declared.Place.{Place}
 use Rattle.ground.specs.declared.Place.the-variants.{Nowhere, At}
@@ -35,7 +35,6 @@ use Rattle.cutting.specs.Exact.{opening-answers, opening-numbered, four-kept}
 use Rattle.records.specs.Sheet.{wholeSheet}
 use Rattle.topology.specs.declared.Reading.{Reading}
 use Rattle.topology.specs.Reading.{judgedThen, verdictOf, refusedReading, readingOf, sheetOf}
-use Rattle.third.specs.declared.SheetAnswer.{SheetAnswer}
 use Rattle.third.specs.Judgement.{thirdThen, thirdVerdict, sheetRefused, thirdAnswer, thirdSheet}
 use Rattle.protocol.specs.Protocol.{version3, protocolOf, sheetReading, eitherReading, eitherSheet}
 use Rattle.reader3.specs.BothEditions.{EitherConfiguration, EitherPlainly, Choice}

@@ -3,24 +3,23 @@
 --   shown-third-rows     ==  every rule is kept exactly where the bytes are a configuration of the edition, and its records have room
 --   third-accepted, third-refused  ==  THE THEOREMS, for every configuration, every cluster buffer and every room
 use Prim.Native.Nat.{ℕ, _+_, _<_}
-use mathlib.Core.Path.{_≡_, refl, sym, ap, _∙_, subst}
+use mathlib.Core.Path.{_≡_, refl, subst}
 use mathlib.Core.List.{List, []}
 use mathlib.Core.Logic.{_↔_, ⊎-elim}
 use lib.ListN.{length, take}
 use native.Mathlib.Omega.{arith}
-use Rattle.ground.specs.declared.Place.{Place}
-use Rattle.ground.specs.declared.Place.the-variants.{Nowhere, At}
+use Rattle.ground.specs.declared.Place.the-variants.{Nowhere}
 use Rattle.ground.specs.declared.Refusal.{Refusal}
 use Rattle.ground.specs.Pick.{within, reads-within}
 use Rattle.ground.specs.First.{Sound, Breaks, firstFrom, first-nowhere, first-at, sound-each}
-use Rattle.ground.specs.Refuse.{none, keptAt, kept-nowhere, kept-at}
-use Rattle.ground.specs.Rows.{Rows, AllKept, FirstBroken, Numbered, Answers, Decides, kept-decides, answers-kept, answers-broken}
+use Rattle.ground.specs.Refuse.{none, keptAt}
+use Rattle.ground.specs.Rows.{Rows, AllKept, Numbered, Answers, Decides, kept-decides, answers-kept, answers-broken}
 use Rattle.scan.specs.Search.{searched}
 use Rattle.graph.specs.Members.{_∈_}
 use Rattle.layout3.specs.Layouts.{LaidOut}
 use Rattle.layout3.specs.Layout.{entityOf, isUnknown}
 use Rattle.layout3.specs.LayoutLaws.{reads-unknown, laid-decided}
-use Rattle.buffer.specs.Clusters.{Buffer, Broken51}
+use Rattle.buffer.specs.Clusters.{Buffer}
 use Rattle.buffer.specs.Reading.{pieces, breach51}
 use Rattle.buffer.specs.BufferLaws.{rule51-nowhere, rule51-at, buffer-pieces}
 use Rattle.edition3.specs.Third.{third, UnknownCluster, Rule52}
@@ -47,11 +46,10 @@ use Rattle.links3.specs.RulesLaws.{rule11-third-nowhere, rule11-third-at, rule5
 use Rattle.keeping3.specs.Keeping.{breach13}
 use Rattle.clusters3.specs.Given.{givenClusters}
 use Rattle.clusters3.specs.Rule13Laws.{third13-nowhere, third13-at}
-use Rattle.records.specs.Records.{roomFor}
-use Rattle.records.specs.Sheet.{Rule16, reads-room}
+use Rattle.records.specs.Sheet.{reads-room}
 use Rattle.third.specs.Judgement.{unlaid, runFor, runJudged, clustersJudged, linksJudged, frameJudged, thirdThen, roomRefused, thirdVerdict}
-use Rattle.reader3.proofs.KeptRun.{entitiesThird, run-kept, represented}
-use Rattle.reader3.specs.ThirdConfiguration.{KeptThird, runIn3, placeIn3, clustersIn, ThirdConfiguration}
+use Rattle.reader3.proofs.KeptRun.{run-kept, represented}
+use Rattle.reader3.specs.ThirdConfiguration.{KeptThird, runIn3, clustersIn}
 use Rattle.reader3.specs.ThirdRefusals.{linkRows, thirdRoomRows, keptThirdRows, thirdRows, thirdTable, RefusedThird, ShownThird}
 
 -- the rows 10 to 13, of a run that stands for descriptors

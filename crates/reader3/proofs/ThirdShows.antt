@@ -16,7 +16,6 @@ use Rattle.ground.specs.Pick.{yes, no}
 use Rattle.ground.specs.Numbers.{byte}
 use Rattle.ground.specs.Lists.{member-at}
 use Rattle.graph.specs.Members.{_∈_}
-use Rattle.layout.specs.declared.Cluster.{Cluster}
 use Rattle.layout.specs.FormatLaws.{stretch-length}
 use Rattle.layout.specs.Layout.{noCluster}
 use Rattle.layout3.specs.declared.Entity.{Entity}
@@ -31,20 +30,17 @@ use Rattle.edition3.specs.Third.{saidBy, third}
 use Rattle.entities.specs.declared.Run.{Run}
 use Rattle.entities.specs.Run.{runIn}
 use Rattle.entities.specs.Represents.{Represents}
-use Rattle.groups.specs.Reading.{frameOf}
 use Rattle.cutting.specs.Context.{opened-one, run-one}
-use Rattle.ranks.specs.Order.{ordered}
-use Rattle.sweep3.specs.Sweep.{givenIds}
 use Rattle.clusters.specs.Rule13.{Connected}
 use Rattle.clusters.specs.Topology.{clusters-one}
-use Rattle.clusters3.specs.Shown.{shownCluster, clustersBy}
+use Rattle.clusters3.specs.Shown.{shownCluster}
 use Rattle.clusters3.specs.Rule13Laws.{third-shown}
 use Rattle.clusters3.specs.InBuffer.{cluster-in-buffer}
 use Rattle.records.specs.Records.{recordSize, recordFor, shownIn}
 use Rattle.records.specs.Bytes.{source-at}
 use Rattle.records.specs.Sheet.{recordsFor, Rule16, wholeSheet, shown-same, record-long, record-at}
 use Rattle.third.specs.declared.SheetAnswer.{SheetAnswer}
-use Rattle.third.specs.Judgement.{runFor, clustersShown, thirdVerdict, sheetRefused, sheetTaken, thirdAnswer, thirdSheet}
+use Rattle.third.specs.Judgement.{clustersShown, thirdVerdict, sheetRefused, sheetTaken, thirdAnswer, thirdSheet}
 use Rattle.reader3.specs.ThirdConfiguration.{runIn3, placeIn3, clustersIn, ThirdConfiguration}
 use Rattle.reader3.specs.ThirdRefusals.{RefusedThird}
 use Rattle.reader3.specs.ThirdRecord.{ShownKind, ThirdSourcesAt, ThirdRecord}

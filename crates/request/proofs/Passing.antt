@@ -4,12 +4,12 @@
 --   along-start, along-inside, along-index, along-offset, along-on, along-one, along-over  ==  its start, its indices, its turn and its end
 use Prim.Native.Nat.{ℕ, zero, suc, _+_, _-_, _*_, _^_, _≤_, _<_, min}
 use mathlib.Core.Path.{_≡_, refl, sym, ap, _∙_}
-use mathlib.Core.List.{List, [], _∷_, _++_, map, map-append, List·Memᴰ, List·Memᴰ·head, List·Memᴰ·tail, List·Memᴰ·cases-cons, List·Memᴰ·not-nil}
-use mathlib.Core.Bool.{Bool, true, false, not, _&&_, _||_}
+use mathlib.Core.List.{List, [], _∷_, _++_, map, map-append, List·Memᴰ, List·Memᴰ·cases-cons, List·Memᴰ·not-nil}
+use mathlib.Core.Bool.{Bool, true, false, _&&_, _||_}
 use mathlib.Core.Logic.{⊎-elim}
 use native.Mathlib.Numerals.{add-one}
 use native.Mathlib.Omega.{arith}
-use lib.ListN.{length, getD, take, drop, length-map, length-set, length-take}
+use lib.ListN.{length, getD, take, drop, length-map, length-take}
 use lib.Seq.{take-suc, length-take-le, take-take, getD-take, take-nil, take-append-seam}
 use mir.Syntax.{w64}
 use mir.Val.{Fits}
@@ -18,7 +18,7 @@ use Rattle.ground.specs.Pick.{pick, yes, no}
 use Rattle.ground.specs.Lists.{any, any-snoc, take-append, take-least, member-at}
 use Rattle.table.specs.declared.Control.{Control}
 use Rattle.table.specs.declared.Table.{Table}
-use Rattle.table.specs.Controls.{mostControls, blankControl, at, placed}
+use Rattle.table.specs.Controls.{mostControls, at, placed}
 use Rattle.address.specs.declared.Sought.{Sought}
 use Rattle.address.specs.Addressed.{mostAddressed}
 use Rattle.setup.specs.declared.Part.{Part}
@@ -37,7 +37,7 @@ use Rattle.request.specs.declared.State.{State}
 use Rattle.request.specs.declared.Answer.{Answer}
 use Rattle.request.specs.Outcome.{Outcome, bytesOf, answerOf, refusal, Answered}
 use Rattle.request.specs.Outcome.Outcome.{refused, got}
-use Rattle.request.specs.Stored.{storedAt, outcomeAt, outcomeOf, indicesIn, Apart, alone, apart, Seated}
+use Rattle.request.specs.Stored.{storedAt, outcomeAt, outcomeOf, indicesIn, Apart, apart, Seated}
 
 abbrev pub passed : Table → Sought → ℕ → List Control
 passed t so i = map (at t) (take i (so .indices))

@@ -2,17 +2,17 @@
 --   is-unsound, is-sound  ==  30, or 30 has nothing against the table
 --   is-missed  ==  .. and no control is addressed, which is 33 or 34
 --   is-there   ==  .. and the indices are those of the addressed controls, of which there are some; is-seated: which are as they should be
-use Prim.Native.Nat.{ℕ, _≤_, _<_}
+use Prim.Native.Nat.{ℕ}
 use mathlib.Core.Path.{_≡_, refl, sym, ap, _∙_}
-use mathlib.Core.List.{List, [], _∷_, List·Memᴰ}
+use mathlib.Core.List.{List, [], _∷_}
 use mathlib.Core.Bool.{Bool, true, false}
 use native.Mathlib.Omega.{arith}
-use lib.ListN.{length, take}
+use lib.ListN.{length}
 use borrow.Author.Tests.{lt-ltb}
-use Rattle.ground.specs.Pick.{pick, yes, no}
+use Rattle.ground.specs.Pick.{pick, yes}
 use Rattle.ground.specs.Lists.{pad-front}
 use Rattle.table.specs.declared.Table.{Table}
-use Rattle.table.specs.Controls.{mostControls, at}
+use Rattle.table.specs.Controls.{at}
 use Rattle.sound.specs.Sound.{soundOf}
 use Rattle.sound.specs.Meaning.{sound-reads}
 use Rattle.address.specs.declared.Sought.{Sought}

@@ -15,7 +15,6 @@ use Rattle.ground.specs.declared.Place.{Place}
 use Rattle.ground.specs.declared.Place.the-variants.{Nowhere, At}
 use Rattle.ground.specs.Refuse.{none, refuse}
 use Rattle.ground.specs.Lists.{member-index}
-use Rattle.ground.specs.Rows.{Rows, end, row, FirstBroken}
 use Rattle.graph.specs.Members.{_∈_}
 use Rattle.graph.specs.Ranked.{ranks-all, order-short}
 use Rattle.edition.specs.Edition.{ownId}
@@ -33,7 +32,7 @@ use Rattle.cutting.specs.Survey.{surveyOf}
 use Rattle.topology.specs.Reading.{judgedThen, roomJudged, verdictOf}
 use Rattle.topology.specs.Verdict.{judged-chain, verdict-whole}
 use Rattle.reader.specs.Configuration.{runOf, Configuration}
-use Rattle.reader.specs.Refusals.{tableOfRows, Refused}
+use Rattle.reader.specs.Refusals.{Refused}
 use Rattle.reader.proofs.Surveyed.{entitiesOf, survey-kept, represented}
 use Rattle.reader.proofs.Exactly.{accepted-exactly, refused-exactly}
 use Rattle.reader.proofs.NeverSixteen.{never-sixteen}
@@ -42,7 +41,6 @@ use Rattle.upstream.specs.Ways.{Way, written}
 use Rattle.upstream.specs.Telling.{mostDepth, mostRoutes}
 use Rattle.upstream.specs.Listing.{refusedWith, listed, waysListing, waysList}
 use Rattle.routing.specs.Routes.{OutputOf, Route, EachOnce}
-use Rattle.routing.specs.Routes as routes
 use Rattle.routing.specs.WaysLaws.{ways-rise}
 use Rattle.routing.specs.RoutesLaws.{ways-only, ways-each, listed-one, route-upstream}
 use Rattle.routing.specs.Listing.{namedIn, isOutput, waysFor, listingIn, listIn, listingOf, listAfter}

@@ -1,6 +1,5 @@
 -- Only what has none of the layouts is of kind 0.
 --   kind-unknown  ==  so the kind tells whether the layout was wrong
-use Prim.Native.Nat.{ℕ}
 use mathlib.Core.Path.{_≡_, refl}
 use lib.Dec.{eqb}
 use Rattle.layout3.specs.declared.Entity.{Entity}

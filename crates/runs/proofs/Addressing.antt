@@ -15,7 +15,6 @@ use Rattle.graph.specs.Members.{_∈_}
 use Rattle.table.specs.declared.Control.{Control}
 use Rattle.table.specs.declared.Table.{Table}
 use Rattle.table.specs.Controls.{at}
-use Rattle.table.specs.Keys.{InTable}
 use Rattle.sound.specs.Meaning.{Sound, sound-counted}
 use Rattle.address.specs.Addressed.{wantsChannel}
 use Rattle.address.specs.AddressedLaws.{Named, addressed-named, named-addressed, addressed-rising}

@@ -24,7 +24,7 @@ use Rattle.table.specs.declared.Control.{Control}
 use Rattle.table.specs.declared.Table.{Table}
 use Rattle.table.specs.declared.Sense.{Sense}
 use Rattle.table.specs.declared.Sense.the-variants as sense
-use Rattle.table.specs.First.Seat.{absent, seat}
+use Rattle.table.specs.First.Seat.{seat}
 use Rattle.table.specs.Controls.{at, placed, senseOf, sizeOf, rangeOf}
 use Rattle.table.specs.Same.{Same, same-self, same-by}
 use Rattle.single.specs.Meaning.{SoundAs, loaded-legal}

@@ -6,9 +6,9 @@
 --   load-numbers, request-numbers, accepted-is-0  ==  every step gets 0 or a number of the paper, and 0 exactly where it is accepted: never both
 --   answered-one     ==  two results that the contract of a request allows are equal, and so are the two replies
 use Prim.Native.Nat.{ℕ, _≤_}
-use mathlib.Core.Path.{_≡_, refl, sym, ap, _∙_, subst}
+use mathlib.Core.Path.{_≡_, refl, sym, _∙_, subst}
 use mathlib.Core.List.{List, [], _∷_, map}
-use mathlib.Core.Bool.{Bool, true, false, not, _&&_}
+use mathlib.Core.Bool.{Bool, true, false, _&&_}
 use mathlib.Core.Logic.{⊎-elim}
 use native.Mathlib.Omega.{arith}
 use lib.Dec.{eqb, ltb}
@@ -42,7 +42,7 @@ use Rattle.answers.specs.Answers.{heldBy, allTake, misfits, cutTo, setOf, getOf
 use Rattle.loads.specs.Load.{loadRange, loadBy, loadOn}
 use Rattle.request.specs.declared.State.{State}
 use Rattle.request.specs.declared.Answer.{Answer}
-use Rattle.request.specs.Outcome.{Outcome, numberOf, bytesOf, tableAfter, answerOf, Answered}
+use Rattle.request.specs.Outcome.{Outcome, numberOf, bytesOf, tableAfter, Answered}
 use Rattle.request.specs.Outcome.Outcome.{refused, got, done}
 use Rattle.address.specs.Addressed.{addressedIn, unitIn}
 use Rattle.request.specs.Stored.{outcomeAt}

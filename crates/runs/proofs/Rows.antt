@@ -4,9 +4,9 @@
 --   request-row-one, load-row-one, step-row-one ==  the rows say one number
 use Prim.Native.Nat.{ℕ, _≤_, _<_}
 use mathlib.Core.Path.{_≡_, refl, sym, ap, _∙_, subst}
-use mathlib.Core.List.{List, [], _∷_, map, List·Memᴰ, List·Memᴰ·head, List·Memᴰ·tail, List·Memᴰ·cases-cons, List·Memᴰ·not-nil}
+use mathlib.Core.List.{List, [], _∷_, map, List·Memᴰ, List·Memᴰ·head, List·Memᴰ·tail, List·Memᴰ·not-nil}
 use mathlib.Core.Bool.{Bool, true, false, not, _&&_, _||_}
-use mathlib.Core.Logic.{_⊎_, inl, inr, ⊎-elim, _↔_}
+use mathlib.Core.Logic.{_⊎_, inl, inr, ⊎-elim}
 use native.Mathlib.Omega.{arith}
 use lib.Dec.{eqb, leb, ltb}
 use lib.ListN.{length}
@@ -39,7 +39,7 @@ use Rattle.setup.specs.Asking.{Asking, none, sets, gets, asking, set-no-get}
 use Rattle.deed.specs.Doing.{Doing}
 use Rattle.deed.specs.Doing.Doing.{denied, given, changed}
 use Rattle.answers.specs.Held.{isRanged, ofRange, lacking, unready, takes}
-use Rattle.answers.specs.Answers.{heldBy, sizesOf, sentTo, restOf, allTake, misfits, cutTo, setOf, getOf}
+use Rattle.answers.specs.Answers.{heldBy, sizesOf, sentTo, restOf, allTake, cutTo, setOf, getOf}
 use Rattle.answers.specs.AnswersLaws.{cut-long}
 use Rattle.loads.specs.Load.{loadRange, loadBy, loadOn}
 use Rattle.request.specs.declared.State.{State}
@@ -49,9 +49,9 @@ use Rattle.address.specs.Addressed.{addressedIn, unitIn}
 use Rattle.address.specs.AddressedLaws.{found-stands, none-stands}
 use Rattle.request.specs.Stored.{outcomeAt}
 use Rattle.request.specs.Load.{loadAt, loadOf}
-use Rattle.request.specs.Request.{elsewhereBy, barredBy, doingOf, doneAt, answerAsked, requestOf}
+use Rattle.request.specs.Request.{elsewhereBy, barredBy, doneAt, answerAsked, requestOf}
 use Rattle.runs.specs.RequestRows.{Row, given as is-given, passed, NoRow, Owned, Addressed, Along, HasRange, Unloaded, Outside, Beyond, first, later, RangedThere, InRange, bytesSent, lastRows, controlRows, addressedRows, askedRows, requestRows, loadRows, stepRows}
-use Rattle.runs.specs.Runs.{namedBy, Step, stepOf}
+use Rattle.runs.specs.Runs.{Step, stepOf}
 use Rattle.runs.specs.Runs.Step.{load, request}
 use Rattle.runs.proofs.Taken.{addressedAt}
 use Rattle.runs.proofs.Addressing.{addressed-low, among-names, addressed-found, addressed-one}

@@ -7,7 +7,7 @@
 --   stored-same, stored-pins, stored-sound  ==  where each control that is stored is the same control as the one that stood there, with as many
 --                       pins, so it is at every index; and 30 has nothing against the table if it has nothing against those
 use Prim.Native.Nat.{ℕ, _<_}
-use mathlib.Core.Path.{_≡_, refl, sym, ap, _∙_}
+use mathlib.Core.Path.{_≡_, refl, _∙_}
 use mathlib.Core.List.{List, [], _∷_, List·Memᴰ·head, List·Memᴰ·tail, List·Memᴰ·cases-cons, List·Memᴰ·not-nil}
 use mathlib.Core.Logic.{_⊎_, inl, inr, ⊎-elim}
 use native.Mathlib.Omega.{arith}
@@ -22,7 +22,7 @@ use Rattle.table.specs.Same.{Same, same-self, same-back, same-by}
 use Rattle.table.specs.Placed.{placed-here, placed-elsewhere}
 use Rattle.single.specs.Meaning.{SoundAs}
 use Rattle.sound.specs.Meaning.{Sound}
-use Rattle.request.specs.Stored.{storedAt, Apart, alone, apart}
+use Rattle.request.specs.Stored.{storedAt, Apart, apart}
 
 pub data Pair : List ℕ → List Control → ℕ → Control → Type 0 where
   front : {p : ℕ} {ps : List ℕ} {c : Control} {cs : List Control} → Pair (p ∷ ps) (c ∷ cs) p c

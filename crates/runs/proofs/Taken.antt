@@ -32,7 +32,7 @@ use Rattle.sound.specs.Sound.{soundOf}
 use Rattle.setup.specs.declared.Part.{Part}
 use Rattle.setup.specs.declared.Asked.{Asked}
 use Rattle.setup.specs.declared.Asked.the-variants as asks
-use Rattle.setup.specs.Setup.{AsksSet, AsksGet, codeOf, askedOf, targetIn}
+use Rattle.setup.specs.Setup.{AsksSet, AsksGet, codeOf, askedOf}
 use Rattle.setup.specs.Asking.{Asking, none, sets, gets, asking}
 use Rattle.deed.specs.Doing.{Doing}
 use Rattle.deed.specs.Doing.Doing.{denied, given, changed}
@@ -40,7 +40,6 @@ use Rattle.answers.specs.Held.{lacking, unready}
 use Rattle.answers.specs.Answers.{heldBy, sizesOf, allTake, allSet, misfits, cutTo, setOf, getOf}
 use Rattle.loads.specs.Load.{loadedWith, loadRange, loadBy, loadOn}
 use Rattle.request.specs.declared.State.{State}
-use Rattle.request.specs.Outcome.{Outcome}
 use Rattle.request.specs.Outcome.Outcome.{refused, got, done}
 use Rattle.address.specs.Addressed.{addressedIn}
 use Rattle.request.specs.Stored.{storedAt, outcomeAt}

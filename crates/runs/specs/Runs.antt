@@ -19,7 +19,6 @@
 --   sent step         ==  the data of a request
 --   Wired run         ==  the data of every request of the run are bytes
 use Prim.Native.Nat.{ℕ}
-use mathlib.Core.Path.{_≡_}
 use mathlib.Core.List.{List, [], _∷_, _++_, map, List·Memᴰ}
 use mathlib.Core.Bool.{Bool, true, false, _&&_}
 use lib.Dec.{eqb}

@@ -7,10 +7,10 @@
 --   Sweeps s run given ==  given is that, as an array by ID
 --   Sweeping s run given i  ==  the loop along the run has come to the i-th entity
 --   sweeping-start, sweeping-long, sweeping-more, sweeping-over  ==  its start, its array's length, its step and its end
-use Prim.Native.Nat.{ℕ, zero, suc, _+_, _≤_, _<_}
-use mathlib.Core.Path.{_≡_, refl, sym, ap, _∙_}
+use Prim.Native.Nat.{ℕ, suc, _+_, _≤_, _<_}
+use mathlib.Core.Path.{_≡_, sym, ap, _∙_}
 use mathlib.Core.Bool.{false}
-use mathlib.Core.List.{List, [], _∷_, map}
+use mathlib.Core.List.{List, map}
 use mathlib.Core.Logic.{⊎-elim}
 use native.Mathlib.Omega.{arith}
 use native.Mathlib.Numerals.{add-one}

@@ -26,7 +26,6 @@ use Rattle.ground.specs.Pick.{pick}
 use Rattle.ground.specs.Refuse.{none, refuse, keptAt}
 use Rattle.layout.specs.declared.Cluster.{Cluster}
 use Rattle.layout.specs.Layout.{noCluster}
-use Rattle.entities.specs.declared.Run.{Run}
 use Rattle.entities.specs.Run.{mostEntities, blankNode}
 use Rattle.cutting.specs.declared.Survey.{Survey}
 use Rattle.cutting.specs.Survey.{surveyOf, verdictThen}

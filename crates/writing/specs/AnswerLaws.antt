@@ -7,17 +7,17 @@
 --   writes-one           ==  two results that the writer's contract allows are equal, and so are the two buffers
 use Prim.Native.Nat.{ℕ, _+_, _-_, _/_, _%_, _≤_, _<_}
 use mathlib.Core.Path.{_≡_, refl, sym, ap, _∙_}
-use mathlib.Core.Bool.{Bool, true, false}
+use mathlib.Core.Bool.{true, false}
 use mathlib.Core.List.{List, [], _∷_, _++_, flatten}
 use native.Mathlib.Omega.{arith}
 use native.Mathlib.Nat.{zero-add}
 use lib.ListN.{length, drop, length-append, length-take}
-use lib.Dec.{eqb, leb}
-use borrow.Author.Tests.{le-leb, lt-leb, eq-eqb, ne-eqb}
+use lib.Dec.{eqb}
+use borrow.Author.Tests.{le-leb, lt-leb, ne-eqb}
 use Rattle.ground.specs.declared.Place.{Place}
 use Rattle.ground.specs.declared.Place.the-variants.{Nowhere, At}
 use Rattle.ground.specs.declared.Refusal.{Refusal}
-use Rattle.ground.specs.Pick.{pick, yes, no, shows, refutes, within, reads-within}
+use Rattle.ground.specs.Pick.{yes, no, shows, refutes, within, reads-within}
 use Rattle.ground.specs.Refuse.{none, refuse, Chain, chain-more}
 use Rattle.ground.specs.Lists.{part}
 use Rattle.entities.specs.Run.{mostEntities}
@@ -29,7 +29,7 @@ use Rattle.writing.specs.declared.EntityList.{EntityList}
 use Rattle.writing.specs.declared.Wrote.{Wrote}
 use Rattle.writing.specs.declared.Judged.{Judged}
 use Rattle.fields.specs.Listed.{Listed}
-use Rattle.writing.specs.Writing.{mostNumbers, mostRun, listOf, descriptorsOf, wholeOf, writtenOf, breach8, breach9, entitiesThen, breach47, breach48, roomThen, writerVerdict, answersIn, WroteBy, Writes, LaidRun, JudgedRun}
+use Rattle.writing.specs.Writing.{mostRun, listOf, descriptorsOf, wholeOf, writtenOf, breach8, breach9, entitiesThen, breach47, breach48, roomThen, writerVerdict, answersIn, WroteBy, Writes, LaidRun, JudgedRun}
 use Rattle.writing.specs.LaidLaws.{listed-count}
 
 module _ (v : Refusal) (w before : List ℕ) where

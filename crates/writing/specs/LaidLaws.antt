@@ -6,26 +6,23 @@
 --   too-long, wrong-here, laying-on  ==  a turn: the next descriptor passes 255 bytes or has none, has a wrong layout, or is laid behind the others
 --   laid-long        ==  the buffer stays as long as it was
 --   turn-room, turn-fits  ==  where it is laid, it ends inside the buffer, which has 8,160 bytes
-use Prim.Native.Nat.{ℕ, zero, suc, _+_, _-_, _*_, _≤_, _<_}
+use Prim.Native.Nat.{ℕ, suc, _+_, _-_, _*_, _≤_, _<_}
 use mathlib.Core.Path.{_≡_, refl, sym, ap, _∙_}
 use mathlib.Core.Bool.{Bool, true, false, _||_}
-use mathlib.Core.Logic.{_⊎_, inl, inr, ⊎-elim}
-use mathlib.Core.List.{List, [], _∷_, _++_, map, flatten, append-assoc, append-nil}
+use mathlib.Core.Logic.{_⊎_, inr, ⊎-elim}
+use mathlib.Core.List.{List, [], _∷_, _++_, flatten, append-assoc, append-nil}
 use native.Mathlib.Omega.{arith}
 use native.Mathlib.Numerals.{add-one}
 use lib.ListN.{length, getD, take, drop, length-map, length-append, List·getD-map}
 use lib.Seq.{take-at, drop-at, take-all, take-suc, length-take-le}
-use lib.Dec.{ltb, leb}
-use Rattle.ground.specs.declared.Place.{Place}
+use lib.Dec.{ltb}
 use Rattle.ground.specs.declared.Place.the-variants.{Nowhere, At}
-use Rattle.ground.specs.Pick.{pick, yes, no, Reads, shows, refutes, reads-same, reads-or, reads-lt, reads-and, reads-le}
-use Rattle.ground.specs.Lists.{part, pad, pad-length, pad-at, total, total-one, length-flatten, flatten-append}
+use Rattle.ground.specs.Pick.{pick, Reads, shows, refutes, reads-same, reads-or, reads-lt, reads-and, reads-le}
+use Rattle.ground.specs.Lists.{part, pad, pad-length, pad-at, total, total-one, flatten-append}
 use Rattle.ground.specs.Places.{Come, come-none, come-over, come-here, come-more}
 use Rattle.layout.specs.Withdrawn.{layoutNumber, isWrong, isPrinted, reads-wrong}
 use Rattle.layout.specs.Layout.{entityOf}
-use Rattle.edition.specs.Audio.{audio}
-use Rattle.fields.specs.declared.Item.{Item}
-use Rattle.fields.specs.Listed.{Listed, wrong, writtenAs, listedWith, blankItem}
+use Rattle.fields.specs.Listed.{wrong, writtenAs, listedWith, blankItem}
 use Rattle.laying.specs.Paste.{pasted, pasted-length}
 use Rattle.laying.specs.Laying.{mostLong, fitsAt, laidSize, laidIn, Lay}
 use Rattle.writing.specs.declared.EntityList.{EntityList}

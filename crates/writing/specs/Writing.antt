@@ -40,11 +40,7 @@ use Rattle.layout.specs.Fields.{descriptorType}
 use Rattle.layout.specs.Withdrawn.{isWrong}
 use Rattle.edition.specs.Audio.{audio}
 use Rattle.entities.specs.Run.{mostEntities}
-use Rattle.cutting.specs.Rules1to9.{Rule8, WrongLayout, NoneWithdrawn, BrokenAt}
-use Rattle.ids.specs.Rule10.{Rule10}
-use Rattle.sources.specs.Rule11.{Rule11}
-use Rattle.ranks.specs.Rule12.{Rule12}
-use Rattle.clusters.specs.Rule13.{Rule13}
+use Rattle.cutting.specs.Rules1to9.{Rule8, WrongLayout, BrokenAt}
 use Rattle.fields.specs.Listed.{Listed, writtenAs, listedWith, blankItem}
 use Rattle.laying.specs.Laying.{mostLong}
 use Rattle.indices.specs.Indices.{indexedThen}

@@ -1,16 +1,14 @@
 -- What is asked is what the control holds says.
 use borrow.Author.Needs.{needs}
 use Prim.Native.Nat.{ℕ}
-use mathlib.Core.Path.{_≡_, refl, ap, _∙_}
-use mathlib.Core.List.{List}
+use mathlib.Core.Path.{_≡_}
 use mathlib.Core.Bool.{Bool}
-use lib.ListN.{take}
 use Rattle.table.specs.declared.Control.{Control}
 use Rattle.table.specs.declared.Sense.{Sense}
 use Rattle.table.specs.Controls.{sizeOf}
 use Rattle.setup.specs.declared.Part.{Part}
-use Rattle.answers.specs.Held.{lacking, unready, valueIn, takes, storedFor, withCur}
-use Rattle.answers.specs.Answers.{heldBy, sizeIn, setAsks, setTo, getAsks}
+use Rattle.answers.specs.Held.{lacking, unready}
+use Rattle.answers.specs.Answers.{heldBy, getAsks}
 use Rattle.answers.proofs.get_asks.Statement.{statement}
 use Rattle.answers.proofs.get_asks.Tie as tie
 

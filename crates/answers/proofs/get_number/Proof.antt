@@ -1,10 +1,10 @@
 -- Each refusal ends it in the paper's order.
 use borrow.Author.Needs.{needs}
 use Prim.Native.Nat.{ℕ, _≤_, _<_}
-use mathlib.Core.Path.{_≡_, refl, sym, _∙_}
+use mathlib.Core.Path.{_≡_, sym, _∙_}
 use mathlib.Core.Bool.{Bool, true, false}
 use borrow.Author.Tests.{lt-ltb, le-ltb}
-use Rattle.ground.specs.Pick.{pick, yes, no}
+use Rattle.ground.specs.Pick.{yes, no}
 use Rattle.answers.specs.Answers.{getNumber}
 use Rattle.answers.proofs.get_number.Statement.{statement}
 use Rattle.answers.proofs.get_number.Tie as tie

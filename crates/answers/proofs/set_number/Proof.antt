@@ -1,11 +1,11 @@
 -- Each refusal ends it in the paper's order.
 use borrow.Author.Needs.{needs}
 use Prim.Native.Nat.{ℕ}
-use mathlib.Core.Path.{_≡_, refl, sym, _∙_}
+use mathlib.Core.Path.{_≡_, sym, _∙_}
 use mathlib.Core.Bool.{Bool, true, false, not, _||_}
 use lib.Dec.{eqb}
 use borrow.Author.Tests.{eq-eqb, ne-eqb, not-true, not-false}
-use Rattle.ground.specs.Pick.{pick, yes, no}
+use Rattle.ground.specs.Pick.{yes, no}
 use Rattle.answers.specs.Answers.{setNumber}
 use Rattle.answers.proofs.set_number.Statement.{statement}
 use Rattle.answers.proofs.set_number.Tie as tie

@@ -1,7 +1,7 @@
 -- What the control holds says what is stored.
 use borrow.Author.Needs.{needs}
 use Prim.Native.Nat.{ℕ}
-use mathlib.Core.Path.{_≡_, sym, _∙_}
+use mathlib.Core.Path.{_≡_}
 use Rattle.setting.specs.Setting.{closestTo}
 use Rattle.setting.specs.declared.Sort.{Sort}
 use Rattle.table.specs.Controls.{rangeOf}

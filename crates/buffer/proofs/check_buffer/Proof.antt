@@ -1,10 +1,9 @@
 -- A search along the cluster descriptors for an ID that is 0 or repeated; where none is found, the scan has reached the end or the place of a misfit.
 use borrow.Author.Needs.{needs}
 use Prim.Native.Nat.{ℕ, _+_, _-_, _≤_, _<_}
-use mathlib.Core.Path.{_≡_, refl, sym, ap, _∙_}
+use mathlib.Core.Path.{_≡_, sym, ap, _∙_}
 use mathlib.Core.Bool.{Bool, true, false, _||_}
-use mathlib.Core.List.{List, [], _++_, append-nil}
-use native.Mathlib.Omega.{arith}
+use mathlib.Core.List.{List, _++_, append-nil}
 use lib.ListN.{length}
 use lib.Dec.{eqb}
 use borrow.Author.Tests.{eq-eqb, ne-eqb}
@@ -12,8 +11,8 @@ use Rattle.ground.specs.declared.Place.{Place}
 use Rattle.ground.specs.declared.Place.the-variants.{Nowhere, At}
 use Rattle.ground.specs.Pick.{yes, no}
 use Rattle.ground.specs.Lists.{part, total}
-use Rattle.ground.specs.First.{firstFrom, isBefore}
-use Rattle.scan.specs.Cutting.{endBy, restBy, reachBy, breachBy}
+use Rattle.ground.specs.First.{isBefore}
+use Rattle.scan.specs.Cutting.{endBy, reachBy, breachBy}
 use Rattle.scan.specs.PieceLaws.{rest-none}
 use Rattle.scan.specs.Search.{PassedBy, start, stop-by, hit-by, miss, ordered-by, inside-by, falls-by}
 use Rattle.buffer.specs.Clusters.{twoBytes, clusterId}

@@ -10,7 +10,6 @@ use native.Mathlib.Omega.{arith}
 use lib.Dec.{ltb}
 use Rattle.ground.specs.Pick.{decided, reads-lt}
 use Rattle.legal.specs.Sheet.{countIn, recordAt, idAt}
-use Rattle.differences.specs.declared.Difference.{Difference}
 use Rattle.differences.specs.declared.Difference.the-variants as difference
 use Rattle.differences.specs.Lines.{Line, lastId, recordBearing, differing, changedLine, lineOf, lineAt, linesOf, firstAbove, bitsSet, differenceOf}
 use Rattle.differences.specs.Lines.Line.{leftOnly, rightOnly, changed}

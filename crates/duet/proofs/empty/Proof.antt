@@ -2,9 +2,6 @@
 use borrow.Author.Needs.{needs}
 use Rattle.duet.proofs.empty.Statement.{statement}
 use Rattle.duet.proofs.empty.Tie as tie
-use Rattle.duet.proofs.empty.Reads as reads
-use Rattle.duet.proofs.empty.Lts as lts
-use Rattle.duet.proofs.empty_socket.Reads as empty-socket-reads
 
 empty-socket-requires : tie.Need-empty-socket-requires
 empty-socket-requires c κs = search needs

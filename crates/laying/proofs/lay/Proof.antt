@@ -1,11 +1,10 @@
 -- Four ways out: no descriptor of at most 255 bytes, fewer bytes in the buffer, no room from the place on, or it is put.
 use borrow.Author.Needs.{needs}
-use Prim.Native.Nat.{ℕ, _+_, _-_, _≤_, _<_}
-use mathlib.Core.Path.{_≡_, refl, sym, ap, _∙_}
+use Prim.Native.Nat.{ℕ, _-_, _≤_, _<_}
+use mathlib.Core.Path.{_≡_, refl}
 use mathlib.Core.List.{List}
 use lib.ListN.{length}
 use Rattle.ground.specs.Lists.{part}
-use Rattle.fields.specs.declared.Numbers.{Numbers}
 use Rattle.fields.specs.declared.Item.{Item}
 use Rattle.fields.specs.Listed.{writtenAs, entityFrom, listedWith}
 use Rattle.laying.specs.Paste.{pasted}

@@ -1,6 +1,6 @@
 -- As many lines as the table counts, or none.
 use borrow.Author.Needs.{needs}
-use Prim.Native.Nat.{ℕ, _≤_, _<_}
+use Prim.Native.Nat.{_≤_, _<_}
 use mathlib.Core.Path.{_≡_, sym}
 use borrow.Author.Tests.{le-leb, lt-leb}
 use Rattle.ground.specs.Pick.{yes, no}

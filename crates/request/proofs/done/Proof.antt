@@ -6,7 +6,6 @@ use Rattle.table.specs.declared.Table.{Table}
 use Rattle.table.specs.Controls.{placed}
 use Rattle.loads.specs.declared.Deed.{Deed}
 use Rattle.request.specs.declared.State.{State}
-use Rattle.request.specs.declared.Answer.{Answer}
 use Rattle.request.specs.Outcome.{deedAnswer}
 use Rattle.request.proofs.done.Statement.{statement}
 use Rattle.request.proofs.done.Tie as tie

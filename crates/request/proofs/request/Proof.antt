@@ -2,13 +2,12 @@
 use borrow.Author.Needs.{needs}
 use Prim.Native.Nat.{ℕ}
 use mathlib.Core.Path.{_≡_, refl, sym, ap, _∙_}
-use mathlib.Core.List.{List, [], _∷_, map}
+use mathlib.Core.List.{List, [], _∷_}
 use lib.ListN.{length}
 use borrow.Author.Tests.{eq-eqb, ne-eqb}
 use Rattle.ground.specs.Pick.{yes, no}
 use Rattle.table.specs.declared.Control.{Control}
 use Rattle.table.specs.declared.Table.{Table}
-use Rattle.table.specs.Controls.{at}
 use Rattle.setup.specs.declared.Target.{Target}
 use Rattle.setup.specs.declared.Part.{Part}
 use Rattle.setup.specs.declared.Asked.{Asked}
@@ -23,8 +22,8 @@ use Rattle.answers.specs.Answers.{setOf, getOf}
 use Rattle.request.specs.declared.State.{State}
 use Rattle.request.specs.declared.Answer.{Answer}
 use Rattle.request.specs.Outcome.{Outcome, bytesOf, answerOf, refusal, Answered}
-use Rattle.request.specs.Outcome.Outcome.{refused, got, done}
-use Rattle.request.specs.Stored.{outcomeAt, outcomeOf, indicesIn, Seated}
+use Rattle.request.specs.Outcome.Outcome.{refused}
+use Rattle.request.specs.Stored.{outcomeOf, indicesIn, Seated}
 use Rattle.request.specs.Request.{barredBy, doingOf, doneAt, answerAsked, requestOf}
 use Rattle.request.proofs.Searched.{is-unsound, is-sound, is-missed, is-indices, is-there, is-seated}
 use Rattle.request.proofs.Storing.{refuses}

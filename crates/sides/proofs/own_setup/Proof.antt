@@ -2,9 +2,6 @@
 use borrow.Author.Needs.{needs}
 use Rattle.sides.proofs.own_setup.Statement.{statement}
 use Rattle.sides.proofs.own_setup.Tie as tie
-use Rattle.sides.proofs.own_setup.Reads as reads
-use Rattle.sides.proofs.own_setup.Lts as lts
-use Rattle.scan.proofs.byte_at.Reads as byte-at-reads
 
 byte-at-requires : tie.Need-byte-at-requires
 byte-at-requires c κs = search needs

@@ -1,7 +1,7 @@
 -- The number is the key, and bytes are below 256.
 use borrow.Author.Needs.{needs}
-use Prim.Native.Nat.{ℕ, _+_, _*_, _<_}
-use mathlib.Core.Path.{_≡_, refl}
+use Prim.Native.Nat.{_+_, _*_, _<_}
+use mathlib.Core.Path.{refl}
 use native.Mathlib.Omega.{arith}
 use Rattle.table.specs.declared.Control.{Control}
 use Rattle.sound.specs.Rising.{keyOf, Keyed}

@@ -4,7 +4,7 @@ use Prim.Native.Nat.{ℕ}
 use mathlib.Core.Path.{_≡_, sym, ap, _∙_}
 use mathlib.Core.Bool.{Bool, true, false}
 use mathlib.Core.List.{List}
-use Rattle.ground.specs.Pick.{pick, yes, no}
+use Rattle.ground.specs.Pick.{yes, no}
 use Rattle.layout.specs.declared.Cluster.{Cluster}
 use Rattle.pins.specs.Same.{allSame}
 use Rattle.edition.specs.Audio.{named}

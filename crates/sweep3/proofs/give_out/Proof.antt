@@ -1,12 +1,12 @@
 -- By its three ways out: it names a cluster, it has no pin, or pin 1's goes out.
 use borrow.Author.Needs.{needs}
-use Prim.Native.Nat.{ℕ, _≤_, _<_}
+use Prim.Native.Nat.{ℕ, _<_}
 use mathlib.Core.Path.{_≡_, refl, sym, ap, _∙_}
-use mathlib.Core.Bool.{Bool, true, false}
+use mathlib.Core.Bool.{true, false}
 use mathlib.Core.List.{List, [], _∷_, map}
 use native.Mathlib.Omega.{arith}
 use lib.ListN.{length, getD}
-use Rattle.ground.specs.Pick.{pick, yes, no}
+use Rattle.ground.specs.Pick.{yes, no}
 use Rattle.layout3.specs.declared.Facts.{Facts}
 use Rattle.edition3.specs.Third.{saidBy}
 use Rattle.entities.specs.declared.Node.{Node}

@@ -14,7 +14,7 @@ use Rattle.ranks.specs.Order.{ordered}
 use Rattle.ranks.specs.Breach.{breach12}
 use Rattle.links3.specs.Links.{breach11Third}
 use Rattle.third.specs.declared.Finding.{Finding}
-use Rattle.third.specs.Judgement.{linksJudged, clustersJudged, nothingFound, allFound, foundThen, clusteredIn, linkedIn}
+use Rattle.third.specs.Judgement.{linksJudged, nothingFound, allFound, foundThen, clusteredIn, linkedIn}
 use Rattle.third.specs.Verdict.{found-refused}
 use Rattle.third.proofs.judge_links.Statement.{statement}
 use Rattle.third.proofs.judge_links.Tie as tie

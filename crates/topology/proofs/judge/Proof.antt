@@ -1,12 +1,12 @@
 -- By its two ways out: refused by the rules 1 to 9, or judged by those behind them.
 use borrow.Author.Needs.{needs}
 use Prim.Native.Nat.{ℕ}
-use mathlib.Core.Path.{_≡_, refl, sym, ap, _∙_}
+use mathlib.Core.Path.{_≡_, sym, ap, _∙_}
 use mathlib.Core.List.{List}
 use Rattle.ground.specs.declared.Refusal.{Refusal}
 use Rattle.ground.specs.Refuse.{none}
 use Rattle.cutting.specs.declared.Survey.{Survey}
-use Rattle.cutting.specs.Survey.{verdict, verdictThen, surveyOf}
+use Rattle.cutting.specs.Survey.{verdict, surveyOf}
 use Rattle.cutting.specs.Verdict.{verdict-chain}
 use Rattle.topology.specs.declared.Finding.{Finding}
 use Rattle.topology.specs.Reading.{clustersAt, surveyJudged, judgedThen, refusedFinding, findingWith, foundBy, surveyFinding, findingOf}

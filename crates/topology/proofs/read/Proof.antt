@@ -1,7 +1,7 @@
 -- By its three ways out: refused by the rules 1 to 15, refused by 16, both with the sheet as it stood, or taken and the records shown.
 use borrow.Author.Needs.{needs}
 use Prim.Native.Nat.{ℕ}
-use mathlib.Core.Path.{_≡_, refl, sym, ap, _∙_}
+use mathlib.Core.Path.{_≡_, sym, ap, _∙_}
 use mathlib.Core.Bool.{Bool, true, false, not}
 use mathlib.Core.List.{List}
 use lib.ListN.{length}
@@ -14,7 +14,7 @@ use Rattle.records.specs.Records.{roomFor, shownIn}
 use Rattle.cutting.specs.Survey.{surveyOf}
 use Rattle.topology.specs.declared.Finding.{Finding}
 use Rattle.topology.specs.declared.Reading.{Reading}
-use Rattle.topology.specs.Reading.{clustersAt, roomJudged, verdictOf, findingWith, findingOf, refusedReading, takenReading, readingOf, sheetOf}
+use Rattle.topology.specs.Reading.{roomJudged, verdictOf, findingWith, findingOf, refusedReading, takenReading, readingOf, sheetOf}
 use Rattle.topology.specs.Verdict.{finding-taken, verdict-refused, verdict-room}
 use Rattle.topology.proofs.read.Statement.{statement}
 use Rattle.topology.proofs.read.Tie as tie
