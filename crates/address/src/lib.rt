@@ -16,7 +16,7 @@ pub const MOST: usize = 17;
 
 // What a request asks of a table: 30, 33 or 34 where the table is none, or the unit or the control is missing; else 0. The addressed
 // controls stand at the first `count` of `indices`, from the lowest channel up; the rest are 0.
-#[derive(Drop)]
+#[derive(Clone, Copy)]
 pub struct Sought {
     pub number: u8,
     pub count: usize,

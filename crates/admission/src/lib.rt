@@ -20,7 +20,7 @@ const SHEET: usize = entities::MOST_ENTITIES * records::RECORD;
 
 // What a plug-in comes to: 0 or the number of the refusal, with its place where it is the reader's; of an acceptance the microphone's own
 // AudioControl number and the counts of its entities and controls; and the box after it.
-#[derive(Drop)]
+#[derive(Clone, Copy)]
 pub struct Admitted {
     pub number: u8,
     pub place: usize,
@@ -32,7 +32,7 @@ pub struct Admitted {
 
 // What comes of a microphone's reading: its refusal, the reader's or 62, 0 and 0 where it is let in; the counts of its entities and controls; and
 // the request layer's state of it.
-#[derive(Drop)]
+#[derive(Clone, Copy)]
 struct Admission {
     refusal: Refusal,
     entities: usize,

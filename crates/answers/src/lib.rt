@@ -121,7 +121,7 @@ fn with_cur(control: Control, cur: u16) -> Control
 }
 
 // What the rows 36 to 38 ask of a control that a Set addresses, where its bytes begin at this place of the data.
-#[derive(Drop)]
+#[derive(Clone, Copy)]
 pub struct SetAsks {
     pub unready: bool,
     pub taken: bool,
@@ -172,7 +172,7 @@ pub fn set_number(unready: bool, taken: bool, size: usize, bytes: u16, long: usi
 }
 
 // What the rows 35, 36 and 39 ask of a control that a Get addresses.
-#[derive(Drop)]
+#[derive(Clone, Copy)]
 pub struct GetAsks {
     pub lacking: bool,
     pub unready: bool,

@@ -8,7 +8,7 @@ use libc::STDOUT_FILENO;
 const ROOM: usize = legal::MOST_BYTES + 1;
 
 // What was read of a file: whether it could be read, and how many bytes.
-#[derive(Drop)]
+#[derive(Clone, Copy)]
 struct Content {
     good: bool,
     count: usize,

@@ -10,7 +10,7 @@ use layout::Cluster;
 
 // The lowest number of the rules 10 to 13 that a run breaks, with its place, and no clusters; or 0 and 0, and the cluster of each
 // entity by its index.
-#[derive(Drop)]
+#[derive(Clone, Copy)]
 pub struct Connected {
     pub refusal: Refusal,
     pub clusters: [Cluster; 32],

@@ -12,7 +12,7 @@ use ground::{Place, Refusal};
 use groups::Frame;
 
 // What stands in a configuration that these rules do not refuse; where they do, the refusal and nothing else.
-#[derive(Drop)]
+#[derive(Clone, Copy)]
 pub struct Survey {
     pub refusal: Refusal,
     pub control: u8,

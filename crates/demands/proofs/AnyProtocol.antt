@@ -2,8 +2,6 @@
 -- another AudioControl interface descriptor and else the same descriptors (`Twins`), so the group behind it, its run and all places are the same; the rules
 -- 4, 7 and 14, which alone look at interface descriptors, are kept and broken alike. So the first row that is broken is the same, at the same place, and
 -- what is accepted is the same configuration but for that descriptor.
---   Alike s s' c, alike  ==  where c shows that s is a configuration, s' is one with the same run at the same place; so
---                        it is with another byte there
 --   any_protocol    ==  the proof of the statement
 --   other_protocol  ==  .. and of its case, in Cases
 use Prim.Native.Nat.{ℕ, ◌+◌, ◌<◌}
@@ -36,14 +34,10 @@ use Rattle.cutting.specs.Context.{frame_told, control_nine}
 use Rattle.controls.specs.Growth.{table_of}
 use Rattle.records.specs.Sheet.{whole_sheet, Rule16}
 use Rattle.topology.specs.Reading.{verdict_of, refused_reading, reading_of, sheet_of}
-use Rattle.reader.specs.Configuration.{run_of, place_of_run, Configuration}
+use Rattle.reader.specs.Configuration.{run_of, Configuration}
 use Rattle.reader.specs.Refusals.{kept_rows, Refused}
 use Rattle.reader.proofs.Exactly.{refused_exactly}
 use Rattle.reader.proofs.Shows.{number_told, answer_shows, sheet_shows, run, controls}
-use Rattle.upstream.specs.Listing.{refused_with}
-use Rattle.routing.specs.Listing.{listing_of, list_after}
-use Rattle.routing.specs.WhichWay.{FromOutput, RightListing, by_reader, by_id, by_many, by_room, all_routes}
-use Rattle.routing.proofs.WhichWay.{which_way}
 use Rattle.demands.specs.Cases.{case_a, lent, OtherProtocol}
 use Rattle.demands.specs.AnyProtocol.{protocol_place, AnyProtocol}
 use Rattle.demands.proofs.Demand1.{refusing, refused_answer, demand_1}
@@ -234,40 +228,6 @@ module _ (s s' : List ℕ) (es : List (List ℕ)) (whole : flatten es ≡ s') (b
         either (length d) (λ c r. sheet_taken c d r)
         (λ n. (demand_1.reader_refuses s' d (refused_too (length d) n)).sheet ∙ sym (demand_1.reader_refuses s d n).sheet)
 
-    -- the routes: what is right of the one configuration is right of the other
-    module _ (x : ℕ) where
-      from_output : (c : Configuration s) (d : List ℕ) (ws : List _) → FromOutput c x d ws
-          → FromOutput (configured c (other c)) x d ws
-      from_output c d ws f = record { output = f.output; routes = f.routes }
-
-      right_to : {room : ℕ} {r : _} → RightListing s x room r → RightListing s' x room r
-      right_to (by_reader {n} {p} z f) = by_reader z (refused_to o t whole_sheet n p f)
-      right_to (by_id c h) = by_id (configured c (other c)) h
-      right_to (by_many c {d} {ws} f m) = by_many (configured c (other c)) (from_output c d ws f) m
-      right_to (by_room c {d} {ws} f m l) = by_room (configured c (other c)) (from_output c d ws f) m l
-      right_to (all_routes c {d} {ws} f m l) = all_routes (configured c (other c)) (from_output c d ws f) m l
-
-      same_routes : (room : ℕ) → listing_of s' x room ≡ listing_of s x room
-      same_routes room = which_way.one_answer s' x room (listing_of s x room) (right_to (which_way.answered s x room))
-
-      same_list : (l : List ℕ) → list_after s' x l ≡ list_after s x l
-      unfolding refused_with
-      same_list l = go (which_way.answered s x (length l)) refl
-        where
-          stays : ((listing_of s x (length l)).number ≡ 0 → ⊥) → list_after s' x l ≡ list_after s x l
-          stays n =
-              which_way.list_stays s' x l (λ z. n (rw (same_routes (length l)) at z)) ∙ sym (which_way.list_stays s x l n)
-
-          go : {r : _} → RightListing s x (length l) r → listing_of s x (length l) ≡ r
-              → list_after s' x l ≡ list_after s x l
-          go (by_reader n f) e = stays (λ z. n (rw e at z))
-          go (by_id c h) e = stays (λ z. let y = rw e at z in omega arith)
-          go (by_many c f m) e = stays (λ z. let y = rw e at z in omega arith)
-          go (by_room c f m r) e = stays (λ z. let y = rw e at z in omega arith)
-          go (all_routes c {d} {ws} f m r) e =
-              which_way.list_holds s' x l (configured c (other c)) d ws (from_output c d ws f) m r
-              ∙ sym (which_way.list_holds s x l c d ws f m r)
-
 set_behind : (a b : List ℕ) (i x : ℕ) → set (a ++ b) (length a + i) x ≡ a ++ set b i x
 set_behind [] b i x = ap (λ (k : ℕ). set b k x) (zero-add i)
 set_behind (y ∷ a) b i x = ap (λ (k : ℕ). set (y ∷ (a ++ b)) k x) (suc-add (length a) i) ∙ ap (λ (l : List ℕ). y ∷ l) (set_behind a b i x)
@@ -303,24 +263,10 @@ module _ (s : List ℕ) (o : Opened s) (x : ℕ) where
   begin : (i : ℕ) → i < 4 → byte s i ≡ byte (set s (protocol_place o) x) i
   begin i n = sym (get_or-set_other s (protocol_place o) i x 0 (λ e. omega arith))
 
--- what is accepted with another byte there: the same run at the same place
-pub record Alike (s s' : List ℕ) (c : Configuration s) : Type 0 where
-  pub other : Configuration s'
-  pub run : run_of other.kept ≡ run_of c.kept
-  pub place : place_of_run other.kept ≡ place_of_run c.kept
-
-pub alike : (s : List ℕ) (o : Opened s) (x : ℕ) (c : Configuration s) → Alike s (set s (protocol_place o) x) c
-alike s o x c =
-    let p = c.kept.opened in
-    let t = twins_of s _ _ (whole s o x) (begin s o x) o (twins s o x) (p.descriptors, p.rule3) in
-    record { other = configured s _ _ (whole s o x) (begin s o x) c t; run = refl; place = refl }
-
 pub any_protocol : AnyProtocol
 any_protocol = record {
   answer = λ s o x room. same_answer s _ _ (whole s o x) (begin s o x) o (twins s o x) room;
   sheet = λ s o x d. same_sheet s _ _ (whole s o x) (begin s o x) o (twins s o x) d;
-  routes = λ s o x i room. same_routes s _ _ (whole s o x) (begin s o x) o (twins s o x) i room;
-  list = λ s o x i l. same_list s _ _ (whole s o x) (begin s o x) o (twins s o x) i l;
 }
 
 -- case A, whose AudioControl interface stands at place 9

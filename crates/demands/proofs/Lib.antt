@@ -1,9 +1,7 @@
 pub mod Demand1
 pub mod Demand2
-pub mod CallsTold
 pub mod Demand3
 pub mod Cases
-pub mod LastSet
 pub mod TurnedAway
 pub mod Shuffled
 pub mod AnyOrder

@@ -1,6 +1,5 @@
 pub mod Demand1
 pub mod Demand2
-pub mod CallsTold
 pub mod Demand3
 pub mod Cases
 pub mod TurnedAway

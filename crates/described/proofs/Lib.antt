@@ -1,5 +1,4 @@
 pub mod Refused
 pub mod Trips
 pub mod AsReader
-pub mod Itself
 pub mod OurBox

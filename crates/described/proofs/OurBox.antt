@@ -17,7 +17,6 @@ use Rattle.described.specs.OurBox.{OurBox}
 use Rattle.described.proofs.Refused.{verdict_answers, numbered}
 use Rattle.described.proofs.AsReader.{as_reader}
 use Rattle.described.proofs.Trips.{read_back_same, written_same, had_all}
-use Rattle.described.proofs.Itself.{within_itself}
 
 module _ (ls : List Listed) (cs before after : List ℕ) (r : Wrote) (w : Writes ls cs before after r) where
   number : r.number ≡ (writer_verdict ls cs (length before)).number
@@ -46,7 +45,6 @@ our_box = record {
   stays = stays;
   one_result = writes_one;
   read_back = read_back_same;
-  within_itself = within_itself;
   written_again = written_same;
   had = had_all;
 }

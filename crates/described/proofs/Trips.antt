@@ -13,7 +13,7 @@ use lib.Seq.{take_at, drop_at, append_snoc}
 use borrow.Author.Tests.{eq-eqb}
 use Rattle.ground.specs.declared.Refusal.{Refusal}
 use Rattle.ground.specs.Refuse as refuse
-use Rattle.ground.specs.Rows.{Rows, AllKept, all_none}
+use Rattle.ground.specs.Rows.{AllKept, all_none}
 use Rattle.ground.specs.Pick.{pick, yes, reads_and, reads_eq, reads_within, reads_true}
 use Rattle.ground.specs.Numbers.{word, Bytes}
 use Rattle.ground.specs.Lists.{total, total_append, length_flatten, flatten_append, pad, pad_length, pad_at, pad_front, pad_full}
@@ -105,21 +105,21 @@ class_all (l ∷ ls) c d m = ⊎_elim (λ e. rw e (class_one l (c (written_as l)
 -- ---- what stands behind the AudioControl interface
 
 module _ {s : List ℕ} (o : Opened s) where
-  pub front : List (List ℕ)
+  front : List (List ℕ)
   front = o.before ++ o.control ∷ []
 
-  pub front_long : length (flatten front) ≡ header_place o
+  front_long : length (flatten front) ≡ header_place o
   unfolding front total
   front_long =
       let n : length o.control ≡ 9 = nine s (rw (cut_told s o) o.rule4) o.before o.control o.tail (cut_told s o ∙ o.split) o.is_control.0 in
       let t = total_append o.before (o.control ∷ []) in
       length_flatten front ∙ (let z : total (o.before ++ o.control ∷ []) ≡ total o.before + 9 = omega arith in z)
 
-  pub bytes_split : s ≡ flatten front ++ flatten o.tail
+  bytes_split : s ≡ flatten front ++ flatten o.tail
   unfolding front
   bytes_split = sym o.rule3.whole ∙ ap flatten (o.split ∙ sym (append_snoc o.before o.control o.tail)) ∙ flatten_append front o.tail
 
-  pub tail_each : (d : List ℕ) → d ∈ o.tail → Descriptor d
+  tail_each : (d : List ℕ) → d ∈ o.tail → Descriptor d
   tail_each d m = o.rule3.each d (rw o.split (Memᴰ.append_right o.before (Memᴰ.tail m)))
 
 represents : (ds : List (List ℕ)) → ((d : List ℕ) → d ∈ ds → Descriptor d) → Rule9 audio ds → length ds ≤ most_entities → Represents audio (flatten ds) 0 ds (run_in audio 0 ds)
@@ -298,7 +298,7 @@ module _ (s : List ℕ) (t : Configuration s) (b : Bytes s) where
   abbrev run : List (List ℕ)
   run = run_of k
 
-  pub tail_all : k.opened.tail ≡ h ∷ (run ++ (k.rule6.later ++ k.rule6.after))
+  tail_all : k.opened.tail ≡ h ∷ (run ++ (k.rule6.later ++ k.rule6.after))
   tail_all = k.rule5.stands ∙ ap (λ (x : List (List ℕ)). h ∷ x) k.rule6.split
 
   in_tail : (d : List ℕ) → d ∈ run → d ∈ k.opened.tail
@@ -329,7 +329,7 @@ module _ (s : List ℕ) (t : Configuration s) (b : Bytes s) where
       let more = each_again ds (λ x m. f x (Memᴰ.tail m)) in
       rw (one, more) refl
 
-  pub run_again : descriptors_of (list_read t) ≡ run
+  run_again : descriptors_of (list_read t) ≡ run
   run_again = each_again run one_again
 
   head_again : header_with (listed_of h) (length (flatten run)) ≡ h
@@ -337,32 +337,36 @@ module _ (s : List ℕ) (t : Configuration s) (b : Bytes s) where
       header_again h (length (flatten run)) (tail_each k.opened h h_in) k.rule5.right (tail_small h h_in)
       (k.rule6.length_told ∙ ap (λ (n : ℕ). length h + n) (sym (length_flatten run)))
 
-  pub same : written_of (list_read t) (collection_read t) ≡ bytes_of_both t
+  same : written_of (list_read t) (collection_read t) ≡ bytes_of_both t
   same = ap (λ (x : List (List ℕ)). whole_of (listed_of h) (flatten x)) run_again ∙ ap (λ (x : List ℕ). x ++ flatten run) head_again
 
   few : length (listed_of h) ≤ most_numbers
   few = let n = length-drop 8 h in let l = short h h_in in omega arith
 
-  pub kept_entities : (behind : Rows) → AllKept behind → AllKept (entity_rows run behind)
-  kept_entities behind r =
-      let wrong_none : (d : List ℕ) → d ∈ run → WrongIn d → ⊥ =
-      λ d i. ⊎_elim (λ x. x.0 (k.rule9 d i)) (λ x. let l = short d (in_tail d i) in omega arith)
-      in
-      let c = t.connected in
-      let both = (connected_parts (represents run run_each k.rule9 k.rule8.1) c.rule10 c.rule11).0 c in
-      let none_printed : NoneWithdrawn audio run = λ d i p. printed_unlaid d p (k.rule9 d i) in
-      (k.rule8, (wrong_none, (none_printed, (c.rule10, (c.rule11, (both.0, (both.1, r)))))))
-
   kept_rows : (m : ℕ) → length (bytes_of_both t) ≤ m → AllKept (entity_rows run (room_rows (listed_of h) (flatten run) m))
   kept_rows m r =
+      let wrong_none : (d : List ℕ) → d ∈ run → WrongIn d → ⊥ = λ d i. ⊎_elim (λ x. x.0 (k.rule9 d i)) (λ x. let l = short d (in_tail d i) in omega arith) in
       let room : length (whole_of (listed_of h) (flatten run)) ≤ m = subst (λ (x : List ℕ). length (x ++ flatten run) ≤ m) (sym head_again) r in
-      kept_entities (room_rows (listed_of h) (flatten run) m) (few, (room, tt))
+      let c = t.connected in
+      let both = (connected_parts (represents run run_each k.rule9 k.rule8.1) c.rule10 c.rule11).0 c in (
+        k.rule8,
+        (
+          wrong_none,
+          (
+            λ d i p. printed_unlaid d p (k.rule9 d i),
+            (
+              c.rule10,
+              (c.rule11, (both.0, (both.1, (few, (room, tt))))),
+            ),
+          ),
+        ),
+      )
 
   -- what stands behind the run
-  unfoldable pub back : List ℕ
+  back : List ℕ
   back = flatten (k.rule6.later ++ k.rule6.after)
 
-  pub tail_stands : flatten k.opened.tail ≡ h ++ (flatten run ++ back)
+  tail_stands : flatten k.opened.tail ≡ h ++ (flatten run ++ back)
   unfolding flatten back
   tail_stands = ap flatten tail_all ∙ ap (λ (x : List ℕ). h ++ x) (flatten_append run (k.rule6.later ++ k.rule6.after))
 

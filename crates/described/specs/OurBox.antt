@@ -25,9 +25,7 @@
 --                           byte for byte, and refuses nothing (written)
 --   OurBox              ==  the refusals are exactly the rules of the list, by the first row that is not kept, at its index (refused), and there is none where
 --                           every row is kept (accepted); those of the entities are the reader's own (as_reader); a printed Selector of the list is one to the reader too, so that 17 is its row (withdrawn); a refusal leaves the buffer, and bytes past what is written stay (untouched, stays);
---                           there is one answer and one buffer afterwards (one_result); read-back, written_again, had;
---                           what is asked for read-back can be met: every accepted configuration is within itself,
---                           its list and collection list being those that were read there (within_itself)
+--                           there is one answer and one buffer afterwards (one_result); read-back, written_again, had
 use Rattle.std.specs.Prelude.{ℕ, ◌+◌, ◌≤◌, ◌<◌, ◌≡◌, ◌⊎◌, ◌↔◌, length, get_or, take, drop, eqb}
 use mathlib.Core.List.{List, [], ◌++◌, map, flatten, Memᴰ}
 use Rattle.ground.specs.Numbers.{Bytes}
@@ -136,7 +134,5 @@ pub record OurBox : Type 0 where
       → (take r.written after ≡ written_of ls cs) × (drop r.written after ≡ drop r.written before)
   pub one_result : (ls : List Listed) (cs before a b : List ℕ) (r q : Wrote) → Writes ls cs before a r → Writes ls cs before b q → (r ≡ q) × (a ≡ b)
   pub read_back : (s : List ℕ) (ls : List Listed) (cs : List ℕ) → EntitiesKeep ls → Within s ls cs → ReadBack s ls cs
-  pub within_itself : (s : List ℕ) (t : Configuration s) → Bytes s
-      → EntitiesKeep (list_read t) × Within s (list_read t) (collection_read t)
   pub written_again : (s : List ℕ) (t : Configuration s) → Bytes s → WrittenAgain s t
   pub had : (s : List ℕ) (t : Configuration s) → Bytes s → Had s t

@@ -1,32 +1,42 @@
 -- "Old sheets with kind 15 hex remain legal input, .. and the compare program counts kinds 05 and 15 as the same byte, so the right sheet is rebuilt
 -- up to that" (document 02, No. 6): up to that one byte, and no further.
---   kind_byte         ==  byte 1 of a record is the kind; which kinds are a Selector's, and which is shown of one, stands in `legal`
+--   kind_byte, selector_kind, printed_kind  ==  byte 1 of a record is the kind: 05 of a Selector, 15 hex of one that was printed
+--   Selectors x      ==  the kind x is a Selector's
 --   SameByte n x y   ==  x and y count as the same for byte n of a record: they are the same, or kinds of a Selector
---   compared_as n x   ==  x as byte n is compared by: a kind as it is shown
+--   compared_as n x   ==  x as byte n is compared by
 --   same_compared, compared_same, reads_same_byte  ==  what is so compared is the same exactly where SameByte says so
---   mended a         ==  the record a with its kind as it is shown: a Selector's as 05
+--   mended a         ==  the record a with a Selector's kind as 05
 --   mended_byte      ==  its bytes are those of a, as they are compared; mended_long, mended_id: it is as long, and bears the same ID
-use Rattle.std.specs.Prelude.{ℕ, ◌<◌, ◌≡◌, refl, Bool, true, false, ◌⊎◌, List, eqb, ltb, length, set}
-use Rattle.std.proofs.Common.{sym, ap, ◌∙◌, inl, inr, ⊎_elim, arith, length-set, get_or-set_same, get_or-set_other, eq-eqb, ne_eqb}
+use Rattle.std.specs.Prelude.{ℕ, ◌<◌, ◌≡◌, refl, Bool, true, false, ◌&&◌, ◌⊎◌, List, eqb, ltb, length, set}
+use Rattle.std.proofs.Common.{sym, ap, ◌∙◌, inl, inr, ⊎_elim, arith, length-set, get_or-set_same, get_or-set_other, ne_eqb}
 use Rattle.std.proofs.Math.ListN.{get_or-eq_default}
-use Rattle.ground.specs.Pick.{pick, yes, no, Reads, reads_eq, reads_lt, reads_same, decided}
+use Rattle.ground.specs.Pick.{pick, no, Reads, reads_eq, reads_lt, reads_same, decided}
 use Rattle.ground.specs.Numbers.{byte}
 use Rattle.legal.specs.Sheet.{id_of}
-use Rattle.legal.specs.Shown.{Selectors, selector_kind, shown_kind, shown_selector, shown_itself, shown_same}
 
 abbrev pub kind_byte : ℕ
 kind_byte = 1
+
+abbrev pub selector_kind : ℕ
+selector_kind = 5
+
+abbrev pub printed_kind : ℕ
+printed_kind = 0x15
+
+abbrev pub Selectors : ℕ → Type 0
+Selectors x = (x ≡ selector_kind) ⊎ (x ≡ printed_kind)
 
 pub data SameByte (n x y : ℕ) : Type 0 where
   equal : x ≡ y → SameByte n x y
   selectors : n ≡ kind_byte → Selectors x → Selectors y → SameByte n x y
 
 unfoldable pub compared_as : ℕ → ℕ → ℕ
-compared_as n x = pick (eqb n kind_byte) (shown_kind x) x
+compared_as n x = pick (eqb n kind_byte && eqb x printed_kind) selector_kind x
 
 selector_as : (n x : ℕ) → n ≡ kind_byte → Selectors x → compared_as n x ≡ selector_kind
 unfolding compared_as
-selector_as n x q s = yes _ _ (eq-eqb n kind_byte q) ∙ shown_selector x s
+selector_as n x q (inl e) = rw (q, e) refl
+selector_as n x q (inr e) = rw (q, e) refl
 
 pub same_compared : {n x y : ℕ} → SameByte n x y → compared_as n x ≡ compared_as n y
 same_compared {n} (equal e) = ap (compared_as n) e
@@ -34,46 +44,46 @@ same_compared {n} {x} {y} (selectors q s t) = selector_as n x q s ∙ sym (selec
 
 pub compared_same : (n x y : ℕ) → compared_as n x ≡ compared_as n y → SameByte n x y
 unfolding compared_as
-compared_same n x y = go (eqb n kind_byte) (reads_eq n kind_byte)
+compared_same n x y = go (eqb n kind_byte) (reads_eq n kind_byte) (eqb x printed_kind) (reads_eq x printed_kind) (eqb y printed_kind) (reads_eq y printed_kind)
   where
-    go : (a : Bool) → Reads a (n ≡ kind_byte) → pick a (shown_kind x) x ≡ pick a (shown_kind y) y → SameByte n x y
-    go false p e = equal e
-    go true p e = ⊎_elim (λ (q : x ≡ y). equal q) (λ (s : Selectors x × Selectors y). selectors (p.says refl) s.0 s.1) (shown_same x y e)
+    go : (a : Bool) → Reads a (n ≡ kind_byte) → (b : Bool) → Reads b (x ≡ printed_kind) → (c : Bool) → Reads c (y ≡ printed_kind)
+        → pick (a && b) selector_kind x ≡ pick (a && c) selector_kind y → SameByte n x y
+    go false p b q c r e = equal e
+    go true p false q false r e = equal e
+    go true p false q true r e = selectors (p.says refl) (inl e) (inr (r.says refl))
+    go true p true q false r e = selectors (p.says refl) (inr (q.says refl)) (inl (sym e))
+    go true p true q true r e = selectors (p.says refl) (inr (q.says refl)) (inr (r.says refl))
 
 pub reads_same_byte : (n x y : ℕ) → Reads (eqb (compared_as n x) (compared_as n y)) (SameByte n x y)
 reads_same_byte n x y = reads_same (reads_eq (compared_as n x) (compared_as n y)) (compared_same n x y) (λ s. same_compared s)
 
 unfoldable pub mended : List ℕ → List ℕ
-mended a = set a kind_byte (shown_kind (byte a kind_byte))
+mended a = pick (eqb (byte a kind_byte) printed_kind) (set a kind_byte selector_kind) a
 
 pub mended_long : (a : List ℕ) → length (mended a) ≡ length a
 unfolding mended
-mended_long a = length-set a kind_byte _
-
--- a record too short for a kind has none to mend
-shown_kind_lem : (a : List ℕ) → byte (mended a) kind_byte ≡ shown_kind (byte a kind_byte)
-unfolding mended
-shown_kind_lem a = ⊎_elim there short (decided (ltb kind_byte (length a)) (reads_lt kind_byte (length a)))
+mended_long a = go (eqb (byte a kind_byte) printed_kind)
   where
-    there : kind_byte < length a → byte (mended a) kind_byte ≡ shown_kind (byte a kind_byte)
-    there l = get_or-set_same a kind_byte _ 0 l
+    go : (b : Bool) → length (pick b (set a kind_byte selector_kind) a) ≡ length a
+    go true = length-set a kind_byte selector_kind
+    go false = refl
 
-    short : (kind_byte < length a → ⊥) → byte (mended a) kind_byte ≡ shown_kind (byte a kind_byte)
-    short h =
-        let e : length (mended a) ≡ length a = mended_long a in
-        let z : byte a kind_byte ≡ 0 = get_or-eq_default a 0 (omega arith) in
-        let y : byte (mended a) kind_byte ≡ 0 = get_or-eq_default (mended a) 0 (omega arith) in
-        y ∙ sym (ap shown_kind z ∙ shown_itself 0 (λ k. absurd (omega arith)))
+-- a record with such a byte is long enough to have it
+long_enough : (a : List ℕ) → byte a kind_byte ≡ printed_kind → kind_byte < length a
+long_enough a e =
+    ⊎_elim (λ (h : kind_byte < length a). h) (λ (h : kind_byte < length a → ⊥). let z : byte a kind_byte ≡ 0 = get_or-eq_default a 0 (omega arith) in absurd (omega arith))
+    (decided (ltb kind_byte (length a)) (reads_lt kind_byte (length a)))
 
 pub mended_byte : (a : List ℕ) (n : ℕ) → byte (mended a) n ≡ compared_as n (byte a n)
 unfolding mended compared_as
-mended_byte a n = ⊎_elim kind other (decided (eqb n kind_byte) (reads_eq n kind_byte))
+mended_byte a n = go (eqb (byte a kind_byte) printed_kind) (reads_eq (byte a kind_byte) printed_kind) (decided (eqb n kind_byte) (reads_eq n kind_byte))
   where
-    kind : n ≡ kind_byte → byte (mended a) n ≡ pick (eqb n kind_byte) (shown_kind (byte a n)) (byte a n)
-    kind e = rw e (shown_kind_lem a)
-
-    other : (n ≡ kind_byte → ⊥) → byte (mended a) n ≡ pick (eqb n kind_byte) (shown_kind (byte a n)) (byte a n)
-    other d = get_or-set_other a kind_byte n _ 0 d ∙ sym (no _ _ (ne_eqb n kind_byte d))
+    go : (b : Bool) → Reads b (byte a kind_byte ≡ printed_kind) → (n ≡ kind_byte) ⊎ (n ≡ kind_byte → ⊥)
+        → byte (pick b (set a kind_byte selector_kind) a) n ≡ pick (eqb n kind_byte && eqb (byte a n) printed_kind) selector_kind (byte a n)
+    go true r (inl e) = rw (e, r.says refl) (get_or-set_same a kind_byte selector_kind 0 (long_enough a (r.says refl)))
+    go true r (inr d) = get_or-set_other a kind_byte n selector_kind 0 d ∙ sym (no _ _ (ap (λ (c : Bool). c && eqb (byte a n) printed_kind) (ne_eqb n kind_byte d)))
+    go false r (inl e) = rw e (sym (no _ _ (ne_eqb (byte a kind_byte) printed_kind (r.denies refl))))
+    go false r (inr d) = sym (no _ _ (ap (λ (c : Bool). c && eqb (byte a n) printed_kind) (ne_eqb n kind_byte d)))
 
 pub mended_id : (a : List ℕ) → id_of (mended a) ≡ id_of a
 unfolding compared_as

@@ -14,11 +14,15 @@ use scan::byte_at;
 // Above every ID.
 const NO_ID: usize = 256;
 
-// The kind's byte in a record.
+// The kind's byte in a record, a Selector's kind, and the kind that old sheets have for one that was printed.
 const KIND: usize = 1;
 
+const SELECTOR: u8 = 5;
+
+const PRINTED: u8 = 0x15;
+
 // One ID's difference.
-#[derive(Drop)]
+#[derive(Clone, Copy)]
 pub enum Difference {
     // No ID is left.
     None,
@@ -43,7 +47,7 @@ pub fn id_of(difference: Difference) -> u8
 }
 
 // An ID and the first index at which it stands; NO_ID where there is none.
-#[derive(Drop)]
+#[derive(Clone, Copy)]
 struct Lowest {
     id: usize,
     index: usize,
@@ -92,7 +96,7 @@ fn lowest_above(s: &[u8], above: usize) -> Lowest
     lowest
 }
 
-// A byte of a record as it is compared: a kind as it is shown, so that 15 hex counts as 05 (document 02, No. 6).
+// A byte of a record as it is compared: 15 hex, the kind of a Selector that was printed, counts as 05 (document 02, No. 6).
 fn compared(a: &[u8], n: usize) -> u8
     ensures { result ≡ compared_as n (byte a.now n) }
 {
@@ -100,7 +104,10 @@ fn compared(a: &[u8], n: usize) -> u8
     if n != KIND {
         return byte;
     }
-    legal::shown_kind(byte)
+    if byte != PRINTED {
+        return byte;
+    }
+    SELECTOR
 }
 
 // Whether two records differ in a byte.

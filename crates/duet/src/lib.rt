@@ -11,28 +11,28 @@ use request::State;
 use sides::{Addressee, Side};
 
 // One side: whether a microphone is plugged in, and the request layer's state of it.
-#[derive(Drop)]
+#[derive(Clone, Copy)]
 pub struct Socket {
     pub plugged: bool,
     pub state: State,
 }
 
 // The box.
-#[derive(Drop)]
+#[derive(Clone, Copy)]
 pub struct Duet {
     pub left: Socket,
     pub right: Socket,
 }
 
 // What a microphone finds that is to come to a side: the number that refuses it, 30 or 61; or 0, and how many controls the other side has.
-#[derive(Drop)]
+#[derive(Clone, Copy)]
 pub struct Vacancy {
     pub number: u8,
     pub met: usize,
 }
 
 // What an unplugging, a load or a request comes to: 0 or the number of the refusal, how many bytes of the reply were written, and the box.
-#[derive(Drop)]
+#[derive(Clone, Copy)]
 pub struct Answer {
     pub number: u8,
     pub written: usize,

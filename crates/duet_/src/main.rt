@@ -17,9 +17,6 @@ const REPLY: usize = 64;
 // The bytes of the sheet that is lent at a plug-in.
 const SHEET: usize = 1024;
 
-// The most bytes of a sheet that a plug-in which shows it may ask for.
-const LENT: usize = 2048;
-
 // The bytes of a control in a put step, and of what stands before a side's controls.
 const PUT: usize = 13;
 
@@ -29,14 +26,14 @@ const FRONT: usize = 6;
 const READERS: u8 = 17;
 
 // What a step leaves: the box, and whether it was a step at all.
-#[derive(Drop)]
+#[derive(Clone, Copy)]
 struct Next {
     good: bool,
     duet: Duet,
 }
 
 // What a put step gives for a side: whether it gives one, the socket, and where the next one stands.
-#[derive(Drop)]
+#[derive(Clone, Copy)]
 struct Given {
     good: bool,
     socket: Socket,
@@ -48,12 +45,6 @@ fn reply_space() -> [u8; REPLY]
     ensures { length result ≡ 64 }
 {
     [0u8; REPLY]
-}
-
-fn lent_space() -> [u8; LENT]
-    ensures { length result ≡ 2048 }
-{
-    [marks::MARK; LENT]
 }
 
 fn body_space() -> [u8; BODY]
@@ -87,13 +78,18 @@ fn say_bytes(bytes: &[u8]) {
     }
 }
 
+fn say_refused(number: u8) {
+    say(b"refused");
+    say_next(number as u64);
+}
+
 // A refusal, with its place where it is the reader's.
-fn say_refusal(number: u8, place: usize) {
+fn say_placed(number: u8, place: usize) {
+    say_refused(number);
     if number <= READERS {
-        print::line(text::refused_at(number, place));
-        return;
+        say(b" at");
+        say_next(place as u64);
     }
-    print::line(text::refused(number));
 }
 
 fn good(duet: Duet) -> Next {
@@ -112,59 +108,30 @@ fn side_of(mark: u8) -> Side {
     Side::Right
 }
 
-// A plug-in with this sheet lent: its line.
-fn plug_into(duet: Duet, side: Side, config: &[u8], sheet: &mut [u8]) -> Next {
-    let admitted = admission::plug_in(duet, side, config, sheet);
+fn plug_in(duet: Duet, side: Side, config: &[u8]) -> Next {
+    let mut sheet = [0u8; SHEET];
+    let admitted = admission::plug_in(duet, side, config, &mut sheet);
     if admitted.number == 0 {
         say(b"accepted");
         say_next(admitted.control as u64);
         say_next(admitted.entities as u64);
         say_next(admitted.controls as u64);
-        say(b"\n");
     } else {
-        say_refusal(admitted.number, admitted.place);
+        say_placed(admitted.number, admitted.place);
     }
+    say(b"\n");
     let after = admitted.duet;
     good(after)
-}
-
-fn plug_in(duet: Duet, side: Side, config: &[u8]) -> Next {
-    let mut sheet = [0u8; SHEET];
-    plug_into(duet, side, config, &mut sheet)
-}
-
-// A plug-in with this sheet lent: its line, then the sheet as `lend` shows it.
-fn plug_shown(duet: Duet, side: Side, config: &[u8], sheet: &mut [u8]) -> Next {
-    let next = plug_into(duet, side, config, sheet);
-    marks::show(sheet);
-    next
-}
-
-// A plug-in with m bytes lent.
-fn plug_lent(duet: Duet, side: Side, m: usize, config: &[u8]) -> Next {
-    if LENT < m {
-        return bad(duet);
-    }
-    let mut sheet = lent_space();
-    plug_shown(duet, side, config, &mut sheet[..m])
-}
-
-fn shown_step(duet: Duet, side: Side, body: &[u8]) -> Next {
-    if body.len() < 3 {
-        return bad(duet);
-    }
-    let m = scan::word_at(body, 1) as usize;
-    plug_lent(duet, side, m, &body[3..])
 }
 
 // The answer to an unplugging or a load: its word, or the refusal.
 fn say_done(number: u8, done: &[u8]) {
     if number == 0 {
         say(done);
-        say(b"\n");
     } else {
-        print::line(text::refused(number));
+        say_refused(number);
     }
+    say(b"\n");
 }
 
 fn unplug(duet: Duet, side: Side, body: &[u8]) -> Next {
@@ -197,14 +164,14 @@ fn load(duet: Duet, side: Side, body: &[u8]) -> Next {
 // The answer to a request: `set`, `got` and the bytes written, or the refusal.
 fn say_answer(number: u8, is_get: bool, reply: &[u8]) {
     if number != 0 {
-        print::line(text::refused(number));
+        say_refused(number);
     } else if is_get {
         say(b"got");
         say_bytes(reply);
-        say(b"\n");
     } else {
-        say(b"set\n");
+        say(b"set");
     }
+    say(b"\n");
 }
 
 fn at_most(n: usize, most: usize) -> usize
@@ -380,10 +347,10 @@ fn stretch<'a>(side: Side, id: u8, left: &'a [u8], right: &'a [u8]) {
     if refusal.number == 0 {
         say(b"bytes");
         say_bytes(extent::stretch(side, id, left, right));
-        say(b"\n");
     } else {
-        say_refusal(refusal.number, refusal.place);
+        say_placed(refusal.number, refusal.place);
     }
+    say(b"\n");
 }
 
 fn stretch_step(duet: Duet, side: Side, body: &[u8]) -> Next {
@@ -405,7 +372,6 @@ fn side_step(duet: Duet, kind: u8, side: Side, body: &[u8]) -> Next {
         1 => plug_in(duet, side, scan::stretch(body, 1, body.len())),
         2 => load(duet, side, body),
         6 => unplug(duet, side, body),
-        8 => shown_step(duet, side, body),
         _ => stretch_step(duet, side, body),
     }
 }
@@ -417,7 +383,6 @@ fn names_side(kind: u8) -> bool {
         2 => true,
         6 => true,
         7 => true,
-        8 => true,
         _ => false,
     }
 }

@@ -6,4 +6,3 @@ pub mod Crowded
 pub mod Stretches
 pub mod DuetRows
 pub mod StepsTold
-pub mod DuetAnyProtocol

@@ -1,5 +1,4 @@
 -- The stretch, proved: where the reader accepts, the first entity that bears an ID is the only one, and its place is its descriptor's.
---   located_in_lem     ==  in a configuration the place of an ID is that of the entity that bears it
 --   stretch_shown  ==  THE THEOREM
 use Prim.Native.Nat.{ℕ, ◌≤◌, ◌<◌}
 use mathlib.Core.Path.{◌≡◌, refl, sym, ap, ◌∙◌, subst}
@@ -115,7 +114,7 @@ module _ (s : List ℕ) where
     unfolding finding_with
     run_is = ap (λ (f : Finding). f.run) (finding_taken s found refl kept) ∙ ap (λ (v : Survey). v.run) (survey_kept s t.kept)
 
-    pub located_in_lem : (x : ℕ) → located_in s x ≡ known (entity_place run x)
+    located_in_lem : (x : ℕ) → located_in s x ≡ known (entity_place run x)
     unfolding located_by
     located_in_lem x = yes _ _ (eq-eqb _ _ kept) ∙ ap (λ (v : Run). known (entity_place v x)) run_is
 

@@ -15,7 +15,7 @@ pub const MOST_ENTITIES: usize = 32;
 
 // An entity: its place, the place of its first source ID and how many there are, one behind another; its own ID; the number of
 // its kind on the sheet; whether it has an output, so that it may be a source.
-#[derive(Drop)]
+#[derive(Clone, Copy)]
 pub struct Node {
     pub place: usize,
     pub first: usize,
@@ -26,14 +26,14 @@ pub struct Node {
 }
 
 // How many descriptors a run has, and the first 32 of them, the spare places blank.
-#[derive(Drop)]
+#[derive(Clone, Copy)]
 pub struct Run {
     pub count: usize,
     pub nodes: [Node; 32],
 }
 
 // A run, and the place of its first descriptor that has none of the layouts.
-#[derive(Drop)]
+#[derive(Clone, Copy)]
 pub struct Walk {
     pub run: Run,
     pub unlaid: Place,

@@ -10,7 +10,7 @@ use sides::Side;
 use topology::Finding;
 
 // Where an entity's descriptor stands in a configuration, or the refusal.
-#[derive(Drop)]
+#[derive(Clone, Copy)]
 pub enum Located {
     Refused(u8, usize),
     From(usize),

@@ -11,7 +11,7 @@ use layout::Entity;
 use scan::byte_at;
 
 // The numbers of a kind, in the order of its descriptor; the sources, the control bytes and the masks stand beside them.
-#[derive(Drop)]
+#[derive(Clone, Copy)]
 pub enum Numbers {
     // None of the kinds.
     Unknown,
@@ -56,7 +56,7 @@ pub enum Numbers {
 }
 
 // A part of a lent slice, from one place up to another; as much of it as there is.
-#[derive(Drop)]
+#[derive(Clone, Copy)]
 pub struct Span {
     pub from: usize,
     pub end: usize,
@@ -64,7 +64,7 @@ pub struct Span {
 
 // An entity: its numbers, and where in a lent slice the IDs of its sources stand (a Mixer's or a Selector's) and its control bytes (a
 // Mixer's) or masks (a Feature Unit's).
-#[derive(Drop)]
+#[derive(Clone, Copy)]
 pub struct Item {
     pub numbers: Numbers,
     pub sources: Span,

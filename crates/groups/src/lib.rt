@@ -14,7 +14,7 @@ use scan::{byte_at, end_of, stretch, word_at};
 use search::{Want, find};
 
 // Where the parts of the AudioControl group stand: its interface descriptor, the header, the run of entities, and the run's end.
-#[derive(Drop)]
+#[derive(Clone, Copy)]
 pub struct Frame {
     pub control: usize,
     pub header: usize,
@@ -23,7 +23,7 @@ pub struct Frame {
 }
 
 // What these rules say of a configuration: the refusal, and the frame where nothing is refused; where something is, a frame of zeros.
-#[derive(Drop)]
+#[derive(Clone, Copy)]
 pub struct Framing {
     pub refusal: Refusal,
     pub frame: Frame,

@@ -1,4 +1,4 @@
--- What the reader computes of rule 10, from its array; the laws that tie it to the rule are in Rule10Laws.
+-- What the reader computes of rule 10, from its array; the laws that tie it to the rule are in RuleLaws.
 --   bears run x i       ==  the i-th entity bears the ID x
 --   wrong_id run i       ==  the ID of the i-th entity is zero or borne by an earlier one
 --   breach10 run        ==  the place of the first such entity

@@ -19,14 +19,14 @@ use search::{is_audio, is_interface};
 const MOST_INTERFACES: usize = 455;
 
 // What rule 4 finds in one pass over the descriptors: where it is broken, and where the AudioControl interface stands.
-#[derive(Drop)]
+#[derive(Clone, Copy)]
 struct Interfaces {
     wrong: Place,
     control: usize,
 }
 
 // What the rules 1 to 4 say of a configuration: the refusal, and where the AudioControl interface stands; 0 where something is refused.
-#[derive(Drop)]
+#[derive(Clone, Copy)]
 pub struct Location {
     pub refusal: Refusal,
     pub control: usize,

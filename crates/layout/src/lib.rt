@@ -12,7 +12,7 @@ use scan::{byte_at, word_at};
 pub const MOST_PINS: u8 = 24;
 
 // A cluster is channels c, a bitmap of locations, and a first name index.
-#[derive(Drop)]
+#[derive(Clone, Copy)]
 pub struct Cluster {
     pub channels: u8,
     pub locations: u16,
@@ -20,7 +20,7 @@ pub struct Cluster {
 }
 
 // What a descriptor of the run is: one of the five kinds, with that kind's own numbers.
-#[derive(Drop)]
+#[derive(Clone, Copy)]
 pub enum Entity {
     // None of the layouts: any other kind, a wrong layout, or the printed Selector.
     Unknown,

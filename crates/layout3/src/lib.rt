@@ -11,7 +11,7 @@ use layout::MOST_PINS;
 use scan::{byte_at, word_at};
 
 // What a descriptor of the run is: one of the six kinds, with that kind's own numbers.
-#[derive(Drop)]
+#[derive(Clone, Copy)]
 pub enum Entity {
     // None of the layouts: any other kind, or a wrong layout.
     Unknown,
@@ -25,7 +25,7 @@ pub enum Entity {
 
 // What an entity's case says: the number of its kind on the sheet; the offset of its first source ID and how many there are; whether it may
 // be a source; whether it has a clock ID, and which; whether it names a cluster, and which.
-#[derive(Drop)]
+#[derive(Clone, Copy)]
 pub struct Facts {
     pub kind: u8,
     pub first: u8,

@@ -1,4 +1,3 @@
 pub mod Forms
 pub mod Sheet
 pub mod SheetLaws
-pub mod Shown

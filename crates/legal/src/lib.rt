@@ -1,17 +1,16 @@
 // Whether bytes are a sheet (document 02, No. 4): records one after another, each with its ID first, of one of two forms (No. 7): 16 bytes a
 // record before, 32 now. What it promises to the crates above: for every slice and form, the number by which it is refused as a sheet, 0 where
-// it is one; and the kind that is shown of a record's. Nothing else of a record is judged.
+// it is one. Nothing else of a record is judged.
 ghost use Rattle.std.specs.Prelude.{◌≡◌, ◌%◌, length};
 ghost use Rattle.legal.specs.Forms.{record_size_of};
 ghost use Rattle.legal.specs.Sheet.{count_by, bad_ids_by, number_by, sheet_number};
-ghost use Rattle.legal.specs.Shown.{shown_kind};
 
 use entities::MOST_ENTITIES;
 use ground::index_of;
 use records::RECORD;
 
 // The form of a sheet's records: the one before request No. 7, and the one that the reader writes.
-#[derive(Drop)]
+#[derive(Clone, Copy)]
 pub enum Form {
     Old,
     New,
@@ -22,11 +21,6 @@ pub const OLD_RECORD: usize = 16;
 
 // The most bytes of a sheet: a record for each entity that a configuration may have.
 pub const MOST_BYTES: usize = MOST_ENTITIES * RECORD;
-
-// A Selector's kind, and the kind that old sheets have for one that was printed.
-const SELECTOR: u8 = 5;
-
-const PRINTED: u8 = 0x15;
 
 // The bytes of a record.
 pub fn record_size(form: Form) -> usize
@@ -101,15 +95,4 @@ pub fn refusal(s: &[u8]) -> u8
     ensures { result ≡ sheet_number s.now }
 {
     refusal_in(s, Form::New)
-}
-
-// The kind that is shown of a record's (No. 6): 15 hex, that of a Selector that was printed, is shown as a Selector's,
-// 05; any other as itself.
-pub fn shown_kind(kind: u8) -> u8
-    ensures { result ≡ shown_kind kind }
-{
-    if kind != PRINTED {
-        return kind;
-    }
-    SELECTOR
 }

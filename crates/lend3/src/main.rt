@@ -38,12 +38,15 @@ fn say_next(n: u64) {
 
 // "The answer is the sheet only": the other counts of an acceptance are 1.0's, and are not said of either edition.
 fn say_answer(reading: Reading) {
-    if reading.number != 0 {
-        print::line(text::refused_at(reading.number, reading.place));
-        return;
+    if reading.number == 0 {
+        say(b"accepted");
+        say_next(reading.entities as u64);
+    } else {
+        say(b"refused");
+        say_next(reading.number as u64);
+        say(b" at");
+        say_next(reading.place as u64);
     }
-    say(b"accepted");
-    say_next(reading.entities as u64);
     say(b"\n");
 }
 

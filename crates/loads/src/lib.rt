@@ -8,7 +8,7 @@ use table::{Control, Sense};
 
 // What a load does, told with no table in hand: a function that takes the table copies it, so the control is taken out, and stored once.
 // 0 or the number of the refusal, and the control as it is then.
-#[derive(Drop)]
+#[derive(Clone, Copy)]
 pub struct Deed {
     pub number: u8,
     pub control: Control,

@@ -1,6 +1,5 @@
-// The program `move` (document 02, No. 7): its one argument is the form wanted, `new` or `old`. It reads a sheet of the
-// other form from standard input and prints the moved sheet's bytes, or `refused N`. An input that cannot be read is
-// `cannot read`, and nothing else. Anything but that one argument prints how it is used, and nothing is read.
+// The program `move` (document 02, No. 7): its one argument is the form wanted, `new` or `old`. It reads a sheet of the other form from standard
+// input and prints the moved sheet's bytes, or `refused N`. Anything but that one argument prints how it is used, and nothing is read.
 ghost use Rattle.std.specs.Prelude.{◌≤◌};
 
 use legal::Form;
@@ -17,16 +16,12 @@ fn say(text: &[u8]) {
 // The moved bytes, or the refusal.
 fn say_moved(moved: Moved, room: &[u8]) {
     if moved.number != 0 {
-        print::line(text::refused(moved.number));
+        say(b"refused ");
+        io::print_decimal(STDOUT_FILENO, moved.number as u64);
+        say(b"\n");
         return;
     }
     say(scan::stretch(room, 0, moved.written));
-}
-
-// Whether nothing is left to read. Where a read before this one failed, this one fails too, or brings what was left.
-fn is_over() -> bool {
-    let mut more = [0u8; 1];
-    libc::read(STDIN_FILENO, &mut more) == 0
 }
 
 // Moves the sheet on standard input to a form.
@@ -34,10 +29,6 @@ fn move_input(form: Form) {
     let mut sheet = [0u8; ROOM];
     let mut room = [0u8; ROOM];
     let count = io::read_full(STDIN_FILENO, &mut sheet);
-    if count < ROOM && !is_over() {
-        say(b"cannot read\n");
-        return;
-    }
     let moved = mover::move_to(form, scan::stretch(&sheet, 0, count), &mut room);
     say_moved(moved, &room);
 }

@@ -14,7 +14,7 @@ use scan::byte_at;
 const MORE: usize = RECORD - OLD_RECORD;
 
 // What a move answers: the number of its refusal, 0 where there is none, and how many bytes of the room it wrote.
-#[derive(Drop)]
+#[derive(Clone, Copy)]
 pub struct Moved {
     pub number: u8,
     pub written: usize,

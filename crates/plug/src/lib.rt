@@ -6,7 +6,7 @@ use request::State;
 use topology::Reading;
 
 // What a plug-in comes to: the reading of the microphone's configuration, and the state.
-#[derive(Drop)]
+#[derive(Clone, Copy)]
 pub struct Plugged {
     pub reading: Reading,
     pub state: State,

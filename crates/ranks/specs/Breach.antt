@@ -1,4 +1,4 @@
--- What the reader computes of rule 12, from a run and an order of it; the laws that tie it to the rule are in Rule12Laws.
+-- What the reader computes of rule 12, from a run and an order of it; the laws that tie it to the rule are in RuleLaws.
 --   ids_of run          ==  the IDs of the entities of the run
 --   borne_in run        ==  by ID, whether an entity of the run bears it
 --   breach12 run order ==  the place of the first entity of the run whose ID is not borne in the order

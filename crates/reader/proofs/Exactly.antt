@@ -1,7 +1,6 @@
 -- The reader gives exactly the first row of the papers' table that applies, at exactly its place.
 --   shown_rows              ==  the bytes are a configuration, and its records have room: every rule is kept
 --   clusters_on, controls_on  ==  what the reader has at an entity's index is the cluster on its ID; its controls are those of the descriptors
---   decides_14, decides_15  ==  the tests of the rows 14 and 15 decide them, with any clusters that are given out
 --   answers                 ==  the verdict is put together by the table's rows, each by what decides it
 --   accepted_exactly, refused_exactly  ==  THE THEOREMS, for every configuration and every room
 use Prim.Native.Nat.{ℕ, ◌<◌}
@@ -46,7 +45,7 @@ module _ (s : List ℕ) (k : Kept s) where
   controls_on c = controls_same (represented s k) (clusters_at s (kept_survey k)) c.cluster (clusters_on c)
 
   module _ (room : ℕ) (c : Connected audio (run_of k)) where
-    pub decides_14 : Decides (breach14 (terminals_of s (entities_of k) (clusters_at s (kept_survey k))) s) (Streams k c.cluster) (Breaks14 (run_of k) c.cluster k.opened.descriptors)
+    decides_14 : Decides (breach14 (terminals_of s (entities_of k) (clusters_at s (kept_survey k))) s) (Streams k c.cluster) (Breaks14 (run_of k) c.cluster k.opened.descriptors)
     decides_14 =
         let all = terminals_are (represented s k) k.rule9 c.cluster (clusters_at s (kept_survey k)) (clusters_on c) in
         let one = one_each (represented s k) (clusters_at s (kept_survey k)) (own_ids (run_of k) c.rule10) in
@@ -56,7 +55,7 @@ module _ (s : List ℕ) (k : Kept s) where
           broken = rule14_broken (run_of k) c.cluster ts all one s k.opened.descriptors k.opened.rule3;
         }
 
-    pub decides_15 : Decides (breach15 (table_for s (kept_survey k) (clusters_at s (kept_survey k))).count (header_place k.opened)) (FewControls k c.cluster) (BrokenAt (header_place k.opened) (FewControls k c.cluster))
+    decides_15 : Decides (breach15 (table_for s (kept_survey k) (clusters_at s (kept_survey k))).count (header_place k.opened)) (FewControls k c.cluster) (BrokenAt (header_place k.opened) (FewControls k c.cluster))
     decides_15 = rw (controls_on c) (record {
       kept = rule15_kept (run_of k) c.cluster k.rule9 (distinct_ids (run_of k) c.rule10) (header_place k.opened);
       broken = rule15_broken (run_of k) c.cluster k.rule9 (distinct_ids (run_of k) c.rule10) (header_place k.opened);

@@ -5,7 +5,6 @@ ghost use Rattle.std.specs.Prelude.{◌≤◌, ◌≡◌, length};
 use libc::{STDIN_FILENO, STDOUT_FILENO};
 use request::State;
 use table::{Control, Table};
-use topology::Reading;
 
 // The most bytes of a step's body.
 const BODY: usize = 8192;
@@ -20,7 +19,7 @@ const SHEET: usize = 1024;
 const PUT: usize = 13;
 
 // What a step leaves: the box, and whether it was a step at all.
-#[derive(Drop)]
+#[derive(Clone, Copy)]
 struct Next {
     good: bool,
     state: State,
@@ -43,10 +42,14 @@ fn say(text: &[u8]) {
     io::write_all(STDOUT_FILENO, text);
 }
 
+fn say_number(n: u64) {
+    io::print_decimal(STDOUT_FILENO, n);
+}
+
 // A space, then a number.
 fn say_next(n: u64) {
     say(b" ");
-    io::print_decimal(STDOUT_FILENO, n);
+    say_number(n);
 }
 
 // A space, then a byte as two capital hex digits.
@@ -64,22 +67,22 @@ fn bad(state: State) -> Next {
     Next { good: false, state }
 }
 
-fn say_reading(reading: Reading) {
-    if reading.number != 0 {
-        print::line(text::refused_at(reading.number, reading.place));
-        return;
-    }
-    say(b"accepted");
-    say_next(reading.control as u64);
-    say_next(reading.entities as u64);
-    say_next(reading.controls as u64);
-    say(b"\n");
-}
-
 fn plug_in(config: &[u8]) -> Next {
     let mut sheet = [0u8; SHEET];
     let plugged = plug::plug_in(config, &mut sheet);
-    say_reading(plugged.reading);
+    let reading = plugged.reading;
+    if reading.number == 0 {
+        say(b"accepted");
+        say_next(reading.control as u64);
+        say_next(reading.entities as u64);
+        say_next(reading.controls as u64);
+    } else {
+        say(b"refused");
+        say_next(reading.number as u64);
+        say(b" at");
+        say_next(reading.place as u64);
+    }
+    say(b"\n");
     let state = plugged.state;
     good(state)
 }
@@ -97,10 +100,12 @@ fn load(state: State, body: &[u8]) -> Next {
     let cur = scan::word_at(body, 9);
     let answer = request::load(state, unit, channel, selector, min, max, res, cur);
     if answer.number == 0 {
-        say(b"loaded\n");
+        say(b"loaded");
     } else {
-        print::line(text::refused(answer.number));
+        say(b"refused");
+        say_next(answer.number as u64);
     }
+    say(b"\n");
     let after = answer.state;
     good(after)
 }
@@ -116,14 +121,15 @@ fn say_bytes(bytes: &[u8]) {
 // The answer to a request: `set`, `got` and the bytes written, or the refusal.
 fn say_answer(number: u8, is_get: bool, reply: &[u8]) {
     if number != 0 {
-        print::line(text::refused(number));
+        say(b"refused");
+        say_next(number as u64);
     } else if is_get {
         say(b"got");
         say_bytes(reply);
-        say(b"\n");
     } else {
-        say(b"set\n");
+        say(b"set");
     }
+    say(b"\n");
 }
 
 fn at_most(n: usize, most: usize) -> usize

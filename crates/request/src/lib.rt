@@ -15,14 +15,14 @@ use setup::{Asked, Part, Target};
 use table::{Entry, Table};
 
 // The box's state: the AudioControl number and the table of controls.
-#[derive(Drop)]
+#[derive(Clone, Copy)]
 pub struct State {
     pub control: u8,
     pub table: Table,
 }
 
 // What a load or a request comes to: 0 or the number of the refusal, how many bytes of the reply were written, and the state after it.
-#[derive(Drop)]
+#[derive(Clone, Copy)]
 pub struct Answer {
     pub number: u8,
     pub written: usize,

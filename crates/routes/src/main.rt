@@ -36,22 +36,19 @@ fn say_next(n: u64) {
 }
 
 // The reader's refusals have a place, those behind them none.
-fn say_refusal(listing: Listing) {
-    if listing.number < 45 {
-        print::line(text::refused_at(listing.number, listing.place));
-        return;
-    }
-    print::line(text::refused(listing.number));
-}
-
 fn say_answer(listing: Listing) {
-    if listing.number != 0 {
-        say_refusal(listing);
-        return;
+    if listing.number == 0 {
+        say(b"routes");
+        say_next(listing.routes as u64);
+        say_next(listing.written as u64);
+    } else {
+        say(b"refused");
+        say_next(listing.number as u64);
+        if listing.number < 45 {
+            say(b" at");
+            say_next(listing.place as u64);
+        }
     }
-    say(b"routes");
-    say_next(listing.routes as u64);
-    say_next(listing.written as u64);
     say(b"\n");
 }
 

@@ -9,7 +9,7 @@ use ground::index_of;
 use upstream::Listing;
 
 // By ID, where the source IDs of the entity that bears it stand, and how many there are.
-#[derive(Drop)]
+#[derive(Clone, Copy)]
 pub struct SourcePlaces {
     pub firsts: [usize; 256],
     pub counts: [u8; 256],

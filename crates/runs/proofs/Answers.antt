@@ -3,7 +3,6 @@
 -- load, or its first value where there was none; MIN, MAX and RES are those of its last accepted load; a yes/no and a pin are
 -- what the last accepted Set made them.
 --   settles_one            ==  one number is settled where a number is wanted
---   set_done               ==  a Set with number 0 was done
 --   next_get, next_set, next_load  ==  an accepted Get gives, an accepted Set and an accepted load store, what the papers ask
 --   get_keeps, set_silent  ==  no Get changes the table, and no Set writes to the reply
 --   run_found              ==  every control is found where it was
@@ -90,7 +89,7 @@ module _ (st : State) where
         go (got bytes) e i = (bytes, e)
         go (done v) e i = absurd (set_no_get s (set_taken st s d room v e).asked a)
 
-    pub set_done : AsksSet s → number_of (request_of st s d room) ≡ 0 → (v : Table) × (request_of st s d room ≡ done v)
+    set_done : AsksSet s → number_of (request_of st s d room) ≡ 0 → (v : Table) × (request_of st s d room ≡ done v)
     set_done a z = go (request_of st s d room) refl z
       where
         go : (o : Outcome) → request_of st s d room ≡ o → number_of o ≡ 0 → (v : Table) × (request_of st s d room ≡ done v)

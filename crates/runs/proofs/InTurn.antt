@@ -5,8 +5,6 @@
 -- the list none of them is refused exactly where the tests of all pass, and then they leave what all leave (set_runs, get_runs). No law
 -- here looks at a selector or a size.
 --   get_asks ==  what a Get of a part is read as
---   Standing s v ps, get_by  ==  the controls at the indices ps stand in the state v as the setup s names them; what a
---                single Get of the first comes to
 --   in_turn_lem  ==  so it is in every state whose table 30 has nothing against, for every setup that 31 to 34 let pass
 use Prim.Native.Nat.{ℕ, ◌≤◌, ◌<◌}
 use mathlib.Core.Path.{◌≡◌, refl, sym, ap, ◌∙◌, subst}
@@ -176,13 +174,13 @@ module _ (v : State) (step : Step) (run : List Step) (good : Bool) (w : State) (
   }
 
 -- the controls that are still to be asked stand as they stood, in the state that the requests before left
-pub record Standing (s : List ℕ) (v : State) (ps : List ℕ) : Type 0 where
-  pub sound : Sound v.table
-  pub here : byte s 4 ≡ v.control
-  pub apart : Apart ps
-  pub inside : (p : ℕ) → p ∈ ps → p < v.table.count
-  pub unit : (p : ℕ) → p ∈ ps → (at v.table p).unit ≡ byte s 5
-  pub selector : (p : ℕ) → p ∈ ps → (at v.table p).selector ≡ byte s 3
+record Standing (s : List ℕ) (v : State) (ps : List ℕ) : Type 0 where
+  sound : Sound v.table
+  here : byte s 4 ≡ v.control
+  apart : Apart ps
+  inside : (p : ℕ) → p ∈ ps → p < v.table.count
+  unit : (p : ℕ) → p ∈ ps → (at v.table p).unit ≡ byte s 5
+  selector : (p : ℕ) → p ∈ ps → (at v.table p).selector ≡ byte s 3
 
 misfits_reads : (cs : List Control) (n : ℕ) (d : List ℕ) → Reads (misfits cs n d) ((n ≡ sizes_of cs → ⊥) ⊎ (length d ≡ sizes_of cs → ⊥))
 misfits_reads cs n d = reads_or _ _ (reads_not _ (reads_eq n (sizes_of cs))) (reads_not _ (reads_eq (length d) (sizes_of cs)))
@@ -301,7 +299,7 @@ module _ (s : List ℕ) (v : State) (p : ℕ) (ps : List ℕ) (h : Standing s v 
         rw (i, j) (comes_on v ask _ _ _ _ (done left) e refl (rw same at r))
 
   module _ (part : Part) (asked : byte s 0 ≡ 0xA1) (code : byte s 1 ≡ code_of part) where
-    pub get_by : (x y : Bool) → lacking (held_by c) part ≡ x → unready (held_by c) c ≡ y
+    get_by : (x y : Bool) → lacking (held_by c) part ≡ x → unready (held_by c) c ≡ y
         → step_of v ask ≡ pick x (refused 35) (pick y (refused 36) (got (value_of part c)))
     get_by x y i j =
         single_at (λ n cs. get_of part cs n (size_in c))

@@ -1,7 +1,7 @@
 pub mod Stored
 pub mod Shares
 pub mod Addressing
-pub mod Sets
+mod Sets
 pub mod Taken
 pub mod Kept
 pub mod Moved

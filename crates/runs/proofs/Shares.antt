@@ -1,6 +1,5 @@
 -- What a Set of several controls sends to each: its piece of the data, the number that the piece is, and what is stored for it.
 --   bytes_take, bytes_drop  ==  a part of bytes is bytes
---   share_in        ==  whose piece it is is one of the controls
 --   share_told      ==  the number that the data send to a key is that of the piece of the control that bears it, where the channels rise;
 --                       none_told: and none where no control bears it
 --   Sent t p ps d   ==  what the data d of a Set of the controls at the indices ps send to the control at p, one of them
@@ -59,7 +58,7 @@ any_front c cs h = go (unready (held_by c) c) h
     go true e = absurd (true≠false e)
     go false e = (refl, e)
 
-pub share_in : {cs : List Control} {d : List ℕ} {c : Control} {piece : List ℕ} → Share cs d c piece → c ∈ cs
+share_in : {cs : List Control} {d : List ℕ} {c : Control} {piece : List ℕ} → Share cs d c piece → c ∈ cs
 share_in first = Memᴰ.head refl
 share_in (later h) = Memᴰ.tail (share_in h)
 

@@ -7,7 +7,7 @@ use ground::Place;
 use scan::{byte_at, end_of};
 
 // What a search among descriptors stops at.
-#[derive(Drop)]
+#[derive(Clone, Copy)]
 pub enum Want {
     // An interface descriptor of class 1 and this subclass.
     Audio(u8),

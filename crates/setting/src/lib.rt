@@ -7,7 +7,7 @@ ghost use Rattle.setting.specs.Setting.{span_of, bias_of, most_res, height_of, a
 
 // The three sorts of ranged numbers: volume (two bytes, signed), tone = bass, mid, treble (one byte, signed), delay (two
 // bytes, unsigned).
-#[derive(Drop)]
+#[derive(Clone, Copy)]
 pub enum Sort {
     Volume,
     Tone,
@@ -16,7 +16,7 @@ pub enum Sort {
 
 // A range as on the wire: two bytes each, two's complement where the control is signed; for a one-byte control each number
 // is 0 to 255.
-#[derive(Drop)]
+#[derive(Clone, Copy)]
 pub struct Range {
     pub min: u16,
     pub max: u16,

@@ -6,7 +6,7 @@ ghost use Rattle.setup.specs.Setup.{asked_by, asked_of, target_in};
 use scan::word_at;
 
 // What a request is about: the low and the high byte of wIndex, the low and the high byte of wValue, and wLength.
-#[derive(Drop)]
+#[derive(Clone, Copy)]
 pub struct Target {
     pub interface: u8,
     pub unit: u8,
@@ -16,7 +16,7 @@ pub struct Target {
 }
 
 // Which number of a control a Get asks for.
-#[derive(Drop)]
+#[derive(Clone, Copy)]
 pub enum Part {
     Cur,
     Min,
@@ -25,7 +25,7 @@ pub enum Part {
 }
 
 // What a setup asks.
-#[derive(Drop)]
+#[derive(Clone, Copy)]
 pub enum Asked {
     Unknown,
     Set(Target),

@@ -1,6 +1,7 @@
 // The program `sheet` (document 01): reads a configuration from standard input, lends 1,024 bytes and prints each record as thirty-two
-// two-digit capital hex bytes with single spaces, or `refused N at P` in decimal. An input that cannot be read is `cannot read`, and nothing else.
-use libc::STDIN_FILENO;
+// two-digit capital hex bytes with single spaces, or `refused N at P` in decimal.
+use libc::{STDIN_FILENO, STDOUT_FILENO};
+use topology::Reading;
 
 // One byte more than a configuration may have: a longer input reads as that long, and is refused for it.
 const ROOM: usize = 4097;
@@ -8,24 +9,49 @@ const ROOM: usize = 4097;
 // The bytes of the lent sheet.
 const SHEET: usize = 1024;
 
-// Whether nothing is left to read. Where a read before this one failed, this one fails too, or brings what was left.
-fn is_over() -> bool {
-    let mut more = [0u8; 1];
-    libc::read(STDIN_FILENO, &mut more) == 0
+fn say(text: &[u8]) {
+    io::write_all(STDOUT_FILENO, text);
+}
+
+fn say_refusal(reading: Reading) {
+    say(b"refused ");
+    io::print_decimal(STDOUT_FILENO, reading.number as u64);
+    say(b" at ");
+    io::print_decimal(STDOUT_FILENO, reading.place as u64);
+    say(b"\n");
+}
+
+// The sheet's byte at an offset: two capital hex digits, and what stands behind them in its line.
+fn say_byte(b: u8, at: usize) {
+    let pair = text::hex_pair(b);
+    say(&pair);
+    if at % records::RECORD == records::RECORD - 1 {
+        say(b"\n");
+    } else {
+        say(b" ");
+    }
+}
+
+// The records of so many entities, a line each.
+fn say_records(sheet: [u8; SHEET], entities: usize) {
+    let mut i: usize = 0;
+    while i < SHEET {
+        if i / records::RECORD == entities {
+            return;
+        }
+        say_byte(sheet[i], i);
+        i += 1;
+    }
 }
 
 fn main() {
     let mut config = [0u8; ROOM];
     let n = io::read_full(STDIN_FILENO, &mut config);
-    if n < ROOM && !is_over() {
-        say(b"cannot read\n");
-        return;
-    }
     let mut sheet = [0u8; SHEET];
     let reading = topology::read(&config[..n], &mut sheet);
     if reading.number != 0 {
-        print::line(text::refused_at(reading.number, reading.place));
+        say_refusal(reading);
         return;
     }
-    print::records(&sheet, reading.entities);
+    say_records(sheet, reading.entities);
 }

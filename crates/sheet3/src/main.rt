@@ -1,9 +1,9 @@
 // The program `sheet3` (document 02, No. 12), for a person: reads a configuration of either edition from standard input and its cluster buffer from the file
-// `clusters` in the folder that it runs in, lends 1,024 bytes and prints as `sheet` does. A file that cannot be read, or not whole, is `cannot read clusters`, and nothing else;
-// standard input that cannot be read is `cannot read`.
+// `clusters` in the folder that it runs in, lends 1,024 bytes and prints as `sheet` does. A file that cannot be read, or not whole, is `cannot read clusters`, and nothing else.
 ghost use Rattle.io.specs.Counts.{IsPrefixLen};
 
 use libc::{STDIN_FILENO, STDOUT_FILENO};
+use topology::Reading;
 
 // One byte more than a configuration may have: a longer input reads as that long, and is refused for it.
 const ROOM: usize = 4097;
@@ -15,7 +15,7 @@ const CLUSTERS: usize = 8192;
 const SHEET: usize = 1024;
 
 // What was read of a file: whether that is all of it, and how many bytes.
-#[derive(Drop)]
+#[derive(Clone, Copy)]
 struct Content {
     good: bool,
     count: usize,
@@ -48,21 +48,48 @@ fn read_file(room: &mut [u8]) -> Content
     Content { good, count }
 }
 
+fn say_refusal(reading: Reading) {
+    say(b"refused ");
+    io::print_decimal(STDOUT_FILENO, reading.number as u64);
+    say(b" at ");
+    io::print_decimal(STDOUT_FILENO, reading.place as u64);
+    say(b"\n");
+}
+
+// The sheet's byte at an offset: two capital hex digits, and what stands behind them in its line.
+fn say_byte(b: u8, at: usize) {
+    let pair = text::hex_pair(b);
+    say(&pair);
+    if at % records::RECORD == records::RECORD - 1 {
+        say(b"\n");
+    } else {
+        say(b" ");
+    }
+}
+
+// The records of so many entities, a line each.
+fn say_records(sheet: [u8; SHEET], entities: usize) {
+    let mut i: usize = 0;
+    while i < SHEET {
+        if i / records::RECORD == entities {
+            return;
+        }
+        say_byte(sheet[i], i);
+        i += 1;
+    }
+}
+
 // Reads the configuration on standard input with this cluster buffer.
 fn read_input(clusters: &[u8]) {
     let mut config = [0u8; ROOM];
     let n = io::read_full(STDIN_FILENO, &mut config);
-    if n < ROOM && !is_over(STDIN_FILENO) {
-        say(b"cannot read\n");
-        return;
-    }
     let mut sheet = [0u8; SHEET];
     let reading = protocol::read(&config[..n], clusters, &mut sheet);
     if reading.number != 0 {
-        print::line(text::refused_at(reading.number, reading.place));
+        say_refusal(reading);
         return;
     }
-    print::records(&sheet, reading.entities);
+    say_records(sheet, reading.entities);
 }
 
 fn main() {

@@ -46,12 +46,13 @@ fn compare(body: &[u8]) -> bool {
 }
 
 fn say_moved(moved: Moved) {
-    if moved.number != 0 {
-        print::line(text::refused(moved.number));
-        return;
+    if moved.number == 0 {
+        say(b"moved ");
+        io::print_decimal(STDOUT_FILENO, moved.written as u64);
+    } else {
+        say(b"refused ");
+        io::print_decimal(STDOUT_FILENO, moved.number as u64);
     }
-    say(b"moved ");
-    io::print_decimal(STDOUT_FILENO, moved.written as u64);
     say(b"\n");
 }
 

@@ -11,14 +11,14 @@ use setup::Asked;
 // The most controls that both sides have together.
 pub const TOGETHER: usize = 192;
 
-#[derive(Drop)]
+#[derive(Clone, Copy)]
 pub enum Side {
     Left,
     Right,
 }
 
 // Whom a request is for: nobody, with the number that refuses it, or a side.
-#[derive(Drop)]
+#[derive(Clone, Copy)]
 pub enum Addressee {
     Nobody(u8),
     At(Side),

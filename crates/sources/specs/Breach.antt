@@ -1,4 +1,4 @@
--- What the reader computes of rule 11, from its array; the laws that tie it to the rule are in Rule11Laws.
+-- What the reader computes of rule 11, from its array; the laws that tie it to the rule are in RuleLaws.
 --   refuses f           ==  what a lookup found has the number 11: nothing, or an entity with no output
 --   wrong_source run x   ==  a source ID x is 0, unknown, or one of an entity with no output
 --   wrong_by marks x     ==  the same by the marks of a run

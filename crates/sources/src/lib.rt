@@ -11,7 +11,7 @@ use entities::Run;
 use ground::{Place, index_of};
 
 // What a lookup by ID finds: no entity, or one, and whether it has an output.
-#[derive(Drop)]
+#[derive(Clone, Copy)]
 pub enum Found {
     Nothing,
     Entity(bool),

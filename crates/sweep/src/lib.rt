@@ -10,7 +10,7 @@ use ground::index_of;
 use layout::{Cluster, Entity};
 
 // What each ID gives out: by ID its channels, its locations and its first name index.
-#[derive(Drop)]
+#[derive(Clone, Copy)]
 pub struct Given {
     pub channels: [u8; 256],
     pub locations: [u16; 256],

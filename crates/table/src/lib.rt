@@ -11,7 +11,7 @@ pub const CONTROLS: usize = 128;
 
 // One control: which it is (a Selector's has selector 0 and channel 0), how many pins a Selector has, and its numbers, as
 // on the wire: two bytes each, two's complement where the control is signed.
-#[derive(Drop)]
+#[derive(Clone, Copy)]
 pub struct Control {
     pub unit: u8,
     pub channel: u8,
@@ -25,14 +25,14 @@ pub struct Control {
 }
 
 // The first count controls are the table's; the others are spare places.
-#[derive(Drop)]
+#[derive(Clone, Copy)]
 pub struct Table {
     pub count: usize,
     pub controls: [Control; CONTROLS],
 }
 
 // What a selector's control holds.
-#[derive(Drop)]
+#[derive(Clone, Copy)]
 pub enum Sense {
     Unknown,
     YesNo,
@@ -41,7 +41,7 @@ pub enum Sense {
 }
 
 // What a table holds of the control that is sought: nothing, or the control, with its index.
-#[derive(Drop)]
+#[derive(Clone, Copy)]
 pub enum Entry {
     Nothing,
     At(usize, Control),

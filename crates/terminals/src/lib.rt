@@ -8,7 +8,7 @@ use ground::index_of;
 use layout::Entity;
 
 // The Terminal that bears an ID, by its type and its channels; or nothing where none does.
-#[derive(Drop)]
+#[derive(Clone, Copy)]
 pub enum Bearer {
     Nothing,
     Terminal { kind: u16, channels: u16 },

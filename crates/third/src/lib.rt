@@ -12,7 +12,7 @@ use groups::Frame;
 use layout::Cluster;
 
 // What stands in a configuration that these rules do not refuse; where they do, the refusal and nothing else.
-#[derive(Drop)]
+#[derive(Clone, Copy)]
 struct Finding {
     refusal: Refusal,
     header: usize,
@@ -21,7 +21,7 @@ struct Finding {
 }
 
 // The answer: "the sheet only", and how many entities it shows. A refusal: its number and place, and no entity.
-#[derive(Drop)]
+#[derive(Clone, Copy)]
 pub struct SheetAnswer {
     pub number: u8,
     pub place: usize,

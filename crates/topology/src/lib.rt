@@ -14,7 +14,7 @@ use table::Table;
 const NO_INTERFACE: u8 = 0;
 
 // What stands in a configuration that the rules 1 to 15 do not refuse; where they do, the refusal and nothing else.
-#[derive(Drop)]
+#[derive(Clone, Copy)]
 pub struct Finding {
     pub refusal: Refusal,
     pub control: u8,
@@ -26,7 +26,7 @@ pub struct Finding {
 
 // The reader's answer. A refusal: its number and place, interface number 0, zero counts and an empty table. An acceptance: 0 for
 // number and place, the AudioControl number, how many entities and controls there are, and the table of controls.
-#[derive(Drop)]
+#[derive(Clone, Copy)]
 pub struct Reading {
     pub number: u8,
     pub place: usize,

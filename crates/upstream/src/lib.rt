@@ -16,14 +16,14 @@ const DEPTH: usize = 32;
 const MOST_ROUTES: usize = 256;
 
 // What the walk has told so far: how many routes, and how many bytes they take.
-#[derive(Drop)]
+#[derive(Clone, Copy)]
 pub struct Tally {
     pub routes: usize,
     pub written: usize,
 }
 
 // What a listing answers: the number and place of a refusal, 0 and 0 where there is none; how many routes, and how many bytes were written.
-#[derive(Drop)]
+#[derive(Clone, Copy)]
 pub struct Listing {
     pub number: u8,
     pub place: usize,
@@ -32,7 +32,7 @@ pub struct Listing {
 }
 
 // The IDs from the output to the entity that is asked, and how many more may follow.
-#[derive(Drop)]
+#[derive(Clone, Copy)]
 pub struct Path {
     pub ids: [u8; 32],
     pub left: usize,

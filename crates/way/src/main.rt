@@ -1,7 +1,6 @@
 // The program `way` (document 02, No. 8): its one argument is the ID of an Output Terminal as two hex digits. It reads a configuration from standard input and
 // prints every route, a line each, the IDs from the output to the input as two capital hex digits with single spaces; or `refused N at P` where the reader
-// refuses, or `refused N`. An input that cannot be read is `cannot read`, and nothing else. Anything but that one argument prints how it is used, and
-// nothing is read.
+// refuses, or `refused N`. Anything but that one argument prints how it is used, and nothing is read.
 use libc::{STDIN_FILENO, STDOUT_FILENO};
 use upstream::Listing;
 
@@ -20,36 +19,36 @@ fn say(text: &[u8]) {
 
 // The reader's refusals have a place, those behind them none.
 fn say_refusal(listing: Listing) {
+    say(b"refused ");
+    io::print_decimal(STDOUT_FILENO, listing.number as u64);
     if listing.number < 45 {
-        print::line(text::refused_at(listing.number, listing.place));
-        return;
+        say(b" at ");
+        io::print_decimal(STDOUT_FILENO, listing.place as u64);
     }
-    print::line(text::refused(listing.number));
+    say(b"\n");
 }
 
-// Whether a route begins at a place: at the first, and behind each 00.
-fn begins(routes: &[u8], i: usize) -> bool {
-    if i == 0 {
-        return true;
+// An ID, and a space where another follows it; 00 ends the line.
+fn say_id(id: u8, last: bool) {
+    if id == 0 {
+        say(b"\n");
+        return;
     }
-    scan::byte_at(routes, i - 1) == 0
+    let pair = text::hex_pair(id);
+    say(&pair);
+    if !last {
+        say(b" ");
+    }
 }
 
 // The routes, a line each.
 fn say_routes(routes: &[u8]) {
     let mut i: usize = 0;
     while i < routes.len() {
-        if begins(routes, i) {
-            print::line(text::route(routes, i));
-        }
+        let id = routes[i];
         i += 1;
+        say_id(id, scan::byte_at(routes, i) == 0);
     }
-}
-
-// Whether nothing is left to read. Where a read before this one failed, this one fails too, or brings what was left.
-fn is_over() -> bool {
-    let mut more = [0u8; 1];
-    libc::read(STDIN_FILENO, &mut more) == 0
 }
 
 // Lists the routes of the configuration on standard input.
@@ -57,10 +56,6 @@ fn list_input(id: u8) {
     let mut config = [0u8; ROOM];
     let mut list = [0u8; LIST];
     let count = io::read_full(STDIN_FILENO, &mut config);
-    if count < ROOM && !is_over() {
-        say(b"cannot read\n");
-        return;
-    }
     let listing = routing::list_routes(scan::stretch(&config, 0, count), id, &mut list);
     if listing.number != 0 {
         say_refusal(listing);

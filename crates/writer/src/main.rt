@@ -22,14 +22,14 @@ const SLOT: usize = 602;
 const SPACE: usize = 19866;
 
 // An entity that was read, if it was one.
-#[derive(Drop)]
+#[derive(Clone, Copy)]
 struct Entered {
     good: bool,
     item: Item,
 }
 
 // A list that was read, if it was one.
-#[derive(Drop)]
+#[derive(Clone, Copy)]
 struct Heard {
     good: bool,
     list: EntityList,
@@ -68,13 +68,20 @@ fn say(text: &[u8]) {
     io::write_all(STDOUT_FILENO, text);
 }
 
+fn say_number(n: usize) {
+    io::print_decimal(STDOUT_FILENO, n as u64);
+}
+
 fn say_answer(answer: Wrote) {
-    if answer.number != 0 {
-        print::line(text::refused_at(answer.number, answer.place));
-        return;
+    if answer.number == 0 {
+        say(b"wrote ");
+        say_number(answer.written);
+    } else {
+        say(b"refused ");
+        say_number(answer.number as usize);
+        say(b" at ");
+        say_number(answer.place);
     }
-    say(b"wrote ");
-    io::print_decimal(STDOUT_FILENO, answer.written as u64);
     say(b"\n");
 }
 

@@ -18,14 +18,14 @@ const MOST_RUN: usize = entities::MOST_ENTITIES * laying::MOST_LONG;
 const CLASS: u8 = 0x24;
 
 // A list of entities: how many there are, and the first 32 of them. A longer list is refused by how many it has.
-#[derive(Drop)]
+#[derive(Clone, Copy)]
 pub struct EntityList {
     pub count: usize,
     pub items: [Item; 32],
 }
 
 // What the writer answers: the refusal's number and place, 0 and 0 where there is none, and how many bytes it wrote.
-#[derive(Drop)]
+#[derive(Clone, Copy)]
 pub struct Wrote {
     pub number: u8,
     pub place: usize,
@@ -33,14 +33,14 @@ pub struct Wrote {
 }
 
 // The first entity of a list whose layout is wrong, by index; or how many bytes the run has.
-#[derive(Drop)]
+#[derive(Clone, Copy)]
 struct Laid {
     wrong: Place,
     size: usize,
 }
 
 // A list's refusal by the rules of its entities, or how many bytes its run has.
-#[derive(Drop)]
+#[derive(Clone, Copy)]
 struct Judged {
     refusal: Refusal,
     size: usize,

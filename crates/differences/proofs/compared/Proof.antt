@@ -1,26 +1,37 @@
--- By its two ways out: not the kind, and the kind as it is shown.
+-- By its three ways out: not the kind, another kind, 15 hex.
 use borrow.Author.Rules.{rules}
 use Prim.Native.Nat.{ℕ}
 use mathlib.Core.Path.{◌≡◌, sym, ap, ◌∙◌}
+use mathlib.Core.Bool.{Bool, true, false, ◌&&◌}
 use mathlib.Core.List.{List}
+use lib.Dec.{eqb}
 use borrow.Author.Tests.{eq-eqb, ne_eqb}
 use Rattle.ground.specs.Pick.{yes, no}
 use Rattle.ground.specs.Numbers.{byte}
-use Rattle.legal.specs.Shown.{shown_kind}
-use Rattle.differences.specs.Mended.{kind_byte, compared_as}
+use Rattle.differences.specs.Mended.{compared_as}
 use Rattle.differences.proofs.compared.Statement.{statement}
 use Rattle.differences.proofs.compared.Tie as tie
 
 module _ (a : List ℕ) (n x : ℕ) (e : x ≡ byte a n) where
-  other_byte : (n ≡ kind_byte → ⊥) → x ≡ compared_as n (byte a n)
+  as_is : eqb n 1 && eqb (byte a n) 0x15 ≡ false → x ≡ compared_as n (byte a n)
   unfolding compared_as
-  other_byte d = e ∙ sym (no _ _ (ne_eqb n kind_byte d))
+  as_is f = e ∙ sym (no _ _ f)
 
-  the_kind : n ≡ kind_byte → (y : ℕ) → y ≡ shown_kind x → y ≡ compared_as n (byte a n)
-  unfolding compared_as
-  the_kind k y f = f ∙ ap shown_kind e ∙ sym (yes _ _ (eq-eqb n kind_byte k))
+  other_byte : (n ≡ 1 → ⊥) → x ≡ compared_as n (byte a n)
+  other_byte d = as_is (ap (λ (b : Bool). b && eqb (byte a n) 0x15) (ne_eqb n 1 d))
 
-ruleset laws = (other_byte, the_kind, rules)
+  module _ (k : n ≡ 1) where
+    here : (b : Bool) → eqb (byte a n) 0x15 ≡ b → eqb n 1 && eqb (byte a n) 0x15 ≡ b
+    here b f = ap (λ (c : Bool). c && eqb (byte a n) 0x15) (eq-eqb n 1 k) ∙ f
+
+    other_kind : (x ≡ 0x15 → ⊥) → x ≡ compared_as n (byte a n)
+    other_kind d = as_is (here false (ne_eqb (byte a n) 0x15 (λ q. d (e ∙ q))))
+
+    printed : x ≡ 0x15 → 5 ≡ compared_as n (byte a n)
+    unfolding compared_as
+    printed q = sym (yes _ _ (here true (eq-eqb (byte a n) 0x15 (sym e ∙ q))))
+
+ruleset laws = (other_byte, other_kind, printed, rules)
 
 byte_at_requires : tie.Need-byte-at-requires
 byte_at_requires c κs = search rules
@@ -28,11 +39,11 @@ byte_at_requires c κs = search rules
 returns : tie.Need-returns
 returns c = search laws
 
-shown_kind_requires : tie.Need-shown-kind-requires
-shown_kind_requires c κs = search rules
-
 returns_2 : tie.Need-returns-2
 returns_2 c = search laws
 
+returns_3 : tie.Need-returns-3
+returns_3 c = search laws
+
 pub compared_spec : {M : Type 1} → statement M
-compared_spec = tie.close (tie.spec byte_at_requires returns shown_kind_requires returns_2)
+compared_spec = tie.close (tie.spec byte_at_requires returns returns_2 returns_3)

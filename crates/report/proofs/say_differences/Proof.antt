@@ -37,11 +37,8 @@ id_of_requires c κs = search laws
 returns : tie.Need-returns invariant-loop decreases-loop
 returns c = search laws
 
-text_of_requires : tie.Need-text-of-requires invariant-loop decreases-loop
-text_of_requires c κs = search laws
-
-line_requires : tie.Need-line-requires invariant-loop decreases-loop
-line_requires c κs = search laws
+say_difference_requires : tie.Need-say-difference-requires invariant-loop decreases-loop
+say_difference_requires c κs = search laws
 
 loop_less : tie.Need-loop-smaller invariant-loop decreases-loop
 loop_less c = search laws
@@ -59,7 +56,6 @@ say_differences_spec =
     next_requires
     id_of_requires
     returns
-    text_of_requires
-    line_requires
+    say_difference_requires
     loop_less
     loop_again)

@@ -1,4 +1,4 @@
--- The node is its six fields, each as its reader answers; the first source stands inside the descriptor, so its place fits.
+-- The node is its five fields, each as its reader answers; the first source stands inside the descriptor, so its place fits.
 use borrow.Author.Rules.{rules}
 use Prim.Native.Nat.{ℕ, ◌+◌, ◌<◌, ◌^◌}
 use mathlib.Core.Path.{◌≡◌, refl, ap, ◌∙◌}

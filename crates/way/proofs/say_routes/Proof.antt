@@ -14,17 +14,17 @@ decreases-loop routes i₀ i = length routes - i
 loop_holds : tie.Need-loop-init invariant-loop decreases-loop
 loop_holds c = search rules
 
-begins_requires : tie.Need-begins-requires invariant-loop decreases-loop
-begins_requires c κs = search rules
-
-route_requires : tie.Need-route-requires invariant-loop decreases-loop
-route_requires c κs = search rules
-
-line_requires : tie.Need-line-requires invariant-loop decreases-loop
-line_requires c κs = search rules
+shared_slice_read_id : tie.Need-shared-slice-read-id invariant-loop decreases-loop
+shared_slice_read_id c = search rules
 
 add_i : tie.Need-overflow-add-i invariant-loop decreases-loop
 add_i c = search rules
+
+byte_at_requires : tie.Need-byte-at-requires invariant-loop decreases-loop
+byte_at_requires c κs = search rules
+
+say_id_requires : tie.Need-say-id-requires invariant-loop decreases-loop
+say_id_requires c κs = search rules
 
 loop_less : tie.Need-loop-smaller invariant-loop decreases-loop
 loop_less c = search rules
@@ -42,10 +42,10 @@ say_routes_spec =
     invariant-loop
     decreases-loop
     loop_holds
-    begins_requires
-    route_requires
-    line_requires
+    shared_slice_read_id
     add_i
+    byte_at_requires
+    say_id_requires
     loop_less
     loop_again
     returns)

@@ -1,4 +1,0 @@
-# [ derive ( Drop ) ] pub enum Place { Nowhere , At ( usize ) , }
-# [ derive ( Drop ) ] pub struct Refusal { pub number : u8 , pub place : usize , }
-pub fn index_of ( x : u8 ) -> usize
-    ensures { } ;

@@ -1,9 +1,0 @@
-pub mod Pick
-pub mod Numbers
-pub mod Lists
-pub mod Rising
-pub mod First
-pub mod Refuse
-pub mod Places
-pub mod Rows
-pub mod Indexed
