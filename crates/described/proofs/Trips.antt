@@ -169,7 +169,7 @@ module _ (s : List ℕ) (ls : List Listed) (cs : List ℕ) (w : SetIn s ls cs) (
     after = w.after;
     split = refl;
     class = class_all ls each;
-    no_class = w.no-class;
+    no_class = w.no_class;
     in_group = w.in_group;
     ends = w.ends;
     length_told = let n = length_flatten run_written in omega arith;

@@ -153,7 +153,7 @@ module _ (l r : List ℕ) where
         back i ns c =
             let d = c.differ in
             let same : differing c.before c.after ≡ ns = rising_one (differing_rising c.before c.after) d.rising (λ n. (λ m. (d.each n).1 ((differing_each c.before c.after n).0 m), λ m. (differing_each c.before c.after n).1 ((d.each n).0 m))) in
-            rw same at (to_changed i c.on-left c.on-right c.left-id c.right-id (λ z. d.one (sym same ∙ z)))
+            rw same at (to_changed i c.on_left c.on_right c.left_id c.right_id (λ z. d.one (sym same ∙ z)))
 
     -- records of one ID that no line names are the same, a Selector's kind mended
     same_there : {a b : List ℕ} → a ∈ records_in l → b ∈ records_in r → id_of a ≡ id_of b → ((x : Line) → x ∈ lines_of l r → line_id x ≡ id_of a → ⊥) → mended a ≡ mended b

@@ -43,7 +43,7 @@ module _ (ids : ℕ → ℕ) (a : ℕ) where
     kept : (a < ids i → x ≤ ids i) → LowestAbove ids a (i + 1) x k
     kept h = record {
       low = g.low;
-      none_lower = λ j l m. ⊎_elim (λ (e : j ≡ i). rw e (h (rw e at m))) (λ (s : j < i). g.none-lower j s m) (eq-or-lt_of_le (let q : j ≤ i = omega arith in q));
+      none_lower = λ j l m. ⊎_elim (λ (e : j ≡ i). rw e (h (rw e at m))) (λ (s : j < i). g.none_lower j s m) (eq-or-lt_of_le (let q : j ≤ i = omega arith in q));
       above = g.above;
       inside = λ l. let m = g.inside l in omega arith;
       stands = g.stands;
@@ -53,11 +53,11 @@ module _ (ids : ℕ → ℕ) (a : ℕ) where
     taken : a < ids i → ids i < x → LowestAbove ids a (i + 1) (ids i) i
     taken h l = record {
       low = let m = g.low in omega arith;
-      none_lower = λ j p m. ⊎_elim (λ (e : j ≡ i). rw e (let q : ids i ≤ ids i = omega arith in q)) (λ (s : j < i). let q = g.none-lower j s m in omega arith) (eq-or-lt_of_le (let q : j ≤ i = omega arith in q));
+      none_lower = λ j p m. ⊎_elim (λ (e : j ≡ i). rw e (let q : ids i ≤ ids i = omega arith in q)) (λ (s : j < i). let q = g.none_lower j s m in omega arith) (eq-or-lt_of_le (let q : j ≤ i = omega arith in q));
       above = λ p. h;
       inside = λ p. omega arith;
       stands = λ p. refl;
-      first = λ p j s e. let q = g.none-lower j s (let z : a < ids j = omega arith in z) in omega arith;
+      first = λ p j s e. let q = g.none_lower j s (let z : a < ids j = omega arith in z) in omega arith;
     }
 
     pub lowest_more : {x' k' : ℕ} → Lower a (ids i) i x k x' k' → LowestAbove ids a (i + 1) x' k'

@@ -72,7 +72,7 @@ module _ (u n : ℕ) (d : List ℕ) where
       let p = f.carried.is in
       let q = g.carried.is in
       let l = f.not_behind in
-      let h = g.not-before in
+      let h = g.not_before in
       rw (p, q) (inl (omega arith))
 
   pub channels_pairs : (j k : ℕ) → Pairs Lower (channels_from j k u n d)

@@ -51,7 +51,7 @@ module _ (s : Sort) (range : Range) where
           res_most = t.1.1.1.1.0;
           min_heard = t.1.1.1.1.1;
         };
-    denies = λ e l. tested.denies e (l.min-fits, (l.max-fits, (l.min-max, (l.res-some, (l.res-most, l.min-heard)))));
+    denies = λ e l. tested.denies e (l.min_fits, (l.max_fits, (l.min_max, (l.res_some, (l.res_most, l.min_heard)))));
   }
 
 -- "volume MIN at least −32767": MIN is not silence
@@ -76,24 +76,24 @@ legal_means s range = record {
   says =
       λ e.
       let l = (legal_reads s range).says e in
-      let f = res_fits s range.res l.res-most in
+      let f = res_fits s range.res l.res_most in
       record {
-        min_fits = l.min-fits;
-        max_fits = l.max-fits;
+        min_fits = l.min_fits;
+        max_fits = l.max_fits;
         res_fits = f;
-        min_max = (value_order s range.min range.max l.min-fits l.max-fits).says (le-leb _ _ l.min-max);
-        res_from = rw (res_value s range.res l.res-most) (le_lift 0 (pos 1) (pos range.res) 1 (range.res + 0) refl refl (omega (arith, l.res-some)));
-        res_to = rw (res_value s range.res l.res-most) (le_lift 0 (pos range.res) (pos (most_res s)) (range.res + 0) (most_res s + 0) refl refl (omega (arith, l.res-most)));
-        min_heard = heard_up s range.min l.min-fits l.min-heard;
+        min_max = (value_order s range.min range.max l.min_fits l.max_fits).says (le-leb _ _ l.min_max);
+        res_from = rw (res_value s range.res l.res_most) (le_lift 0 (pos 1) (pos range.res) 1 (range.res + 0) refl refl (omega (arith, l.res_some)));
+        res_to = rw (res_value s range.res l.res_most) (le_lift 0 (pos range.res) (pos (most_res s)) (range.res + 0) (most_res s + 0) refl refl (omega (arith, l.res_most)));
+        min_heard = heard_up s range.min l.min_fits l.min_heard;
       };
   denies =
       λ e l.
       (legal_reads s range).denies e record {
-        min_fits = l.min-fits;
-        max_fits = l.max-fits;
-        min_max = lift_le (bias_of s) (value s range.min) (value s range.max) _ _ (value_lift s range.min l.min-fits) (value_lift s range.max l.max-fits) l.min-max;
-        res_some = res_from_value s range.res l.res-fits l.res-from;
-        res_most = res_to_value s range.res l.res-fits l.res-from l.res-to;
-        min_heard = heard_down s range.min l.min-fits l.min-heard;
+        min_fits = l.min_fits;
+        max_fits = l.max_fits;
+        min_max = lift_le (bias_of s) (value s range.min) (value s range.max) _ _ (value_lift s range.min l.min_fits) (value_lift s range.max l.max_fits) l.min_max;
+        res_some = res_from_value s range.res l.res_fits l.res_from;
+        res_most = res_to_value s range.res l.res_fits l.res_from l.res_to;
+        min_heard = heard_down s range.min l.min_fits l.min_heard;
       };
 }

@@ -112,7 +112,7 @@ module _ (s : List ℕ) (run : Run) where
 
   module _ (channels locations names : List ℕ) (i : ℕ) (g : Sweeping channels locations names i) where
     pub sweeping_long : (length channels ≡ 256) × (length locations ≡ 256) × (length names ≡ 256)
-    sweeping_long = (g.long-channels, g.long-locations, g.long-names)
+    sweeping_long = (g.long_channels, g.long_locations, g.long_names)
 
     module _ (n : ℕ) (m : n ≡ held run) where
       pub sweeping_over : n ≤ i → Sweeps s run (given_by channels locations names)
@@ -123,9 +123,9 @@ module _ (s : List ℕ) (run : Run) where
           let all_below : take i (below (held run)) ≡ below (held run) = take_all i (below (held run)) long in
           let whole : (x : ℕ) → cluster_by channels locations names x ≡ given_in s run x = λ x. rw all_below at (g.same x) in
           let out : ℕ → Cluster = given_in s run in
-          let a = table_of channels (λ x. (out x).channels) g.long-channels (λ x. ap (λ (c : Cluster). c.channels) (whole x)) in
-          let b = table_of locations (λ x. (out x).locations) g.long-locations (λ x. ap (λ (c : Cluster). c.locations) (whole x)) in
-          let d = table_of names (λ x. (out x).names) g.long-names (λ x. ap (λ (c : Cluster). c.names) (whole x)) in
+          let a = table_of channels (λ x. (out x).channels) g.long_channels (λ x. ap (λ (c : Cluster). c.channels) (whole x)) in
+          let b = table_of locations (λ x. (out x).locations) g.long_locations (λ x. ap (λ (c : Cluster). c.locations) (whole x)) in
+          let d = table_of names (λ x. (out x).names) g.long_names (λ x. ap (λ (c : Cluster). c.names) (whole x)) in
           record {
             whole =
                 ap (λ (t : List ℕ). given_by t locations names) a
@@ -141,9 +141,9 @@ module _ (s : List ℕ) (run : Run) where
       sweeping_more h c e x q =
           let l : i < held run = omega arith in
           let u = q.1 in
-          let a = g.long-channels in
-          let b = g.long-locations in
-          let d = g.long-names in
+          let a = g.long_channels in
+          let b = g.long_locations in
+          let d = g.long_names in
           let entering = map_same (cluster_by channels locations names) (given_after i) (sources_at s run i) (λ y k. g.same y) in
           let f : c ≡ gives_by s (node_at run i) (given_after i) = e ∙ ap (give_out (entity_of (descriptor_of s (node_at run i)))) entering in
           record {

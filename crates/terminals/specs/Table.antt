@@ -174,8 +174,8 @@ module _ (s : List ℕ) (r : Run) (cs : List Cluster) where
         → Filling kinds' counts' (i + 1)
     unfolding terminals_from
     filling_on h {kinds'} {counts'} e =
-        let a = g.long-kinds in
-        let b = g.long-counts in
+        let a = g.long_kinds in
+        let b = g.long_counts in
         record {
           low = omega arith;
           long_kinds = e.long_kinds ∙ a;

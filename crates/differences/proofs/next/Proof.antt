@@ -21,7 +21,7 @@ use Rattle.differences.proofs.next.Tie as tie
 
 module _ (s : List ℕ) (a x k : ℕ) (g : LowestAbove (id_at s) a (count_in s) x k) where
   absent : (j : ℕ) → a < j → j < x → record_bearing s j ≡ none
-  absent j p q = record_none s j (λ i h e. let n = g.none-lower i h (let z : a < id_at s i = omega arith in z) in omega arith)
+  absent j p q = record_none s j (λ i h e. let n = g.none_lower i h (let z : a < id_at s i = omega arith in z) in omega arith)
 
   present : x < no_id → record_bearing s x ≡ some (record_at s k)
   present p = record_first s x k (g.inside p) (g.stands p) (g.first p)

@@ -32,7 +32,7 @@ module _ (b : List ℕ) (cs : List (List ℕ)) (p size id : ℕ) (k : List ℕ) 
   by_length : not r ≡ false → (i : ℕ) → Entering cs i → (l : ℕ) → l ≡ mixer_length p c i
       → eqb size l ≡ (within 1 own most_channels && eqb size (mixer_length p own (channels_in cs)))
   by_length h i g l q =
-      ap (eqb size) (q ∙ ap (λ (n : ℕ). mixer_length p n i) is_own ∙ ap (mixer_length p own) g.all-channels)
+      ap (eqb size) (q ∙ ap (λ (n : ℕ). mixer_length p n i) is_own ∙ ap (mixer_length p own) g.all_channels)
       ∙ sym (ap (λ (x : Bool). x && eqb size (mixer_length p own (channels_in cs))) (test ∙ not-false r h))
 
 few_of : (cs : List (List ℕ)) (i : ℕ) → Entering cs i → i ≤ 65025

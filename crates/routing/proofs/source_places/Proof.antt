@@ -78,8 +78,8 @@ module _ (run : Run) where
         → Both (set firsts x (node_at run i).first) (set counts x (node_at run i).pins) (i + 1)
     on x w n m h = record {
       low = omega arith;
-      firsts_are = noted_more first_of firsts i g.firsts-are x w.0 w.1;
-      counts_are = noted_more pins_of counts i g.counts-are x w.0 w.1;
+      firsts_are = noted_more first_of firsts i g.firsts_are x w.0 w.1;
+      counts_are = noted_more pins_of counts i g.counts_are x w.0 w.1;
     }
 
     over : (n : ℕ) → n ≡ held run → n ≤ i → record { firsts = firsts; counts = counts } ≡ source_places_of run
@@ -87,7 +87,7 @@ module _ (run : Run) where
     over n m h =
         let l = g.low in
         let e : i ≡ held run = omega arith in
-        rw (noted_all first_of firsts i g.firsts-are e, noted_all pins_of counts i g.counts-are e) refl
+        rw (noted_all first_of firsts i g.firsts_are e, noted_all pins_of counts i g.counts_are e) refl
 
 ruleset laws = (start, on, over, rules)
 
