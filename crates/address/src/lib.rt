@@ -1,3 +1,4 @@
+#![tactic(auto)]
 // Who is addressed (document 01, refusals 33 and 34; document 02, No. 2): where the controls that a request names stand in the table, from
 // the lowest channel up, or what is missing; with refusal 30 in one. What this crate promises to the layer above: for every table, unit,
 // channel and selector whatever, what specs/Sought.antt says.

@@ -1,3 +1,4 @@
+#![tactic(auto)]
 // A microphone is plugged in on a side of the duet box (document 02, No. 11). 62, that both sides' controls would be too many, comes behind the
 // reader's refusals and must leave the sheet: so the reader is lent a draft, and the sheet is written from it where the microphone is let in. What
 // this crate promises: for every box whatever, every side, configuration and sheet, exactly what specs/Plugging.antt says; a refusal leaves box and

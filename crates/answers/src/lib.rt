@@ -1,3 +1,4 @@
+#![tactic(auto)]
 // What a Set and a Get ask of each control that they address, and what they do to it (document 01, rows 35 to 39; document 02, Nos. 1 and
 // 2). What this crate promises to the layer above: for every control and data whatever, what specs/Answers.antt says of one control; there
 // too stands what a Set and a Get come to at several.

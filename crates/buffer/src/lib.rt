@@ -1,3 +1,4 @@
+#![tactic(auto)]
 // The cluster buffer of the 3.0 edition (document 02, No. 12): a second lent buffer "which tiles into cluster descriptors (length at 0..1, 7 or more;
 // ID at 4..5; c at 6) with distinct IDs that are not 0". What it promises to the layer above: for every slice, where it is none (refusal 51), the
 // descriptor that bears an ID, and whether two have the same content.

@@ -1,3 +1,4 @@
+#![tactic(auto)]
 // The rule of a declared cluster (document 01, "Clusters"; source document 000, section 3.7.2.3), one cluster at a time. What this crate
 // promises to the layer above: it answers, for every cluster whatever, as the definition of specs/ says.
 ghost use Rattle.std.specs.Prelude.{◌≡◌, ◌≤◌, ◌<◌};

@@ -1,3 +1,4 @@
+#![tactic(auto)]
 // Clusters, rule 13 (document 01, "Clusters"): whether each entity keeps its kind's rule, where clusters are given out. What this crate promises
 // to the layer above: its public function answers, for every configuration, every run and every clusters whatever, as the definitions of
 // specs/ say.

@@ -1,3 +1,4 @@
+#![tactic(auto)]
 // The clusters of the 3.0 edition as the sheet shows them (document 02, No. 12), by the IDs of cluster descriptors that were given out. What this crate
 // promises to the layer above: its public function answers, for every buffer, every run and every IDs whatever, as specs/ says.
 ghost use Rattle.std.specs.Prelude.{◌≡◌};

@@ -1,3 +1,4 @@
+#![tactic(auto)]
 // The collection: the numbers of streaming and MIDI groups that the header lists (document 01, rule 7). What it promises to the crate above:
 // whether they are distinct and those of the streaming and MIDI groups, all of them.
 ghost use Rattle.std.specs.Prelude.{◌≡◌, false, ◌||◌, replicate};

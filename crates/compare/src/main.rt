@@ -1,3 +1,4 @@
+#![tactic(auto)]
 // The program `compare` (document 02, No. 4): reads two sheets from the files `left` and `right` in the folder that it runs in and prints their
 // differences by rising ID, or `refused N`. A file that cannot be read is `cannot read left` or `cannot read right`, and nothing else.
 ghost use Rattle.io.specs.Counts.{IsPrefixLen};

@@ -1,3 +1,4 @@
+#![tactic(auto)]
 // The rules 10 to 13 in their order (document 01, "Refusals of a configuration"): how the entities of a run are connected. What this
 // crate promises to the layer above: the lowest number of these that a run breaks, with its place; or the cluster on each entity's
 // output. Each is computed once, and not before the rules in front of it are kept.

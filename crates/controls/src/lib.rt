@@ -1,3 +1,4 @@
+#![tactic(auto)]
 // Controls (document 01, "Controls and settings", first paragraph). What it promises to the layer above: for every configuration, every run
 // and every cluster of its entities, the table of controls that the masks of the Feature Units and the Selectors give, none loaded; and
 // rule 15, which counts them. What the masks are is crate masks's. A Feature Unit's channels are its cluster's, never told by its own length.

@@ -1,3 +1,4 @@
+#![tactic(auto)]
 // Layer 1, cutting. What it promises to the layer above: a configuration is refused by the rules 1 to 9 of document 01 and by 17 of document
 // 02, with number and place, exactly where it breaks one of them; or it is surveyed: the AudioControl number, where the header stands, how many
 // entities there are, where each stands, its ID, whether it may be a source, and where its own source IDs stand.

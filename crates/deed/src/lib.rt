@@ -1,3 +1,4 @@
+#![tactic(auto)]
 // What the functions of loads and requests share: what may be done at a control (specs/Doing.antt, words alone), and the writer of a Get's
 // reply. What this crate promises to the layer above: for every number, size, offset and reply whatever, what specs/Reply.antt says.
 ghost use Rattle.std.specs.Prelude.{◌≡◌, length};

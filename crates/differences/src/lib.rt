@@ -1,3 +1,4 @@
+#![tactic(auto)]
 // What changed between two sheets (document 02, No. 4). What it promises to the programs above: for every two slices, the number by which they
 // are refused as two sheets, 0 where they are; and, one after another by rising ID, each difference of their records and nothing else. Where
 // bytes are no sheet, an ID's record is the first that bears it, and the bytes behind the last whole record are in none.

@@ -1,3 +1,4 @@
+#![tactic(auto)]
 // The duet box (document 02, No. 11): two microphones behind one laptop. It stands on the request layer's promises: a load and a request are handed
 // down to one side's state; of a table only its count is read, and 30's test asked. What this crate promises: for every box whatever, every side,
 // state, load, setup, data and reply, exactly what specs/Coming.antt and specs/Asking.antt say; a refusal leaves box and reply as they stood. How a

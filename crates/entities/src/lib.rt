@@ -1,3 +1,4 @@
+#![tactic(auto)]
 // The run of entities by value. What it promises to the layer above: how many descriptors stand one after another, and of the first 32
 // of them where each stands, the ID that it bears, its kind, whether it may be a source, and where its own source IDs stand in the
 // configuration. A node knows no edition; the kind's own numbers are read from its descriptor where they are needed.

@@ -1,3 +1,4 @@
+#![tactic(auto)]
 // The stretch (document 02, No. 11): "For a side and an ID it also gives back that entity's own descriptor bytes, a stretch of one of the two
 // configurations that the caller lends." What it promises: for every side, every ID and every two configurations whatever, exactly what
 // specs/Stretch.antt says. It takes no state, and reads the configuration of the side alone.

@@ -1,3 +1,4 @@
+#![tactic(auto)]
 // An entity with all its fields (document 02, No. 9): every byte of its descriptor but the length and the type, those that the reader skips
 // too. What it promises to the layer above: from a descriptor the entity with its fields, by the layouts that the reader goes by
 // (layout/specs/Layouts). Each kind is a case with its own numbers; what varies in length stands beside it, as parts of a lent slice.

@@ -1,3 +1,4 @@
+#![tactic(auto)]
 // Data formats (document 01, "Streaming"). What it promises to the layer above: for every two descriptors, whether the one is GENERAL, and
 // whether the other is a right FORMAT_TYPE for a tag and a number of channels. Which descriptors of a configuration are asked, and of which
 // Terminal, is rule 14's to say.

@@ -1,3 +1,4 @@
+#![tactic(auto)]
 // The words that every layer uses. Definitions and laws stand in specs/; here are the two types that code and definitions share, and a byte as
 // an index.
 ghost use Rattle.std.specs.Prelude.{◌≡◌, ◌<◌};

@@ -1,3 +1,4 @@
+#![tactic(auto)]
 // Groups and the header (document 01; document 02, No. 12). What it promises to the layer above: the lowest number of the rules 1 to 7, or of 1 to
 // 6 of the 3.0 edition, that a configuration breaks, with its place; and where the AudioControl group's parts stand, if it keeps them.
 ghost use Rattle.std.specs.Prelude.{◌≡◌, ◌&&◌, not, ◌+◌, ◌≤◌, eqb, length};

@@ -1,3 +1,4 @@
+#![tactic(auto)]
 // IDs, rule 10 (document 01): an ID is its entity's own, and not zero. What this crate promises to the layer above: its function answers, for
 // every run whatever, as the definitions of specs/ say. It looks at the first entities of a run, as many as the run counts and at most 32.
 ghost use Rattle.std.specs.Prelude.{◌≡◌};

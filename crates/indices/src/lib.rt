@@ -1,3 +1,4 @@
+#![tactic(auto)]
 // A run that stands in no configuration, judged by the reader's own rules (document 02, No. 9: "as the reader would give them, .. the place being
 // the entity's index from 0 in the list"). What it promises to the writer: of descriptors laid one behind another, the first of 17 and 10 to 13
 // that applies, at the index of its entity; 0 and 0 where none does.

@@ -1,3 +1,4 @@
+#![tactic(auto)]
 // The interface descriptors of a configuration (document 01, rule 4). What it promises to the crate above: the lowest number of the rules 1 to 4
 // that a configuration breaks, with its place; and where the AudioControl interface stands, if it keeps them.
 ghost use Rattle.std.specs.Prelude.{◌≡◌, true, ◌≤◌, ◌<◌, eqb, length, take};

@@ -1,3 +1,4 @@
+#![tactic(auto)]
 // Whether one entity keeps its kind's rule (document 01, "Clusters"), where clusters are given out on IDs. To the layer above: the test of
 // rule 13, for every configuration, every entity, every counts of channels and every bitmaps whatever. The rules are the edition's.
 ghost use Rattle.std.specs.Prelude.{◌≡◌, ◌≤◌, map, length};

@@ -1,3 +1,4 @@
+#![tactic(auto)]
 // Rule 13 of the 3.0 edition (document 02, No. 12): whether each entity keeps its kind's rule, where clusters are given out on IDs, each by the ID of a
 // cluster descriptor of the buffer. To the layer above: for every configuration, buffer, run and IDs whatever, as specs/ says.
 ghost use Rattle.std.specs.Prelude.{◌≡◌, ◌≤◌, ◌&&◌, map, eqb, length};

@@ -1,3 +1,4 @@
+#![tactic(auto)]
 // What an entity's case says besides its kind's own numbers (document 01, "Entities" and "The sheet"): its kind on the sheet, where the IDs
 // of its sources stand in its descriptor and how many they are, and whether it may be a source itself.
 ghost use Rattle.std.specs.Prelude.{◌≡◌};

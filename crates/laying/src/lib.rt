@@ -1,3 +1,4 @@
+#![tactic(auto)]
 // An entity laid into a lent buffer as its descriptor (document 02, No. 9). What it promises to the layer above: the bytes of an entity's
 // descriptor at a place of the buffer, and how many they are; or 0, and the buffer as it stood, where they would pass 255 or there is no room.
 // Every field is laid as it stands: what a field may be is the reader's to judge.

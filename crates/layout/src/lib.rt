@@ -1,3 +1,4 @@
+#![tactic(auto)]
 // The layouts of the five kinds of entities (document 01, "Entities"). To the layer above: a descriptor, any slice, becomes an enum case
 // that carries its kind's own numbers, or Unknown where it has none of the five layouts. What else a case says is crate kinds' to tell. The layouts are
 // said in specs/Layouts.

@@ -1,3 +1,4 @@
+#![tactic(auto)]
 // The layouts of the 3.0 edition (document 02, No. 12; 001, tables 4-16, 4-17, 4-29 to 4-31, 4-43, subtypes of A-15). To the layer above: a
 // descriptor, any slice, becomes an enum case that carries its kind's own numbers, or Unknown where its layout is wrong; and what such a
 // case says: its kind on the sheet, its pins and sources, its clock, its cluster. The layouts are said in specs/Layouts.

@@ -1,3 +1,4 @@
+#![tactic(auto)]
 // Whether bytes are a sheet (document 02, No. 4): records one after another, each with its ID first, of one of two forms (No. 7): 16 bytes a
 // record before, 32 now. What it promises to the crates above: for every slice and form, the number by which it is refused as a sheet, 0 where
 // it is one. Nothing else of a record is judged.

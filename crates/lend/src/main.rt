@@ -1,3 +1,4 @@
+#![tactic(auto)]
 // The program `lend`: the reader with a sheet of another length at each step. A step from standard input is two bytes m, two bytes n, low
 // byte first, and n bytes: a configuration, read with m bytes lent, each of them AA. It prints the answer, then the lent bytes, sixteen to
 // a line, up to the last that is not AA, then how many stand behind it. A step that is none prints `bad step`, and the program ends.

@@ -1,3 +1,4 @@
+#![tactic(auto)]
 // The program `lend3` (document 02, No. 12): the reader of both editions, with a cluster buffer and a sheet of another length at each step. A step from standard
 // input is two bytes m, two bytes n and two bytes k, low byte first, n bytes: a configuration, and k bytes: the cluster buffer. It is read with m bytes lent, each of
 // them AA. It prints `accepted`, how many entities there are, or `refused N at P`, then the lent bytes as `lend` shows them. A step that is none prints `bad step`,

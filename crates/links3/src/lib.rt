@@ -1,3 +1,4 @@
+#![tactic(auto)]
 // The clocks and the named clusters of the 3.0 edition (document 02, No. 12): "A Terminal's clock ID names a Clock Source, which is no source for a pin;
 // rule 11 covers both"; refusal 52 "at the first entity whose cluster ID is unknown". What this crate promises to the layer above: its public
 // functions answer, for every configuration, buffer and run whatever, as specs/ says.

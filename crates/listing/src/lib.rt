@@ -1,3 +1,4 @@
+#![tactic(auto)]
 // A table of controls as the programs `relay` and `duet` show it. What it promises: how many controls it showed. What is printed is in no contract.
 ghost use Rattle.std.specs.Prelude.{◌≡◌};
 ghost use Rattle.listing.specs.Listing.{lines_of};

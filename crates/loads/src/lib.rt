@@ -1,3 +1,4 @@
+#![tactic(auto)]
 // What a load comes to at the control that it names (document 01, "A load gives MIN, MAX, RES, CUR to one ranged control"; rows 20
 // and 21). What this crate promises to the layer above: for every control, range and CUR whatever, what specs/Load.antt says.
 ghost use Rattle.std.specs.Prelude.{◌≡◌};

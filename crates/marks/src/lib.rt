@@ -1,3 +1,4 @@
+#![tactic(auto)]
 // What the programs show of a buffer that they lent full of marks: its bytes up to the last that is no mark, sixteen to a line, then how many
 // marks are left behind it. What is printed is in no contract; how many are left is.
 ghost use Rattle.std.specs.Prelude.{◌≡◌, ◌-◌, length};

@@ -1,3 +1,4 @@
+#![tactic(auto)]
 // A Feature Unit's masks and the note of a control (document 01, "Controls and settings", first paragraph). What it promises to the layer
 // above: a channel's mask, and each of its bits, for every descriptor whatever; and a control that is not loaded as one number, and back.
 // Which controls the masks carry stands in specs/.

@@ -1,3 +1,4 @@
+#![tactic(auto)]
 // The program `move` (document 02, No. 7): its one argument is the form wanted, `new` or `old`. It reads a sheet of the other form from standard
 // input and prints the moved sheet's bytes, or `refused N`. Anything but that one argument prints how it is used, and nothing is read.
 ghost use Rattle.std.specs.Prelude.{◌≤◌};

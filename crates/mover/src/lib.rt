@@ -1,3 +1,4 @@
+#![tactic(auto)]
 // "A mover turns an old sheet into a new one and back" (document 02, No. 7). What it promises to the programs above: for every form, sheet and
 // lent room, the number by which the move is refused, 0 where it is not; the moved sheet in the front of the room, whose bytes past it stay; and
 // how many bytes were written. A refusal writes nothing.

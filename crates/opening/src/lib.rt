@@ -1,3 +1,4 @@
+#![tactic(auto)]
 // How a configuration opens and is cut (document 01). What it promises to the crate above: for every slice, whether each of the rules 1 to 3 is
 // kept, and the place where it is not.
 ghost use Rattle.std.specs.Prelude.{◌≡◌};

@@ -1,3 +1,4 @@
+#![tactic(auto)]
 // What enters by the pins of one entity: whether a number of their sources is the same by each pin ("all pins must have the same c and the
 // same bitmap. If their name indices differ, ..": document 02, No. 5). To the layer above: for every IDs and numbers whatever, what specs/ says.
 ghost use Rattle.std.specs.Prelude.{◌≡◌, get_or};

@@ -1,3 +1,4 @@
+#![tactic(auto)]
 // Layer 3, on what the reader promises: a microphone is plugged in (document 01, "What the box does"). What this crate promises: for every
 // configuration and sheet exactly what specs/Plugged.antt says.
 ghost use Rattle.plug.specs.Plugged.{PluggedIn};

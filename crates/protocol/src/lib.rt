@@ -1,3 +1,4 @@
+#![tactic(auto)]
 // The reader of both editions (document 02, No. 12): "An AudioControl interface whose protocol byte (offset 7) is 0x30 is read by source document 001; all
 // others as now." What it promises to the layer above: for every configuration, every cluster buffer and every lent sheet the answer of the edition that
 // the protocol byte names, in the form of the 1.0 reader's.

@@ -1,3 +1,4 @@
+#![tactic(auto)]
 // Ranks, rule 12 (document 01): no upstream chain of sources is longer than 32 steps. An order finds out: passes go over the run, and an
 // entity joins the order once all its sources are in it. Whoever never joins has an endless chain above it. Order of the bytes
 // carries no meaning: a source that stands after its user costs another pass, nothing else. What this crate promises to the

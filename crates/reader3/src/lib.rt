@@ -1,1 +1,2 @@
+#![tactic(auto)]
 // What is proved of the reader of both editions; definitions and laws only.

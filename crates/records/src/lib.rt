@@ -1,3 +1,4 @@
+#![tactic(auto)]
 // The sheet (document 01; document 02, No. 7). What it promises to the layer above: for every configuration, every run, every cluster of its entities and
 // every lent sheet, whether the run's records have room; where they have, the records of its entities, no header, in entity order, and
 // the bytes past the last record stay; where they have not, every byte stays.

@@ -1,3 +1,4 @@
+#![tactic(auto)]
 // Layer 3: the box. The controls of a microphone are loaded, and class requests are answered (document 01, "What the box does"). What this crate
 // promises: for every state whatever, every load, setup, data and reply, exactly what specs/Load.antt and specs/Request.antt say; a refused load or
 // request leaves state and reply as they stood.

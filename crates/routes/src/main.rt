@@ -1,3 +1,4 @@
+#![tactic(auto)]
 // The program `routes` (document 02, No. 8), over a script. A step from standard input is one byte, the ID of an Output Terminal; two bytes m and two bytes n,
 // low byte first; and n bytes, a configuration, whose routes are listed with m bytes lent, each of them AA. It prints `routes R K`, or `refused N at P` where
 // the reader refuses, or `refused N`; then the lent bytes as `lend` shows them. A step that is none prints `bad step`, and the program ends.

@@ -1,3 +1,4 @@
+#![tactic(auto)]
 // "Which way does the voice come?" (document 02, No. 8). What it promises to the programs above: for every configuration, every ID and every lent list, the
 // routes from the Output Terminal that bears the ID up to the Input Terminals, each exactly once, in the order of pins; how many they are and how many bytes
 // were written; or the refusal, the reader's but 16, then 45, 46, 49, with the list as it stood.

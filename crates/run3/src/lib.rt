@@ -1,3 +1,4 @@
+#![tactic(auto)]
 // The run of entities of the 3.0 edition: nodes and runs of crate entities, which know no edition, read by its layouts. What it promises to the layer
 // above: for every slice and every place, the descriptors that stand from there on as a run, the first of them that has none of the
 // layouts, and what the layout of one says.

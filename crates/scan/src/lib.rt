@@ -1,3 +1,4 @@
+#![tactic(auto)]
 // Bytes to descriptors. What it promises to the layer above: for every slice and every place, the byte and the number that stand there,
 // where the descriptor there ends, and how far descriptors stand one after another from there on.
 ghost use Rattle.std.specs.Prelude.{◌≡◌};

@@ -1,3 +1,4 @@
+#![tactic(auto)]
 // What a descriptor is, and searches by it. What it promises to the crates above: for every descriptor, whether it is an interface descriptor,
 // and of which audio subclass; for every slice and every place, the first descriptor from there on that is wanted.
 ghost use Rattle.std.specs.Prelude.{◌≡◌, ◌||◌};

@@ -1,3 +1,4 @@
+#![tactic(auto)]
 // Ranges and the closest available setting (document 01, "Controls and settings"), once over the width. What this crate
 // promises to the layer above: each public function takes every input and answers what specs/Setting.antt defines. What
 // those definitions mean over the integers stands in specs/Meaning.antt, and that they mean it in specs/Legal.antt,

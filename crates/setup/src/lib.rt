@@ -1,3 +1,4 @@
+#![tactic(auto)]
 // What a setup asks (document 01, row 31; 000, "Audio Control requests"). What this crate promises to the layer above: for every
 // setup whatever, whether it asks a Set, a Get of a part, or nothing that the box answers; and of which interface, unit, channel and selector.
 ghost use Rattle.std.specs.Prelude.{◌≡◌};

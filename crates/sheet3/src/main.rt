@@ -1,3 +1,4 @@
+#![tactic(auto)]
 // The program `sheet3` (document 02, No. 12), for a person: reads a configuration of either edition from standard input and its cluster buffer from the file
 // `clusters` in the folder that it runs in, lends 1,024 bytes and prints as `sheet` does. A file that cannot be read, or not whole, is `cannot read clusters`, and nothing else.
 ghost use Rattle.io.specs.Counts.{IsPrefixLen};

@@ -1,3 +1,4 @@
+#![tactic(auto)]
 // The program `sheets`: pairs of sheets, and moves, over a script from standard input. A step is a kind byte, a two-byte length n, low byte first,
 // and n bytes. Kind 01 is two bytes a, a bytes of the left sheet, and the right one: it prints what `compare` prints of the two, then `end`. Kinds
 // 02 and 03 are two bytes m and a sheet, moved to the new and to the old form into m bytes lent, each of them AA: it prints `moved K` or `refused

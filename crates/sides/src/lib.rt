@@ -1,3 +1,4 @@
+#![tactic(auto)]
 // What the duet box asks of a number, a setup and a count, with no box in hand (document 02, No. 11): the two sides, whom a presented number names,
 // the setup with the microphone's own number, and whether both sides' controls would be too many. What it promises: for every request, setup and
 // reading whatever, exactly what specs/Sides.antt says.

@@ -1,3 +1,4 @@
+#![tactic(auto)]
 // What refusal 30 asks of one control by itself (document 01, "Controls and settings"), since everything in a table is public. What
 // this crate promises to the layer above: each function answers, for every control whatever, as the definitions of specs/ say; what
 // they mean, in document 01's words, stands in specs/Meaning.antt.

@@ -1,3 +1,4 @@
+#![tactic(auto)]
 // Refusal 30 (document 01, "Controls and settings"): the test that every entry point makes of a table, since everything in it is
 // public. What it asks of one control by itself is crate single's. What this crate promises to the layer above: each function
 // answers, for every table whatever, as the definitions of specs/ say; what 30 means, in document 01's words, stands in

@@ -1,3 +1,4 @@
+#![tactic(auto)]
 // Lookup by ID and rule 11 (document 01): a source is an entity that has an output. What this crate promises to the layer above: its public
 // function answers, for every configuration and every run whatever, as the definitions of specs/ say. It looks at the first entities of a
 // run, as many as the run counts and at most 32.

@@ -1,3 +1,4 @@
+#![tactic(auto)]
 // Streaming (document 01). What it promises to the layer above: for every configuration, run and clusters, the place of the first streaming
 // group that breaks rule 14. Which Terminal bears which ID is written once into tables by ID; then the configuration's descriptors are
 // looked at once each.

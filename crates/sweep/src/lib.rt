@@ -1,3 +1,4 @@
+#![tactic(auto)]
 // What each entity gives out (document 01, "Clusters"), in one sweep along an order of the run. What this crate promises to the layer above:
 // each public function answers, for every configuration and every run whatever, as the definitions of specs/ say.
 ghost use Rattle.std.specs.Prelude.{◌≡◌};

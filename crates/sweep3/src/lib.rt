@@ -1,3 +1,4 @@
+#![tactic(auto)]
 // What each entity of the 3.0 edition gives out, in one sweep along an order of the run: by entity ID the ID of a cluster descriptor, 0 for none. What
 // this crate promises to the layer above: its public function answers, for every configuration and every run whatever, as specs/ says.
 ghost use Rattle.std.specs.Prelude.{◌≡◌, get_or};

@@ -1,3 +1,4 @@
+#![tactic(auto)]
 // The table of controls (document 01, "Controls and settings"): what stands in it, and how a control is found in it. What this
 // crate promises to the layer above: each function answers, for every table whatever, as the definitions of specs/ say.
 ghost use Rattle.std.specs.Prelude.{◌≡◌};

@@ -1,3 +1,4 @@
+#![tactic(auto)]
 // Terminals by ID (document 01, "Streaming": "byte 3 a Terminal of type 0x0101"). What it promises to the layer above: two tables by ID, an
 // entity entered at a time, tell the type and the channels of the first Terminal entered that bears an ID, or that none does.
 ghost use Rattle.std.specs.Prelude.{◌≡◌, [], ◌∷◌};

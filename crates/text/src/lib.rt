@@ -1,3 +1,4 @@
+#![tactic(auto)]
 // Bytes as text, for the programs.
 ghost use Rattle.std.specs.Prelude.{◌≡◌, ◌<◌};
 ghost use Rattle.text.specs.Hex.{digit_of, hex_pair};

@@ -1,3 +1,4 @@
+#![tactic(auto)]
 // The reader of the 3.0 edition (document 02, No. 12), whatever the protocol byte says. What it promises to the layer above: for every configuration and
 // every cluster buffer the refusal with number and place, the first that applies of 1 to 6, 8, 51, 9, 10, 11, 12, 52, 13 and 16; or how many
 // entities there are; and for every lent sheet the entities' records in it, or the sheet as it stood.

@@ -1,3 +1,4 @@
+#![tactic(auto)]
 // Layer 2, topology, and the reader's entry points. What it promises to the layer above: for every configuration the refusal of
 // document 01 with number and place, or what stands in it: the AudioControl number, the header, the run, a cluster on each entity's
 // output, and the table of controls; and for every lent sheet the entities' records in it, or the sheet as it stood.

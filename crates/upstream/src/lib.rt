@@ -1,3 +1,4 @@
+#![tactic(auto)]
 // Every way upstream from an ID (document 02, No. 8): "An entity asks its pins and each pin asks the entity behind it, never deeper than 32." What it
 // promises to the layer above: for every configuration, all tables of sources by ID, every ID and every lent list, the ways in the list, one after
 // another, how many they are and how many bytes they take, or the refusal 46 or 49 and the list as it stood.

@@ -1,3 +1,4 @@
+#![tactic(auto)]
 // The program `way` (document 02, No. 8): its one argument is the ID of an Output Terminal as two hex digits. It reads a configuration from standard input and
 // prints every route, a line each, the IDs from the output to the input as two capital hex digits with single spaces; or `refused N at P` where the reader
 // refuses, or `refused N`. Anything but that one argument prints how it is used, and nothing is read.

@@ -1,3 +1,4 @@
+#![tactic(auto)]
 // The program `writer`: lists of entities written as header and run, over a script from standard input. A step is two bytes m, the bytes of room
 // (at most 9,000); two bytes k (at most 600) and k numbers, the collection list; one byte e and e entities. An entity is two bytes q (at most 600)
 // and q bytes: its kind, its ID and its fields in the order of the descriptor; kind 15 hex is a printed Selector with a Selector's fields. The m

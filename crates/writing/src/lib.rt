@@ -1,3 +1,4 @@
+#![tactic(auto)]
 // The writer (document 02, No. 9): "from a list of entities with all their fields, a writer makes the header and the run". What it promises to a
 // caller: for every list, collection list and lent buffer, the number and the place by which the list is refused, 0 and 0 where it is not; header
 // and run in the front of the buffer, whose bytes past them stay; and how many bytes were written. A refusal writes nothing. The rules are the
