@@ -2,7 +2,7 @@
 // The rule of a declared cluster (document 01, "Clusters"; source document 000, section 3.7.2.3), one cluster at a time. What this crate
 // promises to the layer above: it answers, for every cluster whatever, as the definition of specs/ says.
 ghost use Rattle.std.specs.Prelude.{◌≡◌, ◌≤◌, ◌<◌};
-ghost use Rattle.channels.specs.Declared.{names_kept, cluster_kept};
+ghost use Rattle.channels.specs.DeclaredChannels.{names_kept, cluster_kept};
 
 use layout::Cluster;
 

@@ -36,7 +36,7 @@ use Rattle.keeping.specs.Keeping.{keeps_by}
 use Rattle.clusters.specs.Breach.{breach13}
 use Rattle.pins.specs.Same.{all_same}
 use Rattle.edition.specs.Audio.{first_of, channels_in, give_out, mixer_length, feature_length, alike, named, mixer_kept, feature_kept, keeps}
-use Rattle.channels.specs.Declared.{cluster_kept, names_kept}
+use Rattle.channels.specs.DeclaredChannels.{cluster_kept, names_kept}
 use Rattle.connections.specs.Judgement.{judged}
 use Rattle.terminals.specs.Terminals.{terminal_of, terminals_from, terminals_of, bearer_in, terminal_number, channels_borne}
 use Rattle.formats.specs.Tests.{opens_as, is_general, is_format, samples_right, rates_right, is_type_one, format_right}

@@ -15,7 +15,7 @@
 --   lent             ==  the sheet that the program lends, 1,024 bytes, all zeros
 use Rattle.std.specs.Prelude.{ℕ, ◌≡◌, true, false, List, [], ◌∷◌, map, take, set, replicate, pos}
 use Rattle.ground.specs.Numbers.{byte}
-use Rattle.channels.specs.Declared.{cluster_kept}
+use Rattle.channels.specs.DeclaredChannels.{cluster_kept}
 use Rattle.layout.specs.declared.Cluster.{Cluster}
 use Rattle.setting.specs.Cases.{minus, found, volume, bass}
 use Rattle.table.specs.declared.Control.{Control}

@@ -29,7 +29,7 @@ use Rattle.kinds.specs.Shown.{kind_of}
 use Rattle.kinds.specs.Sources.{sources_from, pins_of, feeds_of}
 use Rattle.kinds.specs.SourcesLaws.{sources_within}
 use Rattle.pins.specs.Same.{AllSame, all_same, reads_all_same}
-use Rattle.channels.specs.Declared.{ClusterKept, cluster_kept, reads_cluster}
+use Rattle.channels.specs.DeclaredChannels.{ClusterKept, cluster_kept, reads_cluster}
 use Rattle.edition.specs.Edition.{Edition}
 
 unfoldable pub first_of : List Cluster → Cluster

@@ -18,7 +18,7 @@
 use Rattle.std.specs.Prelude.{ℕ, ◌+◌, ◌*◌, ◌≤◌, ◌≡◌, Bool, true, ◌&&◌, List, [], ◌∷◌, eqb, length, get_or}
 use Rattle.ground.specs.Pick.{pick, within, Reads, reads_eq, reads_and, reads_within, true≠false}
 use Rattle.graph.specs.Members.{◌∈◌, all, reads_all}
-use Rattle.channels.specs.Declared.{most_channels}
+use Rattle.channels.specs.DeclaredChannels.{most_channels}
 use Rattle.edition.specs.Edition.{Edition, own_id}
 use Rattle.edition.specs.Audio.{control_bytes}
 use Rattle.layout3.specs.declared.Entity.{Entity}

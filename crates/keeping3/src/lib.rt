@@ -3,7 +3,7 @@
 // cluster descriptor of the buffer. To the layer above: for every configuration, buffer, run and IDs whatever, as specs/ says.
 ghost use Rattle.std.specs.Prelude.{◌≡◌, ◌≤◌, ◌&&◌, map, eqb, length};
 ghost use Rattle.ground.specs.Pick.{within};
-ghost use Rattle.channels.specs.Declared.{most_channels};
+ghost use Rattle.channels.specs.DeclaredChannels.{most_channels};
 ghost use Rattle.buffer.specs.Clusters.{channels_of};
 ghost use Rattle.buffer.specs.Reading.{cluster_with};
 ghost use Rattle.edition3.specs.Third.{first_of, channels_in, mixer_length, feature_length, alike};

@@ -28,7 +28,7 @@ use Rattle.layout.specs.Layout.{Pins, LaidOut, entity_of, is_unknown}
 use Rattle.layout.specs.LayoutLaws.{Told, told, unknown, input, output, mixer, selector, feature, entity_input, entity_output, entity_mixer, entity_selector, entity_feature, reads_unknown, laid_out}
 use Rattle.kinds.specs.Sources.{pins_of, sources_from, feeds_of}
 use Rattle.pins.specs.Same.{AllSame, reads_all_same}
-use Rattle.channels.specs.Declared.{ClusterKept}
+use Rattle.channels.specs.DeclaredChannels.{ClusterKept}
 use Rattle.edition.specs.Edition.{own_id, sources}
 use Rattle.edition.specs.Audio.{audio, first_of, channels_in, names_each, named, give_out, mixer_length, feature_length, Keeps}
 use Rattle.edition.specs.Audio as audio

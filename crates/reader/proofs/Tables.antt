@@ -17,7 +17,7 @@ use Rattle.layout.specs.declared.Entity.{Entity}
 use Rattle.layout.specs.declared.Entity.TheVariants.{Unknown, Input, Output, Mixer, Selector, Feature}
 use Rattle.layout.specs.Layout.{entity_of}
 use Rattle.graph.specs.Members.{◌∈◌}
-use Rattle.channels.specs.Declared.{most_channels}
+use Rattle.channels.specs.DeclaredChannels.{most_channels}
 use Rattle.edition.specs.Edition.{own_id, sources}
 use Rattle.edition.specs.Audio.{first_of, named, give_out, Keeps, audio}
 use Rattle.ids.specs.OwnIds.{distinct_ids}

@@ -23,7 +23,7 @@ use Rattle.ground.specs.Lists.{Some}
 use Rattle.graph.specs.Members.{◌∈◌}
 use Rattle.layout.specs.declared.Cluster.{Cluster}
 use Rattle.layout.specs.Layout.{Pins, cluster_at}
-use Rattle.channels.specs.Declared.{ClusterKept}
+use Rattle.channels.specs.DeclaredChannels.{ClusterKept}
 use Rattle.edition.specs.Edition.{own_id}
 use Rattle.edition.specs.Audio.{channels_in, mixer_length, feature_length}
 use Rattle.collection.specs.Rule7.{Rule7}

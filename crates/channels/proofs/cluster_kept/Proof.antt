@@ -6,7 +6,7 @@ use mathlib.Core.Bool.{Bool, false}
 use lib.Count.{ones}
 use borrow.Author.Tests.{lt-ltb, le-ltb, le-leb, lt-leb}
 use Rattle.layout.specs.declared.Cluster.{Cluster}
-use Rattle.channels.specs.Declared.{names_kept, cluster_kept}
+use Rattle.channels.specs.DeclaredChannels.{names_kept, cluster_kept}
 use Rattle.channels.proofs.cluster_kept.Statement.{statement}
 use Rattle.channels.proofs.cluster_kept.Tie as tie
 

@@ -6,7 +6,7 @@ use mathlib.Core.Bool.{true}
 use lib.Dec.{eqb, leb}
 use borrow.Author.Tests.{eq-eqb, ne_eqb}
 use Rattle.ground.specs.Pick.{yes, no}
-use Rattle.channels.specs.Declared.{names_kept}
+use Rattle.channels.specs.DeclaredChannels.{names_kept}
 use Rattle.channels.proofs.names_kept.Statement.{statement}
 use Rattle.channels.proofs.names_kept.Tie as tie
 

@@ -10,7 +10,7 @@ use Rattle.layout.specs.declared.Cluster.{Cluster}
 use Rattle.layout.specs.declared.Entity.{Entity}
 use Rattle.layout.specs.declared.Entity.TheVariants.{Unknown, Input, Output, Mixer, Selector, Feature}
 use Rattle.layout.specs.Layout.{entity_of}
-use Rattle.channels.specs.Declared.{cluster_kept}
+use Rattle.channels.specs.DeclaredChannels.{cluster_kept}
 use Rattle.entities.specs.declared.Node.{Node}
 use Rattle.entities.specs.Run.{sources_of, descriptor_of}
 use Rattle.edition.specs.Audio.{alike, mixer_kept, feature_kept, keeps}

@@ -7,7 +7,7 @@ use mathlib.Core.List.{List}
 use lib.Dec.{eqb}
 use borrow.Author.Tests.{not-true, not-false}
 use Rattle.layout.specs.declared.Cluster.{Cluster}
-use Rattle.channels.specs.Declared.{cluster_kept}
+use Rattle.channels.specs.DeclaredChannels.{cluster_kept}
 use Rattle.edition.specs.Audio.{channels_in, mixer_length, mixer_kept}
 use Rattle.keeping.specs.Keeping.{Entering}
 use Rattle.keeping.proofs.mixer_kept.Statement.{statement}

@@ -9,7 +9,7 @@ use lib.Dec.{eqb}
 use lib.ListN.{length, length-take}
 use Rattle.ground.specs.Pick.{within}
 use Rattle.ground.specs.Numbers.{byte}
-use Rattle.channels.specs.Declared.{most_channels}
+use Rattle.channels.specs.DeclaredChannels.{most_channels}
 use Rattle.layout3.specs.declared.Entity.{Entity}
 use Rattle.layout3.specs.declared.Entity.TheVariants.{Unknown, Input, Output, Mixer, Selector, Feature, Clock}
 use Rattle.layout3.specs.Layout.{entity_of}

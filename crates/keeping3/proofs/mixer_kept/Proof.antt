@@ -8,7 +8,7 @@ use lib.Dec.{eqb}
 use borrow.Author.Tests.{not-true, not-false}
 use Rattle.ground.specs.Pick.{within}
 use Rattle.ground.specs.Numbers.{byte}
-use Rattle.channels.specs.Declared.{most_channels}
+use Rattle.channels.specs.DeclaredChannels.{most_channels}
 use Rattle.buffer.specs.Clusters.{channels_of}
 use Rattle.buffer.specs.Reading.{cluster_with}
 use Rattle.edition3.specs.Third.{channels_in, mixer_length}
