@@ -44,8 +44,9 @@ module _ {A : Type 0} where
   all p [] = true
   all p (x ∷ l) = p x && all p l
 
-  pub all_at : (p : A → Bool) {l : List A} {x : A} → all p l ≡ true → x ∈ l → p x ≡ true
+  pub all_at : (p : A → Bool) {x : A} {l : List A} → all p l ≡ true → x ∈ l → p x ≡ true
   unfolding all
+  all_at p {l = []} e m = elim m [ ]
   all_at p {l = y ∷ l} e (Memᴰ.head q) = ap p q ∙ and_left (p y) (all p l) e
   all_at p {l = y ∷ l} e (Memᴰ.tail m) = all_at p (and_right (p y) (all p l) e) m
 

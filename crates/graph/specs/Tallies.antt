@@ -57,6 +57,7 @@ module _ {A : Type 0} where
   pub tally_more : (p q : A → Bool) {l : List A} {x : A} → ((y : A) → y ∈ l → p y ≡ true → q y ≡ true) → x ∈ l → p x ≡ false → q x ≡ true
       → suc (tally p l) ≤ tally q l
   unfolding tally
+  tally_more p q {l = []} h m a b = elim m [ ]
   tally_more p q {l = y ∷ l} h (Memᴰ.head e) a b =
       let u : one (p y) ≡ 0 = ap one (ap p (sym e) ∙ a) in
       let v : one (q y) ≡ 1 = ap one (ap q (sym e) ∙ b) in

@@ -1,0 +1,54 @@
+use Prim.Native.Nat.{ℕ, zero, suc, ◌+◌, ◌-◌, ◌*◌, ◌/◌, ◌^◌, ◌≤◌, ◌<◌, min}
+use mathlib.Core.Path.{◌≡◌, refl, sym, ap, ◌∙◌, subst}
+use native.Mathlib.Nat.{add-mul, one-mul, zero-mul, two-pow-succ, mul-le-mul_right, lt_of_not-le, pow-le-pow_right}
+use native.Mathlib.Omega.{arith}
+use lib.Ieee.{size}
+use lib.Ieee.Digits.{size-lt, size_reaches, size-le}
+use lib.Pow.{pow_pos}
+use Rattle.setting.specs.Setting.{whole_steps}
+use Rattle.setting.specs.Grid.{whole_steps_none, whole_steps_one}
+use borrow.Author.Rules.{rules}
+use Rattle.setting.proofs.whole_steps.Given as goal
+
+-- reach is the step, doubled; once doubled, it is at most twice room
+pub record Doubled (room step reach : ℕ) : Type 0 where
+  pub doublings : ℕ
+  pub is : reach ≡ 2 ^ doublings * step
+  pub some : 0 < reach
+  pub short : step < reach → reach ≤ room + room
+
+-- rest is what a number of steps leave of room
+pub record Left (room step reach rest : ℕ) : Type 0 where
+  pub doubled : Doubled room step reach
+  pub steps : ℕ
+  pub off : room ≡ rest + steps * step
+
+-- on the way back, where a turn begins
+pub record Back (room step reach rest : ℕ) : Type 0 where
+  pub left : Left room step reach rest
+  pub below : rest < reach
+
+-- and within it, while reach is halved on from most
+pub record Halving (room step most reach rest : ℕ) : Type 0 where
+  pub left : Left room step reach rest
+  pub whole : step ≤ rest
+  pub below : rest < reach + reach
+  pub within : reach ≤ most
+
+abbrev pub invariant-loop-reach : goal.invariant-loop-reach
+invariant-loop-reach l = Left l.room l.step l.reach l.rest
+
+abbrev pub decreases-loop-reach : goal.decreases-loop-reach
+decreases-loop-reach l = 17 - size l.reach
+
+abbrev pub invariant-loop-reach-2 : goal.invariant-loop-reach-2
+invariant-loop-reach-2 l = Halving l.room l.step l.initial.reach l.reach l.rest
+
+abbrev pub decreases-loop-reach-2 : goal.decreases-loop-reach-2
+decreases-loop-reach-2 l = min 17 (size l.reach)
+
+abbrev pub invariant-loop-rest : goal.invariant-loop-rest
+invariant-loop-rest l = Back l.room l.step l.reach l.rest
+
+abbrev pub decreases-loop-rest : goal.decreases-loop-rest
+decreases-loop-rest l = min 17 (size l.reach)
