@@ -13,8 +13,7 @@ use Rattle.layout.specs.declared.Entity.TheVariants.{Unknown, Input, Output, Mix
 use Rattle.layout.specs.Layout.{is_unknown}
 use Rattle.layout.specs.contracts.Entity as Entity-enum
 use Rattle.entities.specs.Run.{earlier, unlaid_at}
-use Rattle.entities.proofs.first_unlaid.Statement.{statement}
-use Rattle.entities.proofs.first_unlaid.Tie as tie
+use Rattle.entities.proofs.first_unlaid.Goals as goal
 
 met : (b : Place) (p : ℕ) (r : Place) → b ≡ At p → b ≡ earlier b r
 unfolding earlier
@@ -39,24 +38,11 @@ module _ (b : Place) (h : b ≡ Nowhere) (e : Entity) (at : ℕ) where
 
 ruleset laws = (met, unlaid, right, rules)
 
-enum_told : tie.Need-enum-told
-enum_told c = search laws
+pub returns-in-At : goal.returns-in-At
+returns-in-At c = search laws
 
-returns : tie.Need-returns
-returns c = search laws
+pub returns-in-Unknown : goal.returns-in-Unknown
+returns-in-Unknown c = search laws
 
-enum_told_2 : tie.Need-enum-told-2
-enum_told_2 c = search laws
-
-enum_told_3 : tie.Need-enum-told-3
-enum_told_3 c = search laws
-
-returns_2 : tie.Need-returns-2
-returns_2 c = search laws
-
-returns_3 : tie.Need-returns-3
-returns_3 c = search laws
-
-pub first_unlaid_spec : {M : Type 1} → statement M
-first_unlaid_spec =
-    tie.close (tie.spec enum_told returns enum_told_2 enum_told_3 returns_2 returns_3)
+pub returns-in_default-entity : goal.returns-in_default-entity
+returns-in_default-entity c = search laws

@@ -16,8 +16,7 @@ use Rattle.kinds.specs.Sources.{sources_from, pins_of, feeds_of}
 use Rattle.kinds.specs.SourcesLaws.{sources_within}
 use Rattle.edition.specs.Audio.{audio}
 use Rattle.entities.specs.Run.{node_of}
-use Rattle.entities.proofs.node_of.Statement.{statement}
-use Rattle.entities.proofs.node_of.Tie as tie
+use Rattle.entities.proofs.node_of.Goals as goal
 
 module _ (d : List ℕ) (e : Entity) (h : e ≡ entity_of d) (p : ℕ) where
   first_fits : (f : ℕ) → f ≡ sources_from e → p + length d < 2 ^ 64 → Fits w64 (p + f)
@@ -33,28 +32,8 @@ module _ (d : List ℕ) (e : Entity) (h : e ≡ entity_of d) (p : ℕ) where
 
 ruleset laws = (first_fits, made, rules)
 
-sources_from_requires : tie.Need-sources-from-requires
-sources_from_requires c κs = search laws
+pub overflow_add-result : goal.overflow_add-result
+overflow_add-result c = search laws
 
-add_t5 : tie.Need-overflow-add-t5
-add_t5 c = search laws
-
-pins_requires : tie.Need-pins-requires
-pins_requires c κs = search laws
-
-byte_at_requires : tie.Need-byte-at-requires
-byte_at_requires c κs = search laws
-
-kind_requires : tie.Need-kind-requires
-kind_requires c κs = search laws
-
-feeds_requires : tie.Need-feeds-requires
-feeds_requires c κs = search laws
-
-returns : tie.Need-returns
+pub returns : goal.returns
 returns c = search laws
-
-pub node_of_spec : {M : Type 1} → statement M
-node_of_spec =
-    tie.close
-    (tie.spec sources_from_requires add_t5 pins_requires byte_at_requires kind_requires feeds_requires returns)
