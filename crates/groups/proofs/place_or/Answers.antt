@@ -5,8 +5,7 @@ use mathlib.Core.Path.{◌≡◌, sym, ap}
 use Rattle.ground.specs.declared.Place.{Place}
 use Rattle.ground.specs.declared.Place.TheVariants.{Nowhere, At}
 use Rattle.ground.specs.Refuse.{place_or}
-use Rattle.groups.proofs.place_or.Statement.{statement}
-use Rattle.groups.proofs.place_or.Tie as tie
+use Rattle.groups.proofs.place_or.Goals as goal
 
 module _ (r : Place) (o : ℕ) where
   at_place : (q : ℕ) → r ≡ At q → q ≡ place_or r o
@@ -19,17 +18,8 @@ module _ (r : Place) (o : ℕ) where
 
 ruleset laws = (at_place, at_nowhere, rules)
 
-enum_known_found : tie.Need-enum-known-found
-enum_known_found c = search laws
+pub returns-in-At : goal.returns-in-At
+returns-in-At c = search laws
 
-enum_told : tie.Need-enum-told
-enum_told c = search laws
-
-returns : tie.Need-returns
-returns c = search laws
-
-returns_2 : tie.Need-returns-2
-returns_2 c = search laws
-
-pub place_or_spec : {M : Type 1} → statement M
-place_or_spec = tie.close (tie.spec enum_known_found enum_told returns returns_2)
+pub returns-in-Nowhere : goal.returns-in-Nowhere
+returns-in-Nowhere c = search laws

@@ -9,8 +9,7 @@ use lib.Dec.{eqb}
 use borrow.Author.Tests.{eq-eqb, ne_eqb}
 use Rattle.ground.specs.Numbers.{byte}
 use Rattle.groups.specs.Third.{is_third_header}
-use Rattle.groups.proofs.is_third_header.Statement.{statement}
-use Rattle.groups.proofs.is_third_header.Tie as tie
+use Rattle.groups.proofs.is_third_header.Goals as goal
 
 module _ (h : List ℕ) where
   other_length : (length h ≡ 10 → ⊥) → false ≡ is_third_header h
@@ -28,21 +27,11 @@ module _ (h : List ℕ) where
 
 ruleset laws = (other_length, other_type, by_subtype, rules)
 
-returns : tie.Need-returns
+pub returns-then-h-ne10 : goal.returns-then-h-ne10
+returns-then-h-ne10 c = search laws
+
+pub returns-then-byte_at-ne36 : goal.returns-then-byte_at-ne36
+returns-then-byte_at-ne36 c = search laws
+
+pub returns : goal.returns
 returns c = search laws
-
-byte_at_requires : tie.Need-byte-at-requires
-byte_at_requires c κs = search laws
-
-returns_2 : tie.Need-returns-2
-returns_2 c = search laws
-
-byte_at_requires_2 : tie.Need-byte-at-requires-2
-byte_at_requires_2 c κs = search laws
-
-returns_3 : tie.Need-returns-3
-returns_3 c = search laws
-
-pub is_third_header_spec : {M : Type 1} → statement M
-is_third_header_spec =
-    tie.close (tie.spec returns byte_at_requires returns_2 byte_at_requires_2 returns_3)

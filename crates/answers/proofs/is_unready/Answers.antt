@@ -6,8 +6,7 @@ use borrow.Author.Tests.{not-true, not-false}
 use Rattle.table.specs.declared.Control.{Control}
 use Rattle.table.specs.declared.Sense.{Sense}
 use Rattle.answers.specs.Held.{is_ranged, unready}
-use Rattle.answers.proofs.is_unready.Statement.{statement}
-use Rattle.answers.proofs.is_unready.Tie as tie
+use Rattle.answers.proofs.is_unready.Goals as goal
 
 -- one law for each way out
 module _ (k : Sense) (c : Control) (b : Bool) (e : b ≡ is_ranged k) where
@@ -21,14 +20,8 @@ module _ (k : Sense) (c : Control) (b : Bool) (e : b ≡ is_ranged k) where
 
 ruleset laws = (unranged, ranged, rules)
 
-is_ranged_requires : tie.Need-is-ranged-requires
-is_ranged_requires c κs = search rules
+pub returns-then-not-is_ranged : goal.returns-then-not-is_ranged
+returns-then-not-is_ranged c = search laws
 
-returns : tie.Need-returns
+pub returns : goal.returns
 returns c = search laws
-
-returns_2 : tie.Need-returns-2
-returns_2 c = search laws
-
-pub is_unready_spec : {M : Type 1} → statement M
-is_unready_spec = tie.close (tie.spec is_ranged_requires returns returns_2)

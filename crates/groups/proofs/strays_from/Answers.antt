@@ -17,8 +17,7 @@ use Rattle.groups.specs.Reading.{strays_from}
 use mir.Val.{Fits}
 use mir.Syntax.{w64}
 use Prim.Native.Nat.{◌^◌}
-use Rattle.groups.proofs.strays_from.Statement.{statement}
-use Rattle.groups.proofs.strays_from.Tie as tie
+use Rattle.groups.proofs.strays_from.Goals as goal
 
 module _ (s : List ℕ) (e : ℕ) (r : Place) (f : r ≡ found_from s e want.ClassOrInterface) where
   type_fits : (q : ℕ) → r ≡ At q → length s < 2 ^ 64 → Fits w64 (q + 1)
@@ -34,35 +33,11 @@ module _ (s : List ℕ) (e : ℕ) (r : Place) (f : r ≡ found_from s e want.Cla
 
 ruleset laws = (type_fits, stray, none_later, rules)
 
-find_requires : tie.Need-find-requires
-find_requires c κs = search laws
+pub overflow_add-place : goal.overflow_add-place
+overflow_add-place c = search laws
 
-enum_known_found : tie.Need-enum-known-found
-enum_known_found c = search laws
+pub returns-in-At : goal.returns-in-At
+returns-in-At c = search laws
 
-add_byte_at : tie.Need-overflow-add-byte-at
-add_byte_at c = search laws
-
-byte_at_requires : tie.Need-byte-at-requires
-byte_at_requires c κs = search laws
-
-enum_told : tie.Need-enum-told
-enum_told c = search laws
-
-returns : tie.Need-returns
-returns c = search laws
-
-returns_2 : tie.Need-returns-2
-returns_2 c = search laws
-
-pub strays_from_spec : {M : Type 1} → statement M
-strays_from_spec =
-    tie.close
-    (tie.spec
-    find_requires
-    enum_known_found
-    add_byte_at
-    byte_at_requires
-    enum_told
-    returns
-    returns_2)
+pub returns-in-Nowhere : goal.returns-in-Nowhere
+returns-in-Nowhere c = search laws

@@ -10,8 +10,7 @@ use Rattle.table.specs.declared.Sense.{Sense}
 use Rattle.table.specs.Controls.{size_of}
 use Rattle.answers.specs.Held.{value_in}
 use Rattle.answers.specs.AnswersLaws.{size_least, size_most, byte_sent, word_sent}
-use Rattle.answers.proofs.sent_at.Statement.{statement}
-use Rattle.answers.proofs.sent_at.Tie as tie
+use Rattle.answers.proofs.sent_at.Goals as goal
 
 -- one law for each way out
 module _ (k : Sense) (d : List ℕ) (at size : ℕ) (z : size ≡ size_of k) (x : ℕ) where
@@ -27,23 +26,8 @@ module _ (k : Sense) (d : List ℕ) (at size : ℕ) (z : size ≡ size_of k) (x 
 
 ruleset laws = (one, two, rules)
 
-size_requires : tie.Need-size-requires
-size_requires c κs = search rules
+pub returns-then-size-eq1 : goal.returns-then-size-eq1
+returns-then-size-eq1 c = search laws
 
-byte_at_requires : tie.Need-byte-at-requires
-byte_at_requires c κs = search rules
-
-cast_result : tie.Need-overflow-cast-result
-cast_result c = search rules
-
-returns : tie.Need-returns
+pub returns : goal.returns
 returns c = search laws
-
-word_at_requires : tie.Need-word-at-requires
-word_at_requires c κs = search rules
-
-returns_2 : tie.Need-returns-2
-returns_2 c = search laws
-
-pub sent_at_spec : {M : Type 1} → statement M
-sent_at_spec = tie.close (tie.spec size_requires byte_at_requires cast_result returns word_at_requires returns_2)

@@ -8,8 +8,7 @@ use Rattle.groups.specs.declared.Frame.{Frame}
 use Rattle.groups.specs.declared.Framing.{Framing}
 use Rattle.groups.specs.Reading.{unframed, framed_as}
 use Rattle.groups.specs.Judged.{framed_refused}
-use Rattle.groups.proofs.with_frame.Statement.{statement}
-use Rattle.groups.proofs.with_frame.Tie as tie
+use Rattle.groups.proofs.with_frame.Goals as goal
 
 kept : (q : Refusal) (f : Frame) → q.number ≡ 0 → record { refusal = q; frame = f } ≡ framed_as q f
 unfolding framed_as
@@ -20,14 +19,8 @@ refused q f n = framed_refused q.number q.place f q (ne_eqb q.number 0 n) refl
 
 ruleset laws = (kept, refused, rules)
 
-returns : tie.Need-returns
+pub returns-then-refusal-eq0 : goal.returns-then-refusal-eq0
+returns-then-refusal-eq0 c = search laws
+
+pub returns : goal.returns
 returns c = search laws
-
-refused_requires : tie.Need-refused-requires
-refused_requires c κs = search laws
-
-returns_2 : tie.Need-returns-2
-returns_2 c = search laws
-
-pub with_frame_spec : {M : Type 1} → statement M
-with_frame_spec = tie.close (tie.spec returns refused_requires returns_2)

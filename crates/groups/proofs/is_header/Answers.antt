@@ -9,8 +9,7 @@ use lib.Dec.{eqb}
 use borrow.Author.Tests.{not-true, not-false}
 use Rattle.ground.specs.Numbers.{byte}
 use Rattle.groups.specs.Reading.{is_header, opens}
-use Rattle.groups.proofs.is_header.Statement.{statement}
-use Rattle.groups.proofs.is_header.Tie as tie
+use Rattle.groups.proofs.is_header.Goals as goal
 
 module _ (h : List ℕ) (a : Bool) (e : a ≡ opens h) where
   other_opening : not a ≡ true → false ≡ is_header h
@@ -23,25 +22,8 @@ module _ (h : List ℕ) (a : Bool) (e : a ≡ opens h) where
 
 ruleset laws = (other_opening, by_length, rules)
 
-opens_header_requires : tie.Need-opens-header-requires
-opens_header_requires c κs = search laws
+pub returns-then-not-opens_header : goal.returns-then-not-opens_header
+returns-then-not-opens_header c = search laws
 
-returns : tie.Need-returns
+pub returns : goal.returns
 returns c = search laws
-
-byte_at_requires : tie.Need-byte-at-requires
-byte_at_requires c κs = search laws
-
-cast_result : tie.Need-overflow-cast-result
-cast_result c = search laws
-
-add_result : tie.Need-overflow-add-result
-add_result c = search laws
-
-returns_2 : tie.Need-returns-2
-returns_2 c = search laws
-
-pub is_header_spec : {M : Type 1} → statement M
-is_header_spec =
-    tie.close
-    (tie.spec opens_header_requires returns byte_at_requires cast_result add_result returns_2)

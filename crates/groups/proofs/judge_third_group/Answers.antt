@@ -12,8 +12,7 @@ use Rattle.ground.specs.Refuse.{none, refuse, refuse_at, refuse_on}
 use Rattle.groups.specs.declared.Frame.{Frame}
 use Rattle.groups.specs.Reading.{header_of, strays_from}
 use Rattle.groups.specs.Third.{third_breach5, third_breach6, is_third_header, third_group_judged}
-use Rattle.groups.proofs.judge_third_group.Statement.{statement}
-use Rattle.groups.proofs.judge_third_group.Tie as tie
+use Rattle.groups.proofs.judge_third_group.Goals as goal
 
 module _ (s : List ℕ) (f : Frame) (h : List ℕ) (e : h ≡ header_of s f) (a : Bool) (g : a ≡ is_third_header h) where
   malformed : not a ≡ true → record { number = 5; place = f.header } ≡ third_group_judged s f none
@@ -38,31 +37,11 @@ module _ (s : List ℕ) (f : Frame) (h : List ℕ) (e : h ≡ header_of s f) (a 
 
 ruleset laws = (malformed, wrong_total, kept, rules)
 
-stretch_requires : tie.Need-stretch-requires
-stretch_requires c κs = search laws
+pub returns-then-not-is_third_header : goal.returns-then-not-is_third_header
+returns-then-not-is_third_header c = search laws
 
-is_third_header_requires : tie.Need-is-third-header-requires
-is_third_header_requires c κs = search laws
+pub returns-then-not-total_right : goal.returns-then-not-total_right
+returns-then-not-total_right c = search laws
 
-returns : tie.Need-returns
+pub returns : goal.returns
 returns c = search laws
-
-total_right_requires : tie.Need-total-right-requires
-total_right_requires c κs = search laws
-
-returns_2 : tie.Need-returns-2
-returns_2 c = search laws
-
-returns_3 : tie.Need-returns-3
-returns_3 c = search laws
-
-pub judge_third_group_spec : {M : Type 1} → statement M
-judge_third_group_spec =
-    tie.close
-    (tie.spec
-    stretch_requires
-    is_third_header_requires
-    returns
-    total_right_requires
-    returns_2
-    returns_3)

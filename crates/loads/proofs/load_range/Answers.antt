@@ -15,8 +15,7 @@ use Rattle.deed.specs.Doing.{Doing}
 use Rattle.loads.specs.Load.{deed_of}
 use Rattle.deed.specs.Doing.Doing.{denied, changed}
 use Rattle.loads.specs.Load.{loaded_with, load_range}
-use Rattle.loads.proofs.load_range.Statement.{statement}
-use Rattle.loads.proofs.load_range.Tie as tie
+use Rattle.loads.proofs.load_range.Goals as goal
 
 -- one law for each way out
 module _ (c : Control) (s : Sort) (range : Range) (w : ℕ) (a : Bool) (e : a ≡ legal_of s range) (r : Deed) where
@@ -57,31 +56,11 @@ module _ (c : Control) (s : Sort) (range : Range) (w : ℕ) (a : Bool) (e : a �
 
 ruleset laws = (illegal, too_wide, taken, rules)
 
-legal_requires : tie.Need-legal-requires
-legal_requires c κs = search laws
+pub returns-then-not-legal : goal.returns-then-not-legal
+returns-then-not-legal c = search laws
 
-returns : tie.Need-returns
+pub returns-then-not-fits : goal.returns-then-not-fits
+returns-then-not-fits c = search laws
+
+pub returns : goal.returns
 returns c = search laws
-
-fits_requires : tie.Need-fits-requires
-fits_requires c κs = search laws
-
-returns_2 : tie.Need-returns-2
-returns_2 c = search laws
-
-closest_requires : tie.Need-closest-requires
-closest_requires c κs = search laws
-
-returns_3 : tie.Need-returns-3
-returns_3 c = search laws
-
-pub load_range_spec : {M : Type 1} → statement M
-load_range_spec =
-    tie.close
-    (tie.spec
-    legal_requires
-    returns
-    fits_requires
-    returns_2
-    closest_requires
-    returns_3)

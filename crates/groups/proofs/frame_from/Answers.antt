@@ -9,8 +9,7 @@ use Rattle.scan.specs.Cutting.{end_at}
 use Rattle.search.specs.Want.{found_from}
 use Rattle.search.specs.declared.Want.TheVariants as want
 use Rattle.groups.specs.Reading.{frame_from, run_end}
-use Rattle.groups.proofs.frame_from.Statement.{statement}
-use Rattle.groups.proofs.frame_from.Tie as tie
+use Rattle.groups.proofs.frame_from.Goals as goal
 
 made : (s : List ℕ) (c r e : ℕ) → r ≡ end_at s (c + 9) → e ≡ place_or (found_from s r want.NotClass) (length s) → record { control = c; header = c + 9; run = r; end = e } ≡ frame_from s c
 unfolding frame_from run_end
@@ -18,17 +17,5 @@ made s c r e f g = rw (g, f) refl
 
 ruleset laws = (made, rules)
 
-add_header : tie.Need-overflow-add-header
-add_header c = search laws
-
-end_of_requires : tie.Need-end-of-requires
-end_of_requires c κs = search laws
-
-place_of_requires : tie.Need-place-of-requires
-place_of_requires c κs = search laws
-
-returns : tie.Need-returns
+pub returns : goal.returns
 returns c = search laws
-
-pub frame_from_spec : {M : Type 1} → statement M
-frame_from_spec = tie.close (tie.spec add_header end_of_requires place_of_requires returns)

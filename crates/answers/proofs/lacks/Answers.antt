@@ -6,8 +6,7 @@ use borrow.Author.Tests.{not-true, not-false}
 use Rattle.table.specs.declared.Sense.{Sense}
 use Rattle.setup.specs.declared.Part.{Part}
 use Rattle.answers.specs.Held.{is_ranged, of_range, lacking}
-use Rattle.answers.proofs.lacks.Statement.{statement}
-use Rattle.answers.proofs.lacks.Tie as tie
+use Rattle.answers.proofs.lacks.Goals as goal
 
 -- one law for each way out
 module _ (k : Sense) (part : Part) (a : Bool) (e : a ≡ of_range part) where
@@ -21,17 +20,8 @@ module _ (k : Sense) (part : Part) (a : Bool) (e : a ≡ of_range part) where
 
 ruleset laws = (every, by_range, rules)
 
-of_range_requires : tie.Need-of-range-requires
-of_range_requires c κs = search rules
+pub returns-then-not-of_range : goal.returns-then-not-of_range
+returns-then-not-of_range c = search laws
 
-returns : tie.Need-returns
+pub returns : goal.returns
 returns c = search laws
-
-is_ranged_requires : tie.Need-is-ranged-requires
-is_ranged_requires c κs = search rules
-
-returns_2 : tie.Need-returns-2
-returns_2 c = search laws
-
-pub lacks_spec : {M : Type 1} → statement M
-lacks_spec = tie.close (tie.spec of_range_requires returns is_ranged_requires returns_2)

@@ -15,8 +15,7 @@ use Rattle.groups.specs.declared.Frame.{Frame}
 use Rattle.groups.specs.declared.Framing.{Framing}
 use Rattle.groups.specs.Reading.{frame_from, frame_of, group_judged, judged, unframed, framed_as, framed_of}
 use Rattle.groups.specs.Judged.{framed_refused}
-use Rattle.groups.proofs.framed.Statement.{statement}
-use Rattle.groups.proofs.framed.Tie as tie
+use Rattle.groups.proofs.framed.Goals as goal
 
 module _ (s : List ℕ) (x : Location) (e : x ≡ location_of s) where
   number : x.refusal.number ≡ (interfaces_judged s none).number
@@ -41,35 +40,11 @@ module _ (s : List ℕ) (x : Location) (e : x ≡ location_of s) where
 
 ruleset laws = (early, inside, group, rules)
 
-locate_requires : tie.Need-locate-requires
-locate_requires c κs = search laws
+pub returns-then-refusal-ne0 : goal.returns-then-refusal-ne0
+returns-then-refusal-ne0 c = search laws
 
-refused_requires : tie.Need-refused-requires
-refused_requires c κs = search laws
+pub frame_from-frame-requires : goal.frame_from-frame-requires
+frame_from-frame-requires c = search laws
 
-returns : tie.Need-returns
+pub returns : goal.returns
 returns c = search laws
-
-frame_from_requires : tie.Need-frame-from-requires
-frame_from_requires c κs = search laws
-
-judge_group_requires : tie.Need-judge-group-requires
-judge_group_requires c κs = search laws
-
-with_frame_requires : tie.Need-with-frame-requires
-with_frame_requires c κs = search laws
-
-returns_2 : tie.Need-returns-2
-returns_2 c = search laws
-
-pub framed_spec : {M : Type 1} → statement M
-framed_spec =
-    tie.close
-    (tie.spec
-    locate_requires
-    refused_requires
-    returns
-    frame_from_requires
-    judge_group_requires
-    with_frame_requires
-    returns_2)

@@ -6,8 +6,7 @@ use mathlib.Core.Bool.{Bool, true, false}
 use borrow.Author.Tests.{lt-ltb, le-ltb}
 use Rattle.ground.specs.Pick.{yes, no}
 use Rattle.answers.specs.Answers.{get_number}
-use Rattle.answers.proofs.get_number.Statement.{statement}
-use Rattle.answers.proofs.get_number.Tie as tie
+use Rattle.answers.proofs.get_number.Goals as goal
 
 -- one law for each way out
 module _ (k u : Bool) (z room : ℕ) where
@@ -31,17 +30,14 @@ module _ (k u : Bool) (z room : ℕ) where
 
 ruleset laws = (no_part, unloaded, no_room, sent, rules)
 
-returns : tie.Need-returns
+pub returns-then-lacking : goal.returns-then-lacking
+returns-then-lacking c = search laws
+
+pub returns-then-unready : goal.returns-then-unready
+returns-then-unready c = search laws
+
+pub returns-then-room-sent : goal.returns-then-room-sent
+returns-then-room-sent c = search laws
+
+pub returns : goal.returns
 returns c = search laws
-
-returns_2 : tie.Need-returns-2
-returns_2 c = search laws
-
-returns_3 : tie.Need-returns-3
-returns_3 c = search laws
-
-returns_4 : tie.Need-returns-4
-returns_4 c = search laws
-
-pub get_number_spec : {M : Type 1} → statement M
-get_number_spec = tie.close (tie.spec returns returns_2 returns_3 returns_4)

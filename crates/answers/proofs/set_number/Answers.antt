@@ -7,8 +7,7 @@ use lib.Dec.{eqb}
 use borrow.Author.Tests.{eq-eqb, ne_eqb, not-true, not-false}
 use Rattle.ground.specs.Pick.{yes, no}
 use Rattle.answers.specs.Answers.{set_number}
-use Rattle.answers.proofs.set_number.Statement.{statement}
-use Rattle.answers.proofs.set_number.Tie as tie
+use Rattle.answers.proofs.set_number.Goals as goal
 
 -- one law for each way out
 module _ (u t : Bool) (z n l : ℕ) where
@@ -42,20 +41,17 @@ module _ (u t : Bool) (z n l : ℕ) where
 
 ruleset laws = (unloaded, other_length, other_data, outside, taken, rules)
 
-returns : tie.Need-returns
+pub returns-then-unready : goal.returns-then-unready
+returns-then-unready c = search laws
+
+pub returns-then-bytes-size : goal.returns-then-bytes-size
+returns-then-bytes-size c = search laws
+
+pub returns-then-long-size : goal.returns-then-long-size
+returns-then-long-size c = search laws
+
+pub returns-then-not-taken : goal.returns-then-not-taken
+returns-then-not-taken c = search laws
+
+pub returns : goal.returns
 returns c = search laws
-
-returns_2 : tie.Need-returns-2
-returns_2 c = search laws
-
-returns_3 : tie.Need-returns-3
-returns_3 c = search laws
-
-returns_4 : tie.Need-returns-4
-returns_4 c = search laws
-
-returns_5 : tie.Need-returns-5
-returns_5 c = search laws
-
-pub set_number_spec : {M : Type 1} → statement M
-set_number_spec = tie.close (tie.spec returns returns_2 returns_3 returns_4 returns_5)

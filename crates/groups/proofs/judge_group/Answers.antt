@@ -17,8 +17,7 @@ use Rattle.collection.specs.Reading.{collects}
 use Rattle.groups.specs.declared.Frame.{Frame}
 use Rattle.groups.specs.Rules5and6.{listed_of}
 use Rattle.groups.specs.Reading.{breach5, breach6, breach7, header_of, is_header, strays_from, group_judged}
-use Rattle.groups.proofs.judge_group.Statement.{statement}
-use Rattle.groups.proofs.judge_group.Tie as tie
+use Rattle.groups.proofs.judge_group.Goals as goal
 
 module _ (s : List ℕ) (f : Frame) (h : List ℕ) (e : h ≡ header_of s f) (a : Bool) (g : a ≡ is_header h) where
   malformed : not a ≡ true → record { number = 5; place = f.header } ≡ group_judged s f none
@@ -55,43 +54,14 @@ module _ (s : List ℕ) (f : Frame) (h : List ℕ) (e : h ≡ header_of s f) (a 
 
 ruleset laws = (malformed, wrong_total, wrong_collection, kept, rules)
 
-stretch_requires : tie.Need-stretch-requires
-stretch_requires c κs = search laws
+pub returns-then-not-is_header : goal.returns-then-not-is_header
+returns-then-not-is_header c = search laws
 
-is_header_requires : tie.Need-is-header-requires
-is_header_requires c κs = search laws
+pub returns-then-not-total_right : goal.returns-then-not-total_right
+returns-then-not-total_right c = search laws
 
-returns : tie.Need-returns
+pub returns-then-not-is_right : goal.returns-then-not-is_right
+returns-then-not-is_right c = search laws
+
+pub returns : goal.returns
 returns c = search laws
-
-total_right_requires : tie.Need-total-right-requires
-total_right_requires c κs = search laws
-
-returns_2 : tie.Need-returns-2
-returns_2 c = search laws
-
-stretch_requires_2 : tie.Need-stretch-requires-2
-stretch_requires_2 c κs = search laws
-
-is_right_requires : tie.Need-is-right-requires
-is_right_requires c κs = search laws
-
-returns_3 : tie.Need-returns-3
-returns_3 c = search laws
-
-returns_4 : tie.Need-returns-4
-returns_4 c = search laws
-
-pub judge_group_spec : {M : Type 1} → statement M
-judge_group_spec =
-    tie.close
-    (tie.spec
-    stretch_requires
-    is_header_requires
-    returns
-    total_right_requires
-    returns_2
-    stretch_requires_2
-    is_right_requires
-    returns_3
-    returns_4)

@@ -13,8 +13,7 @@ use Rattle.deed.specs.Doing.{Doing}
 use Rattle.loads.specs.Load.{deed_of}
 use Rattle.deed.specs.Doing.Doing.{denied}
 use Rattle.loads.specs.Load.{load_range, load_by, load_on}
-use Rattle.loads.proofs.load_on.Statement.{statement}
-use Rattle.loads.proofs.load_on.Tie as tie
+use Rattle.loads.proofs.load_on.Goals as goal
 
 -- one law for each way out
 module _ (c : Control) (range : Range) (w : ℕ) (r : Deed) (k : Sense) (j : k ≡ sense_of c.selector) where
@@ -39,47 +38,14 @@ module _ (c : Control) (range : Range) (w : ℕ) (r : Deed) (k : Sense) (j : k �
 
 ruleset laws = (unknown, yes_no, pin, ranged, rules)
 
-sense_of_requires : tie.Need-sense-of-requires
-sense_of_requires c κs = search laws
+pub returns-in-Unknown : goal.returns-in-Unknown
+returns-in-Unknown c = search laws
 
-enum_told : tie.Need-enum-told
-enum_told c = search laws
+pub returns-in-YesNo : goal.returns-in-YesNo
+returns-in-YesNo c = search laws
 
-enum_told_2 : tie.Need-enum-told-2
-enum_told_2 c = search laws
+pub returns-in-Ranged : goal.returns-in-Ranged
+returns-in-Ranged c = search laws
 
-enum_known_sort : tie.Need-enum-known-sort
-enum_known_sort c = search laws
-
-load_range_requires : tie.Need-load-range-requires
-load_range_requires c κs = search laws
-
-enum_told_3 : tie.Need-enum-told-3
-enum_told_3 c = search laws
-
-returns : tie.Need-returns
-returns c = search laws
-
-returns_2 : tie.Need-returns-2
-returns_2 c = search laws
-
-returns_3 : tie.Need-returns-3
-returns_3 c = search laws
-
-returns_4 : tie.Need-returns-4
-returns_4 c = search laws
-
-pub load_on_spec : {M : Type 1} → statement M
-load_on_spec =
-    tie.close
-    (tie.spec
-    sense_of_requires
-    enum_told
-    enum_told_2
-    enum_known_sort
-    load_range_requires
-    enum_told_3
-    returns
-    returns_2
-    returns_3
-    returns_4)
+pub returns-in-Pin : goal.returns-in-Pin
+returns-in-Pin c = search laws

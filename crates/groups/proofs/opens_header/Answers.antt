@@ -8,8 +8,7 @@ use Rattle.ground.specs.Lists.{part}
 use Rattle.groups.specs.Reading.{opens}
 use Rattle.ground.specs.Pick.{shows, refutes, true≠false}
 use Rattle.groups.specs.Opening.{reads_opens}
-use Rattle.groups.proofs.opens_header.Statement.{statement}
-use Rattle.groups.proofs.opens_header.Tie as tie
+use Rattle.groups.proofs.opens_header.Goals as goal
 
 compared : (h x y : List ℕ) (r : Bool) → x ≡ part h 1 5 → y ≡ 0x24 ∷ 1 ∷ 0 ∷ 1 ∷ [] → (r ≡ true → x ≡ y) → (x ≡ y → r ≡ true) → r ≡ opens h
 compared h x y r e f says shows' = go r refl
@@ -18,18 +17,5 @@ compared h x y r e f says shows' = go r refl
     go true q = sym (shows (reads_opens h) (sym e ∙ says q ∙ f))
     go false q = sym (refutes (reads_opens h) (λ o. true≠false (sym (shows' (e ∙ o ∙ sym f)) ∙ q)))
 
-stretch_requires : tie.Need-stretch-requires
-stretch_requires c κs = search rules
-
-slice_aggregate_same : tie.Need-slice-aggregate-same
-slice_aggregate_same c = search rules
-
-same_requires : tie.Need-same-requires
-same_requires c κs = search rules
-
-returns : tie.Need-returns
-returns c = compared _ _ _ _ c.before.before.stretch.ensures refl c.same.ensures.0 c.same.ensures.1
-
-pub opens_header_spec : {M : Type 1} → statement M
-opens_header_spec =
-    tie.close (tie.spec stretch_requires slice_aggregate_same same_requires returns)
+pub returns : goal.returns
+returns c = compared _ _ _ _ c.stretch.ensures refl c.same.ensures.0 c.same.ensures.1
