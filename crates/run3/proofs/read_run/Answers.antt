@@ -19,19 +19,9 @@ use Rattle.edition.specs.Edition.{Edition}
 use Rattle.entities.specs.declared.Node.{Node}
 use Rattle.entities.specs.Run.{most_entities, node_of, nodes_from, blank_node, run_in}
 use Rattle.entities.specs.RepresentsLaws.{nodes_length, nodes_more}
-use Rattle.run3.proofs.read_run.Statement.{statement}
-use Rattle.run3.proofs.read_run.Tie as tie
-
-abbrev ed : Edition
-ed = third []
-
-record Walked (s : List ℕ) (from : ℕ) (nodes : List Node) (count at : ℕ) : Type 0 where
-  behind : List (List ℕ)
-  whole : rest s from ≡ behind ++ rest s at
-  place : at ≡ from + total behind
-  counted : count ≡ length behind
-  few : count ≤ at
-  filled : nodes ≡ pad blank_node most_entities (nodes_from ed from behind)
+use Rattle.run3.proofs.read_run.Invariants.{ed, Walked}
+use Rattle.run3.proofs.read_run.Goals as goal
+use Rattle.run3.proofs.read_run.Goals.{then-count-lt-MOST_ENTITIES, else-count-lt-MOST_ENTITIES}
 
 start : (s : List ℕ) (from : ℕ) (b : Node) → b ≡ blank_node → Walked s from (replicate 32 b) 0 from
 unfolding total nodes_from
@@ -100,67 +90,26 @@ module _ (s : List ℕ) (from : ℕ) (nodes : List Node) (count at e : ℕ) (g :
 
 ruleset laws = (start, stop, count_fits, here_fits, on_kept, on_full, long, ordered, inside, falls, rules)
 
-abbrev invariant-loop : tie.invariant-loop
-invariant-loop s from nodes₀ count₀ at₀ nodes count at = Walked s from nodes count at
+pub loop-at-init : goal.loop-at-init
+loop-at-init c = search laws
 
-abbrev decreases-loop : tie.decreases-loop
-decreases-loop s from nodes₀ count₀ at₀ nodes count at = length s - at
+pub returns-then-e-at : goal.returns-then-e-at
+returns-then-e-at c = search laws
 
-blank_requires : tie.Need-blank-requires invariant-loop decreases-loop
-blank_requires c κs = search laws
+pub slice_bounds-node_of-count : goal.slice_bounds-node_of-count
+slice_bounds-node_of-count c = search laws
 
-loop_holds : tie.Need-loop-init invariant-loop decreases-loop
-loop_holds c = search laws
+pub slice_bounds-node_of-start : goal.slice_bounds-node_of-start
+slice_bounds-node_of-start c = search laws
 
-end_of_requires : tie.Need-end-of-requires invariant-loop decreases-loop
-end_of_requires c κs = search laws
+pub slice_bounds-node_of-end : goal.slice_bounds-node_of-end
+slice_bounds-node_of-end c = search laws
 
-returns : tie.Need-returns invariant-loop decreases-loop
-returns c = search laws
+pub overflow_add-count : goal.overflow_add-count
+overflow_add-count c = search laws
 
-sub_node_of : tie.Need-overflow-sub-node-of invariant-loop decreases-loop
-sub_node_of c = search laws
+pub loop-at-smaller : goal.loop-at-smaller
+loop-at-smaller c = search laws
 
-part_node_of_start : tie.Need-slice-bounds-node-of-start invariant-loop decreases-loop
-part_node_of_start c = search laws
-
-part_node_of_end : tie.Need-slice-bounds-node-of-end invariant-loop decreases-loop
-part_node_of_end c = search laws
-
-node_of_requires : tie.Need-node-of-requires invariant-loop decreases-loop
-node_of_requires c κs = search laws
-
-mul_nodes : tie.Need-overflow-mul-nodes invariant-loop decreases-loop
-mul_nodes c = search laws
-
-array_set_from_nodes : tie.Need-array-set-from-nodes invariant-loop decreases-loop
-array_set_from_nodes c = search laws
-
-add_count : tie.Need-overflow-add-count invariant-loop decreases-loop
-add_count c = search laws
-
-loop_less : tie.Need-loop-smaller invariant-loop decreases-loop
-loop_less c = search laws
-
-loop_again : tie.Need-loop-preserved invariant-loop decreases-loop
-loop_again c = ⊎_elim (λ w. search laws) (λ w. search laws) c.if2.branch
-
-pub read_run_spec : {M : Type 1} → statement M
-read_run_spec =
-    tie.close
-    (tie.spec
-    invariant-loop
-    decreases-loop
-    blank_requires
-    loop_holds
-    end_of_requires
-    returns
-    sub_node_of
-    part_node_of_start
-    part_node_of_end
-    node_of_requires
-    mul_nodes
-    array_set_from_nodes
-    add_count
-    loop_less
-    loop_again)
+pub loop-at-preserved : goal.loop-at-preserved
+loop-at-preserved c = elim c.if-count-lt-MOST_ENTITIES.branch [ then-count-lt-MOST_ENTITIES w ↦ search laws | else-count-lt-MOST_ENTITIES w ↦ search laws ]

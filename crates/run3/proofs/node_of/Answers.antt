@@ -15,8 +15,7 @@ use Rattle.layout3.specs.Facts.{facts_of}
 use Rattle.layout3.specs.LayoutLaws.{sources_within}
 use Rattle.edition3.specs.Third.{third}
 use Rattle.entities.specs.Run.{node_of}
-use Rattle.run3.proofs.node_of.Statement.{statement}
-use Rattle.run3.proofs.node_of.Tie as tie
+use Rattle.run3.proofs.node_of.Goals as goal
 
 module _ (d : List ℕ) (e : Entity) (h : e ≡ entity_of d) (f : Facts) (q : f ≡ facts_of e) (p : ℕ) where
   said : f ≡ facts_of (entity_of d)
@@ -34,24 +33,8 @@ module _ (d : List ℕ) (e : Entity) (h : e ≡ entity_of d) (f : Facts) (q : f 
 
 ruleset laws = (first_fits, made, rules)
 
-read_requires : tie.Need-read-requires
-read_requires c κs = search laws
+pub overflow_add-result : goal.overflow_add-result
+overflow_add-result c = search laws
 
-facts_of_requires : tie.Need-facts-of-requires
-facts_of_requires c κs = search laws
-
-cast_t5 : tie.Need-overflow-cast-t5
-cast_t5 c = search laws
-
-add_t6 : tie.Need-overflow-add-t6
-add_t6 c = search laws
-
-byte_at_requires : tie.Need-byte-at-requires
-byte_at_requires c κs = search laws
-
-returns : tie.Need-returns
+pub returns : goal.returns
 returns c = search laws
-
-pub node_of_spec : {M : Type 1} → statement M
-node_of_spec =
-    tie.close (tie.spec read_requires facts_of_requires cast_t5 add_t6 byte_at_requires returns)

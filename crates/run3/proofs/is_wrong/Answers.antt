@@ -9,22 +9,12 @@ use Rattle.layout3.specs.declared.Facts.{Facts}
 use Rattle.layout3.specs.Layout.{entity_of, is_unknown}
 use Rattle.layout3.specs.Facts.{facts_of}
 use Rattle.run3.specs.Unknown.{kind_unknown}
-use Rattle.run3.proofs.is_wrong.Statement.{statement}
-use Rattle.run3.proofs.is_wrong.Tie as tie
+use Rattle.run3.proofs.is_wrong.Goals as goal
 
 told : (d : List ℕ) (e : Entity) → e ≡ entity_of d → (f : Facts) → f ≡ facts_of e → eqb f.kind 0 ≡ is_unknown (entity_of d)
 told d e q f h = ap (λ (x : Facts). eqb x.kind 0) (h ∙ ap facts_of q) ∙ kind_unknown (entity_of d)
 
 ruleset laws = (told, rules)
 
-read_requires : tie.Need-read-requires
-read_requires c κs = search laws
-
-facts_of_requires : tie.Need-facts-of-requires
-facts_of_requires c κs = search laws
-
-returns : tie.Need-returns
+pub returns : goal.returns
 returns c = search laws
-
-pub is_wrong_spec : {M : Type 1} → statement M
-is_wrong_spec = tie.close (tie.spec read_requires facts_of_requires returns)
