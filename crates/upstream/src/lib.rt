@@ -103,7 +103,7 @@ fn tell_route(path: Path, told: Tally, list: &mut [u8]) -> Tally
 }
 
 // An entity asks its pins; one that has none is where a route ends. One route more than are listed is enough.
-#[cycle(ask_entity_ask_pins)]
+#[cycle(asking)]
 fn ask_entity(
     config: &[u8],
     firsts: &[usize; 256],
@@ -131,7 +131,7 @@ fn ask_entity(
 }
 
 // Each pin asks the entity behind it, the first pin first.
-#[cycle(ask_entity_ask_pins)]
+#[cycle(asking)]
 fn ask_pins(
     config: &[u8],
     firsts: &[usize; 256],

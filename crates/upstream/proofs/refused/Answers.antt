@@ -2,8 +2,7 @@ use borrow.Author.Rules.{rules}
 use Prim.Native.Nat.{ℕ}
 use mathlib.Core.Path.{◌≡◌, refl}
 use Rattle.upstream.specs.Listing.{refused_with}
-use Rattle.upstream.proofs.refused.Statement.{statement}
-use Rattle.upstream.proofs.refused.Tie as tie
+use Rattle.upstream.proofs.refused.Goals as goal
 
 made : (n p : ℕ) → record { number = n; place = p; routes = 0; written = 0 } ≡ refused_with n p
 unfolding refused_with
@@ -11,8 +10,5 @@ made n p = refl
 
 ruleset laws = (made, rules)
 
-returns : tie.Need-returns
+pub returns : goal.returns
 returns c = search laws
-
-pub refused_spec : {M : Type 1} → statement M
-refused_spec = tie.close (tie.spec returns)

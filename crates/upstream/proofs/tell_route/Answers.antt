@@ -11,8 +11,7 @@ use Rattle.ground.specs.Pick.{no}
 use Rattle.upstream.specs.declared.Path.{Path}
 use Rattle.upstream.specs.declared.Tally.{Tally}
 use Rattle.upstream.specs.Telling.{most_depth, most_routes, path_of, Ready, so_far, put_in, tell}
-use Rattle.upstream.proofs.tell_route.Statement.{statement}
-use Rattle.upstream.proofs.tell_route.Tie as tie
+use Rattle.upstream.proofs.tell_route.Goals as goal
 
 module _ (p : Path) (t : Tally) (g : Ready p t) where
   small : t.written + 33 < 2 ^ 64
@@ -34,27 +33,5 @@ module _ (p : Path) (t : Tally) (g : Ready p t) where
 
 ruleset laws = (small, deep, one_more, rules)
 
-put_route_requires : tie.Need-put-route-requires
-put_route_requires c κs = search laws
-
-add_t7 : tie.Need-overflow-add-t7
-add_t7 c = search laws
-
-sub_t8 : tie.Need-overflow-sub-t8
-sub_t8 c = search laws
-
-add_t9 : tie.Need-overflow-add-t9
-add_t9 c = search laws
-
-add_t10 : tie.Need-overflow-add-t10
-add_t10 c = search laws
-
-same_length : tie.Need-same-length
-same_length c = search laws
-
-returns : tie.Need-returns
+pub returns : goal.returns
 returns c = search laws
-
-pub tell_route_spec : {M : Type 1} → statement M
-tell_route_spec =
-    tie.close (tie.spec put_route_requires add_t7 sub_t8 add_t9 add_t10 same_length returns)

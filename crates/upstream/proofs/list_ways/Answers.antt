@@ -10,8 +10,7 @@ use Rattle.upstream.specs.Ways.{Way}
 use Rattle.upstream.specs.Telling.{most_routes, so_far, tell_all}
 use Rattle.upstream.specs.Listing.{Counted, refused_with, ways_listing, ways_list}
 use Rattle.upstream.specs.ListingLaws.{refused_many, refused_room, taken}
-use Rattle.upstream.proofs.list_ways.Statement.{statement}
-use Rattle.upstream.proofs.list_ways.Tie as tie
+use Rattle.upstream.proofs.list_ways.Goals as goal
 
 module _ (ws : List Way) (a : Tally) (c : Counted ws a) (l : List ℕ) where
   many_answer : (r : Listing) → r ≡ refused_with 46 0 → most_routes < a.routes → r ≡ ways_listing ws (length l)
@@ -36,39 +35,20 @@ module _ (ws : List Way) (a : Tally) (c : Counted ws a) (l : List ℕ) where
 
 ruleset laws = (many_answer, many_list, room_answer, room_list, taken_answer, taken_list, rules)
 
-count_requires : tie.Need-count-requires
-count_requires c κs = search laws
+pub returns-then-all-gt-MOST_ROUTES-clause-value : goal.returns-then-all-gt-MOST_ROUTES-clause-value
+returns-then-all-gt-MOST_ROUTES-clause-value c = search laws
 
-refused_requires : tie.Need-refused-requires
-refused_requires c κs = search laws
+pub returns-then-all-gt-MOST_ROUTES-clause-list_after : goal.returns-then-all-gt-MOST_ROUTES-clause-list_after
+returns-then-all-gt-MOST_ROUTES-clause-list_after c = search laws
 
-returns : tie.Need-returns
-returns c = (search laws, search laws)
+pub returns-then-list-all-clause-value : goal.returns-then-list-all-clause-value
+returns-then-list-all-clause-value c = search laws
 
-refused_requires_2 : tie.Need-refused-requires-2
-refused_requires_2 c κs = search laws
+pub returns-then-list-all-clause-list_after : goal.returns-then-list-all-clause-list_after
+returns-then-list-all-clause-list_after c = search laws
 
-returns_2 : tie.Need-returns-2
-returns_2 c = (search laws, search laws)
+pub returns-clause-value : goal.returns-clause-value
+returns-clause-value c = search laws
 
-walk_requires : tie.Need-walk-requires
-walk_requires c κs = search laws
-
-same_length : tie.Need-same-length
-same_length c = search laws
-
-returns_3 : tie.Need-returns-3
-returns_3 c = (search laws, search laws)
-
-pub list_ways_spec : {M : Type 1} → statement M
-list_ways_spec =
-    tie.close
-    (tie.spec
-    count_requires
-    refused_requires
-    returns
-    refused_requires_2
-    returns_2
-    walk_requires
-    same_length
-    returns_3)
+pub returns-clause-list_after : goal.returns-clause-list_after
+returns-clause-list_after c = search laws

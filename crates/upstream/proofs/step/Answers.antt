@@ -7,8 +7,7 @@ use lib.ListN.{set, length-set}
 use lib.Seq.{take-suc-set}
 use Rattle.upstream.specs.declared.Path.{Path}
 use Rattle.upstream.specs.Telling.{most_depth, path_of, Standing, Further}
-use Rattle.upstream.proofs.step.Statement.{statement}
-use Rattle.upstream.proofs.step.Tie as tie
+use Rattle.upstream.proofs.step.Goals as goal
 
 module _ (p : Path) (g : Standing p) (h : 0 < p.left) where
   room : most_depth - p.left < most_depth
@@ -28,17 +27,5 @@ module _ (p : Path) (g : Standing p) (h : 0 < p.left) where
 
 ruleset laws = (room, further, rules)
 
-sub_ids : tie.Need-overflow-sub-ids
-sub_ids c = search laws
-
-array_write_ids : tie.Need-array-write-ids
-array_write_ids c = search laws
-
-sub_t4 : tie.Need-overflow-sub-t4
-sub_t4 c = search laws
-
-returns : tie.Need-returns
+pub returns : goal.returns
 returns c = search laws
-
-pub step_spec : {M : Type 1} → statement M
-step_spec = tie.close (tie.spec sub_ids array_write_ids sub_t4 returns)

@@ -8,8 +8,7 @@ use lib.ListN.{replicate, length-replicate}
 use Rattle.upstream.specs.declared.Path.{Path}
 use Rattle.upstream.specs.Ways.{Way}
 use Rattle.upstream.specs.Telling.{most_depth, path_of, Ready, Progress, tell_all}
-use Rattle.upstream.proofs.walk.Statement.{statement}
-use Rattle.upstream.proofs.walk.Tie as tie
+use Rattle.upstream.proofs.walk.Goals as goal
 
 abbrev empty : Path
 empty = record { ids = replicate 32 0; left = most_depth }
@@ -23,14 +22,5 @@ from_nothing r t ws e = e
 
 ruleset laws = (ready, from_nothing, rules)
 
-ask_entity_requires : tie.Need-ask-entity-requires
-ask_entity_requires c κs = search laws
-
-same_length : tie.Need-same-length
-same_length c = search laws
-
-returns : tie.Need-returns
+pub returns : goal.returns
 returns c = search laws
-
-pub walk_spec : {M : Type 1} → statement M
-walk_spec = tie.close (tie.spec ask_entity_requires same_length returns)
