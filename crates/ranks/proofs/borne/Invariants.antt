@@ -1,4 +1,3 @@
--- The entities are looked at one by one, and the ID of each is marked: those looked at, and those that are left, are the run's.
 use borrow.Author.Rules.{rules}
 use Prim.Native.Nat.{ℕ, suc, ◌+◌, ◌-◌, ◌<◌, ◌≤◌}
 use mathlib.Core.Path.{◌≡◌, sym, ap, ◌∙◌}
@@ -16,20 +15,19 @@ use Rattle.entities.specs.Run.{held, id_at, most_entities, blank_node}
 use Rattle.ranks.specs.Breach.{borne_in}
 use Rattle.ranks.specs.Marks.{Marks, marks_none, marks_more, marks_table}
 use Rattle.ranks.specs.Spare.{zeros}
-use Rattle.ranks.proofs.borne.Statement.{statement}
-use Rattle.ranks.proofs.borne.Tie as tie
+use Rattle.ranks.proofs.borne.Given as goal
 
 module _ (run : Run) (n : ℕ) where
   -- the entities before index i are marked
-  record Gone (marks : List Bool) (i : ℕ) : Type 0 where
-    whole : n ≡ held run
-    few : n ≤ 32
-    low : i ≤ n
-    o : List ℕ
-    same : below n ≡ o ++ tabulate_from i (n - i) (λ x. x)
-    hold : Marks (id_at run) o marks
+  pub record Gone (marks : List Bool) (i : ℕ) : Type 0 where
+    pub whole : n ≡ held run
+    pub few : n ≤ 32
+    pub low : i ≤ n
+    pub o : List ℕ
+    pub same : below n ≡ o ++ tabulate_from i (n - i) (λ x. x)
+    pub hold : Marks (id_at run) o marks
 
-  start : n ≡ held run → Gone (replicate 256 false) 0
+  pub start : n ≡ held run → Gone (replicate 256 false) 0
   start e =
       let h = min-le_right run.count most_entities in
       let q : n ≡ n - 0 = omega arith in
@@ -43,7 +41,7 @@ module _ (run : Run) (n : ℕ) where
       }
 
   module _ (marks : List Bool) (i : ℕ) (g : Gone marks i) where
-    over : n ≤ i → marks ≡ borne_in run
+    pub over : n ≤ i → marks ≡ borne_in run
     unfolding borne_in tabulate_from
     over h =
         let z : n - i ≡ 0 = omega arith in
@@ -52,7 +50,7 @@ module _ (run : Run) (n : ℕ) where
         marks_table (id_at run) g.o marks g.hold ∙ ap (λ (o : List ℕ). tabulate 256 (λ x. mem x (map (id_at run) o))) (sym e)
 
     module _ (l : i < n) (x : ℕ) (v : (x ≡ (get_or run.nodes i zeros).id) × (x < 256)) where
-      on : Gone (set marks x true) (i + 1)
+      pub on : Gone (set marks x true) (i + 1)
       unfolding tabulate_from blank_node
       on =
           let q : n - i ≡ suc (n - (i + 1)) = omega arith in
@@ -68,57 +66,8 @@ module _ (run : Run) (n : ℕ) where
             hold = rw v.0 (marks_more (id_at run) g.o marks g.hold i s);
           }
 
-ruleset laws = (start, over, on, rules)
+abbrev pub invariant-loop-i : goal.invariant-loop-i
+invariant-loop-i l = Gone l.run l.n l.marks l.i
 
-abbrev invariant-loop : tie.invariant-loop
-invariant-loop run n marks₀ i₀ marks i = Gone run n marks i
-
-abbrev decreases-loop : tie.decreases-loop
-decreases-loop run n marks₀ i₀ marks i = n - i
-
-count_requires : tie.Need-count-requires invariant-loop decreases-loop
-count_requires c κs = search laws
-
-loop_holds : tie.Need-loop-init invariant-loop decreases-loop
-loop_holds c = search laws
-
-mul_index_of : tie.Need-overflow-mul-index-of invariant-loop decreases-loop
-mul_index_of c = search laws
-
-element_copy_out_index_of : tie.Need-element-copy-out-index-of invariant-loop decreases-loop
-element_copy_out_index_of c = search laws
-
-index_of_requires : tie.Need-index-of-requires invariant-loop decreases-loop
-index_of_requires c κs = search laws
-
-array_write_marks : tie.Need-array-write-marks invariant-loop decreases-loop
-array_write_marks c = search laws
-
-add_i : tie.Need-overflow-add-i invariant-loop decreases-loop
-add_i c = search laws
-
-loop_less : tie.Need-loop-smaller invariant-loop decreases-loop
-loop_less c = search laws
-
-loop_again : tie.Need-loop-preserved invariant-loop decreases-loop
-loop_again c = search laws
-
-returns : tie.Need-returns invariant-loop decreases-loop
-returns c = search laws
-
-pub borne_spec : {M : Type 1} → statement M
-borne_spec =
-    tie.close
-    (tie.spec
-    invariant-loop
-    decreases-loop
-    count_requires
-    loop_holds
-    mul_index_of
-    element_copy_out_index_of
-    index_of_requires
-    array_write_marks
-    add_i
-    loop_less
-    loop_again
-    returns)
+abbrev pub decreases-loop-i : goal.decreases-loop-i
+decreases-loop-i l = l.n - l.i
