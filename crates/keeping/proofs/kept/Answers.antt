@@ -16,8 +16,7 @@ use Rattle.entities.specs.Run.{sources_of, descriptor_of}
 use Rattle.edition.specs.Audio.{alike, mixer_kept, feature_kept, keeps}
 use Rattle.keeping.specs.Keeping.{channels_on, content_on, keeps_by}
 use Rattle.keeping.specs.KeepingLaws.{mixer_same, feature_same}
-use Rattle.keeping.proofs.kept.Statement.{statement}
-use Rattle.keeping.proofs.kept.Tie as tie
+use Rattle.keeping.proofs.kept.Goals as goal
 
 -- a byte says how many pins there are
 few : (s : List ℕ) (n : Node) → n.pins < 256 → (ids : List ℕ) → ids ≡ sources_of s n → length ids ≤ 255
@@ -60,83 +59,20 @@ module _ (s : List ℕ) (n : Node) (counts bitmaps d : List ℕ) (p : d ≡ desc
 
 ruleset laws = (few, unknown, input, output, mixer, selector, feature, rules)
 
-descriptor_at_requires : tie.Need-descriptor-at-requires
-descriptor_at_requires c κs = search rules
+pub returns-in-Unknown : goal.returns-in-Unknown
+returns-in-Unknown c = search laws
 
-sources_requires : tie.Need-sources-requires
-sources_requires c κs = search rules
+pub returns-in-Input : goal.returns-in-Input
+returns-in-Input c = search laws
 
-read_requires : tie.Need-read-requires
-read_requires c κs = search rules
+pub returns-in-Output : goal.returns-in-Output
+returns-in-Output c = search laws
 
-enum_told : tie.Need-enum-told
-enum_told c = search rules
+pub returns-in-Mixer : goal.returns-in-Mixer
+returns-in-Mixer c = search laws
 
-enum_known_entity : tie.Need-enum-known-entity
-enum_known_entity c = search rules
+pub returns-in-Selector : goal.returns-in-Selector
+returns-in-Selector c = search laws
 
-cluster_kept_requires : tie.Need-cluster-kept-requires
-cluster_kept_requires c κs = search rules
-
-enum_told_2 : tie.Need-enum-told-2
-enum_told_2 c = search rules
-
-enum_known_entity_2 : tie.Need-enum-known-entity-2
-enum_known_entity_2 c = search rules
-
-mixer_kept_requires : tie.Need-mixer-kept-requires
-mixer_kept_requires c κs = search laws
-
-enum_told_3 : tie.Need-enum-told-3
-enum_told_3 c = search rules
-
-selector_kept_requires : tie.Need-selector-kept-requires
-selector_kept_requires c κs = search rules
-
-enum_known_entity_3 : tie.Need-enum-known-entity-3
-enum_known_entity_3 c = search rules
-
-feature_kept_requires : tie.Need-feature-kept-requires
-feature_kept_requires c κs = search rules
-
-returns : tie.Need-returns
-returns c = search laws
-
-returns_2 : tie.Need-returns-2
-returns_2 c = search laws
-
-returns_3 : tie.Need-returns-3
-returns_3 c = search laws
-
-returns_4 : tie.Need-returns-4
-returns_4 c = search laws
-
-returns_5 : tie.Need-returns-5
-returns_5 c = search laws
-
-returns_6 : tie.Need-returns-6
-returns_6 c = search laws
-
-pub kept_spec : {M : Type 1} → statement M
-kept_spec =
-    tie.close
-    (tie.spec
-    descriptor_at_requires
-    sources_requires
-    read_requires
-    enum_told
-    enum_known_entity
-    cluster_kept_requires
-    enum_told_2
-    enum_known_entity_2
-    mixer_kept_requires
-    enum_told_3
-    selector_kept_requires
-    enum_known_entity_3
-    feature_kept_requires
-    returns
-    returns_2
-    returns_3
-    returns_4
-    returns_5
-    returns_6)
+pub returns-in-Feature : goal.returns-in-Feature
+returns-in-Feature c = search laws

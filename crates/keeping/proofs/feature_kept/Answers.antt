@@ -7,8 +7,7 @@ use lib.Dec.{eqb}
 use Rattle.edition.specs.Audio.{feature_length, feature_kept}
 use Rattle.keeping.specs.Keeping.{channels_on}
 use Rattle.sweep.specs.Sweep.{first_by}
-use Rattle.keeping.proofs.feature_kept.Statement.{statement}
-use Rattle.keeping.proofs.feature_kept.Tie as tie
+use Rattle.keeping.proofs.feature_kept.Goals as goal
 
 by_length : (ids counts : List ℕ) (n l c m : ℕ) → c ≡ (first_by (channels_on counts) ids).channels
     → m ≡ feature_length c n → eqb l m ≡ feature_kept n l (map (channels_on counts) ids)
@@ -17,14 +16,5 @@ by_length ids counts n l c m e f = ap (eqb l) (f ∙ ap (λ (k : ℕ). feature_l
 
 ruleset laws = (by_length, rules)
 
-first_count_requires : tie.Need-first-count-requires
-first_count_requires c κs = search laws
-
-feature_length_requires : tie.Need-feature-length-requires
-feature_length_requires c κs = search laws
-
-returns : tie.Need-returns
+pub returns : goal.returns
 returns c = search laws
-
-pub feature_kept_spec : {M : Type 1} → statement M
-feature_kept_spec = tie.close (tie.spec first_count_requires feature_length_requires returns)

@@ -7,8 +7,7 @@ use native.Mathlib.Omega.{arith}
 use mir.Val.{Fits}
 use mir.Syntax.{w64}
 use Rattle.edition.specs.Audio.{feature_length}
-use Rattle.keeping.proofs.feature_length.Statement.{statement}
-use Rattle.keeping.proofs.feature_length.Tie as tie
+use Rattle.keeping.proofs.feature_length.Goals as goal
 
 module _ (c n : ℕ) (h : c < 256) (k : n < 256) where
   small : (c + 1) * n ≤ 256 * 255
@@ -26,17 +25,5 @@ made c n = refl
 
 ruleset laws = (product_fits, sum_fits, made, rules)
 
-add_result : tie.Need-overflow-add-result
-add_result c = search laws
-
-mul_result : tie.Need-overflow-mul-result
-mul_result c = search laws
-
-add_result_2 : tie.Need-overflow-add-result-2
-add_result_2 c = search laws
-
-returns : tie.Need-returns
+pub returns : goal.returns
 returns c = search laws
-
-pub feature_length_spec : {M : Type 1} → statement M
-feature_length_spec = tie.close (tie.spec add_result mul_result add_result_2 returns)

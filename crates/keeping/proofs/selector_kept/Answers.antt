@@ -9,8 +9,7 @@ use borrow.Author.Tests.{not-true, not-false}
 use Rattle.pins.specs.Same.{numbers_at, all_same}
 use Rattle.edition.specs.Audio.{channels_each, locations_each, alike}
 use Rattle.keeping.specs.Keeping.{content_on}
-use Rattle.keeping.proofs.selector_kept.Statement.{statement}
-use Rattle.keeping.proofs.selector_kept.Tie as tie
+use Rattle.keeping.proofs.selector_kept.Goals as goal
 
 module _ (counts bitmaps : List ℕ) where
   channels_on : (ids : List ℕ) → numbers_at counts ids ≡ channels_each (map (content_on counts bitmaps) ids)
@@ -39,17 +38,8 @@ module _ (counts bitmaps : List ℕ) where
 
 ruleset laws = (other_channels, by_bitmaps, rules)
 
-same_requires : tie.Need-same-requires
-same_requires c κs = search rules
+pub returns-then-not-same : goal.returns-then-not-same
+returns-then-not-same c = search laws
 
-returns : tie.Need-returns
+pub returns : goal.returns
 returns c = search laws
-
-same_wide_requires : tie.Need-same-wide-requires
-same_wide_requires c κs = search rules
-
-returns_2 : tie.Need-returns-2
-returns_2 c = search laws
-
-pub selector_kept_spec : {M : Type 1} → statement M
-selector_kept_spec = tie.close (tie.spec same_requires returns same_wide_requires returns_2)

@@ -10,8 +10,7 @@ use Rattle.layout.specs.declared.Cluster.{Cluster}
 use Rattle.channels.specs.DeclaredChannels.{cluster_kept}
 use Rattle.edition.specs.Audio.{channels_in, mixer_length, mixer_kept}
 use Rattle.keeping.specs.Keeping.{Entering}
-use Rattle.keeping.proofs.mixer_kept.Statement.{statement}
-use Rattle.keeping.proofs.mixer_kept.Tie as tie
+use Rattle.keeping.proofs.mixer_kept.Goals as goal
 
 module _ (p : ℕ) (c : Cluster) (l : ℕ) (cs : List Cluster) (b : Bool) (e : b ≡ cluster_kept c) where
   cluster_broken : not b ≡ true → false ≡ mixer_kept p c l cs
@@ -26,22 +25,8 @@ module _ (p : ℕ) (c : Cluster) (l : ℕ) (cs : List Cluster) (b : Bool) (e : b
 
 ruleset laws = (cluster_broken, by_length, rules)
 
-cluster_kept_requires : tie.Need-cluster-kept-requires
-cluster_kept_requires c κs = search laws
+pub returns-then-not-cluster_kept : goal.returns-then-not-cluster_kept
+returns-then-not-cluster_kept c = search laws
 
-returns : tie.Need-returns
+pub returns : goal.returns
 returns c = search laws
-
-channels_in_requires : tie.Need-channels-in-requires
-channels_in_requires c κs = search laws
-
-mixer_length_requires : tie.Need-mixer-length-requires
-mixer_length_requires c κs = search laws
-
-returns_2 : tie.Need-returns-2
-returns_2 c = search laws
-
-pub mixer_kept_spec : {M : Type 1} → statement M
-mixer_kept_spec =
-    tie.close
-    (tie.spec cluster_kept_requires returns channels_in_requires mixer_length_requires returns_2)

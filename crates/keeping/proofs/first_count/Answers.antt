@@ -8,8 +8,7 @@ use lib.ListN.{length, get_or}
 use Rattle.edition.specs.Audio.{first_of}
 use Rattle.keeping.specs.Keeping.{channels_on}
 use Rattle.sweep.specs.Sweep.{first_by}
-use Rattle.keeping.proofs.first_count.Statement.{statement}
-use Rattle.keeping.proofs.first_count.Tie as tie
+use Rattle.keeping.proofs.first_count.Goals as goal
 
 module _ (counts : List ℕ) where
   no_pin : (ids : List ℕ) → length ids ≡ 0 → 0 ≡ (first_by (channels_on counts) ids).channels
@@ -24,18 +23,8 @@ module _ (counts : List ℕ) where
 
 ruleset laws = (no_pin, pin_1, rules)
 
-returns : tie.Need-returns
+pub returns-then-ids-eq0 : goal.returns-then-ids-eq0
+returns-then-ids-eq0 c = search laws
+
+pub returns : goal.returns
 returns c = search laws
-
-shared_slice_read_number_of : tie.Need-shared-slice-read-number-of
-shared_slice_read_number_of c = search laws
-
-number_of_requires : tie.Need-number-of-requires
-number_of_requires c κs = search laws
-
-returns_2 : tie.Need-returns-2
-returns_2 c = search laws
-
-pub first_count_spec : {M : Type 1} → statement M
-first_count_spec =
-    tie.close (tie.spec returns shared_slice_read_number_of number_of_requires returns_2)
