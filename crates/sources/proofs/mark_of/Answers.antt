@@ -4,8 +4,7 @@ use mathlib.Core.Path.{◌≡◌, sym, ap}
 use mathlib.Core.Bool.{Bool, true, false}
 use Rattle.sources.specs.declared.Found.TheVariants.{Entity}
 use Rattle.sources.specs.Lookup.{mark_of}
-use Rattle.sources.proofs.mark_of.Statement.{statement}
-use Rattle.sources.proofs.mark_of.Tie as tie
+use Rattle.sources.proofs.mark_of.Goals as goal
 
 has_output : (b : Bool) → b ≡ true → 2 ≡ mark_of (Entity b)
 unfolding mark_of
@@ -17,11 +16,8 @@ no_output b e = sym (ap (λ (c : Bool). mark_of (Entity c)) e)
 
 ruleset laws = (has_output, no_output, rules)
 
-returns : tie.Need-returns
-returns c = search laws
+pub returns-then-feeds : goal.returns-then-feeds
+returns-then-feeds c = search laws
 
-returns_2 : tie.Need-returns-2
-returns_2 c = search laws
-
-pub mark_of_spec : {M : Type 1} → statement M
-mark_of_spec = tie.close (tie.spec returns returns_2)
+pub returns-else-feeds : goal.returns-else-feeds
+returns-else-feeds c = search laws

@@ -11,8 +11,7 @@ use Rattle.sources.specs.declared.Found.TheVariants.{Nothing, Entity}
 use Rattle.sources.specs.Lookup.{source_number, found_by}
 use Rattle.sources.specs.LookupLaws.{entity_refuses}
 use Rattle.sources.specs.Breach.{refuses, wrong_by}
-use Rattle.sources.proofs.wrong_source.Statement.{statement}
-use Rattle.sources.proofs.wrong_source.Tie as tie
+use Rattle.sources.proofs.wrong_source.Goals as goal
 
 module _ (marks : List ℕ) (x : ℕ) where
   zero_id : x ≡ 0 → true ≡ wrong_by marks x
@@ -33,23 +32,11 @@ module _ (marks : List ℕ) (x : ℕ) where
 
 ruleset laws = (zero_id, unknown, known, rules)
 
-returns : tie.Need-returns
+pub returns-then-source-eq0 : goal.returns-then-source-eq0
+returns-then-source-eq0 c = search laws
+
+pub returns-in_default : goal.returns-in_default
+returns-in_default c = search laws
+
+pub returns : goal.returns
 returns c = search laws
-
-find_requires : tie.Need-find-requires
-find_requires c κs = search laws
-
-enum_known_feeds : tie.Need-enum-known-feeds
-enum_known_feeds c = search laws
-
-enum_told : tie.Need-enum-told
-enum_told c = search laws
-
-returns_2 : tie.Need-returns-2
-returns_2 c = search laws
-
-returns_3 : tie.Need-returns-3
-returns_3 c = search laws
-
-pub wrong_source_spec : {M : Type 1} → statement M
-wrong_source_spec = tie.close (tie.spec returns find_requires enum_known_feeds enum_told returns_2 returns_3)

@@ -9,8 +9,7 @@ use borrow.Author.Tests.{eq-eqb, ne_eqb}
 use Rattle.ground.specs.Pick.{yes, no}
 use Rattle.sources.specs.declared.Found.TheVariants.{Nothing, Entity}
 use Rattle.sources.specs.Lookup.{found_by}
-use Rattle.sources.proofs.find.Statement.{statement}
-use Rattle.sources.proofs.find.Tie as tie
+use Rattle.sources.proofs.find.Goals as goal
 
 module _ (marks : List ℕ) (x id : ℕ) (w : (x ≡ id) × (x < 256)) where
   unborne : get_or marks x 0 ≡ 0 → Nothing ≡ found_by (get_or marks id 0)
@@ -23,17 +22,8 @@ module _ (marks : List ℕ) (x id : ℕ) (w : (x ≡ id) × (x < 256)) where
 
 ruleset laws = (unborne, borne, rules)
 
-index_of_requires : tie.Need-index-of-requires
-index_of_requires c κs = search laws
+pub returns-then-mark-eq0 : goal.returns-then-mark-eq0
+returns-then-mark-eq0 c = search laws
 
-element_copy_out_mark : tie.Need-element-copy-out-mark
-element_copy_out_mark c = search laws
-
-returns : tie.Need-returns
+pub returns : goal.returns
 returns c = search laws
-
-returns_2 : tie.Need-returns-2
-returns_2 c = search laws
-
-pub find_spec : {M : Type 1} → statement M
-find_spec = tie.close (tie.spec index_of_requires element_copy_out_mark returns returns_2)
