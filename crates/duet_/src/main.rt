@@ -4,9 +4,10 @@
 ghost use Rattle.std.specs.Prelude.{◌≤◌, ◌≡◌, length};
 
 use duet::{Duet, Socket};
-use libc::{STDIN_FILENO, STDOUT_FILENO};
 use request::State;
 use sides::Side;
+use std::io;
+use std::io::Read;
 use table::{Control, Table};
 
 // The most bytes of a step's body.
@@ -54,43 +55,38 @@ fn body_space() -> [u8; BODY]
     [0u8; BODY]
 }
 
-fn say(text: &[u8]) {
-    io::write_all(STDOUT_FILENO, text);
-}
-
 // A space, then a number.
-fn say_next(n: u64) {
-    say(b" ");
-    io::print_decimal(STDOUT_FILENO, n);
+fn say_next(out: &impl Print, n: u64) -> io::Result<()> {
+    print!(out; " {n}")
 }
 
 // A space, then a byte as two capital hex digits.
-fn say_byte(b: u8) {
+fn say_byte(out: &impl Print, b: u8) -> io::Result<()> {
     let pair = text::hex_pair(b);
-    say(b" ");
-    say(&pair);
+    out.write_all(b" ")?;
+    out.write_all(&pair)
 }
 
-fn say_bytes(bytes: &[u8]) {
-    let mut i: usize = 0;
-    while i < bytes.len() {
-        say_byte(bytes[i]);
-        i += 1;
+fn say_bytes(out: &impl Print, bytes: &[u8]) -> io::Result<()> {
+    for b in bytes {
+        say_byte(out, *b)?;
     }
+    Ok(())
 }
 
-fn say_refused(number: u8) {
-    say(b"refused");
-    say_next(number as u64);
+fn say_refused(out: &impl Print, number: u8) -> io::Result<()> {
+    out.write_all(b"refused")?;
+    say_next(out, number as u64)
 }
 
 // A refusal, with its place where it is the reader's.
-fn say_placed(number: u8, place: usize) {
-    say_refused(number);
+fn say_placed(out: &impl Print, number: u8, place: usize) -> io::Result<()> {
+    say_refused(out, number)?;
     if number <= READERS {
-        say(b" at");
-        say_next(place as u64);
+        out.write_all(b" at")?;
+        say_next(out, place as u64)?;
     }
+    Ok(())
 }
 
 fn good(duet: Duet) -> Next {
@@ -109,45 +105,45 @@ fn side_of(mark: u8) -> Side {
     Side::Right
 }
 
-fn plug_in(duet: Duet, side: Side, config: &[u8]) -> Next {
+fn plug_in(out: &impl Print, duet: Duet, side: Side, config: &[u8]) -> io::Result<Next> {
     let mut sheet = [0u8; SHEET];
     let admitted = admission::plug_in(duet, side, config, &mut sheet);
     if admitted.number == 0 {
-        say(b"accepted");
-        say_next(admitted.control as u64);
-        say_next(admitted.entities as u64);
-        say_next(admitted.controls as u64);
+        out.write_all(b"accepted")?;
+        say_next(out, admitted.control as u64)?;
+        say_next(out, admitted.entities as u64)?;
+        say_next(out, admitted.controls as u64)?;
     } else {
-        say_placed(admitted.number, admitted.place);
+        say_placed(out, admitted.number, admitted.place)?;
     }
-    say(b"\n");
+    out.write_all(b"\n")?;
     let after = admitted.duet;
-    good(after)
+    Ok(good(after))
 }
 
 // The answer to an unplugging or a load: its word, or the refusal.
-fn say_done(number: u8, done: &[u8]) {
+fn say_done(out: &impl Print, number: u8, done: &[u8]) -> io::Result<()> {
     if number == 0 {
-        say(done);
+        out.write_all(done)?;
     } else {
-        say_refused(number);
+        say_refused(out, number)?;
     }
-    say(b"\n");
+    out.write_all(b"\n")
 }
 
-fn unplug(duet: Duet, side: Side, body: &[u8]) -> Next {
+fn unplug(out: &impl Print, duet: Duet, side: Side, body: &[u8]) -> io::Result<Next> {
     if body.len() != 1 {
-        return bad(duet);
+        return Ok(bad(duet));
     }
     let answer = duet::unplug(duet, side);
-    say_done(answer.number, b"unplugged");
+    say_done(out, answer.number, b"unplugged")?;
     let after = answer.duet;
-    good(after)
+    Ok(good(after))
 }
 
-fn load(duet: Duet, side: Side, body: &[u8]) -> Next {
+fn load(out: &impl Print, duet: Duet, side: Side, body: &[u8]) -> io::Result<Next> {
     if body.len() != 12 {
-        return bad(duet);
+        return Ok(bad(duet));
     }
     let unit = scan::byte_at(body, 1);
     let channel = scan::byte_at(body, 2);
@@ -157,22 +153,22 @@ fn load(duet: Duet, side: Side, body: &[u8]) -> Next {
     let res = scan::word_at(body, 8);
     let cur = scan::word_at(body, 10);
     let answer = duet::load(duet, side, unit, channel, selector, min, max, res, cur);
-    say_done(answer.number, b"loaded");
+    say_done(out, answer.number, b"loaded")?;
     let after = answer.duet;
-    good(after)
+    Ok(good(after))
 }
 
 // The answer to a request: `set`, `got` and the bytes written, or the refusal.
-fn say_answer(number: u8, is_get: bool, reply: &[u8]) {
+fn say_answer(out: &impl Print, number: u8, is_get: bool, reply: &[u8]) -> io::Result<()> {
     if number != 0 {
-        say_refused(number);
+        say_refused(out, number)?;
     } else if is_get {
-        say(b"got");
-        say_bytes(reply);
+        out.write_all(b"got")?;
+        say_bytes(out, reply)?;
     } else {
-        say(b"set");
+        out.write_all(b"set")?;
     }
-    say(b"\n");
+    out.write_all(b"\n")
 }
 
 fn at_most(n: usize, most: usize) -> usize
@@ -182,54 +178,55 @@ fn at_most(n: usize, most: usize) -> usize
 }
 
 // A request with its parts told apart: how many bytes of reply it may write, its setup and its data.
-fn ask(duet: Duet, room: usize, setup: &[u8], data: &[u8]) -> Next {
+fn ask(out: &impl Print, duet: Duet, room: usize, setup: &[u8], data: &[u8]) -> io::Result<Next> {
     let mut reply = reply_space();
     let m = at_most(room, REPLY);
     let answer = duet::request(duet, setup, data, &mut reply[..m]);
     let is_get = scan::byte_at(setup, 0) == 0xA1;
     say_answer(
+        out,
         answer.number,
         is_get,
         scan::stretch(&reply, 0, answer.written),
-    );
+    )?;
     let after = answer.duet;
-    good(after)
+    Ok(good(after))
 }
 
-fn ask_step(duet: Duet, body: &[u8]) -> Next {
+fn ask_step(out: &impl Print, duet: Duet, body: &[u8]) -> io::Result<Next> {
     if body.len() < 3 {
-        return bad(duet);
+        return Ok(bad(duet));
     }
     let room = scan::word_at(body, 0) as usize;
     let end = 3 + scan::byte_at(body, 2) as usize;
     if body.len() < end {
-        return bad(duet);
+        return Ok(bad(duet));
     }
-    ask(duet, room, &body[3..end], &body[end..])
+    ask(out, duet, room, &body[3..end], &body[end..])
 }
 
 // A side: `empty`, or `at I` and its table.
-fn show_side(socket: Socket) {
+fn show_side(out: &impl Print, socket: Socket) -> io::Result<()> {
     if !socket.plugged {
-        say(b"empty\n");
-        return;
+        return out.write_all(b"empty\n");
     }
     let state = socket.state;
-    say(b"at");
-    say_next(state.control as u64);
-    say(b"\n");
-    listing::show(state.table);
+    out.write_all(b"at")?;
+    say_next(out, state.control as u64)?;
+    out.write_all(b"\n")?;
+    listing::show(out, state.table)?;
+    Ok(())
 }
 
-fn show(duet: Duet, body: &[u8]) -> Next {
+fn show(out: &impl Print, duet: Duet, body: &[u8]) -> io::Result<Next> {
     if body.len() != 0 {
-        return bad(duet);
+        return Ok(bad(duet));
     }
-    say(b"left\n");
-    show_side(duet.left);
-    say(b"right\n");
-    show_side(duet.right);
-    good(duet)
+    out.write_all(b"left\n")?;
+    show_side(out, duet.left)?;
+    out.write_all(b"right\n")?;
+    show_side(out, duet.right)?;
+    Ok(good(duet))
 }
 
 // The control that 13 bytes of a put step give.
@@ -323,57 +320,63 @@ fn give(body: &[u8]) -> Given {
     give_plugged(body)
 }
 
-fn put(duet: Duet, body: &[u8]) -> Next {
+fn put(out: &impl Print, duet: Duet, body: &[u8]) -> io::Result<Next> {
     let one = give(body);
     if !one.good {
-        return bad(duet);
+        return Ok(bad(duet));
     }
     let rest = scan::stretch(body, one.end, body.len());
     let two = give(rest);
     if !two.good {
-        return bad(duet);
+        return Ok(bad(duet));
     }
     if two.end != rest.len() {
-        return bad(duet);
+        return Ok(bad(duet));
     }
-    say(b"put\n");
+    out.write_all(b"put\n")?;
     let left = one.socket;
     let right = two.socket;
-    good(Duet { left, right })
+    Ok(good(Duet { left, right }))
 }
 
 // The stretch of an entity: its bytes, or the refusal.
-fn stretch<'a>(side: Side, id: u8, left: &'a [u8], right: &'a [u8]) {
+fn stretch<'a>(
+    out: &impl Print,
+    side: Side,
+    id: u8,
+    left: &'a [u8],
+    right: &'a [u8],
+) -> io::Result<()> {
     let refusal = extent::stretch_refusal(side, id, left, right);
     if refusal.number == 0 {
-        say(b"bytes");
-        say_bytes(extent::stretch(side, id, left, right));
+        out.write_all(b"bytes")?;
+        say_bytes(out, extent::stretch(side, id, left, right))?;
     } else {
-        say_placed(refusal.number, refusal.place);
+        say_placed(out, refusal.number, refusal.place)?;
     }
-    say(b"\n");
+    out.write_all(b"\n")
 }
 
-fn stretch_step(duet: Duet, side: Side, body: &[u8]) -> Next {
+fn stretch_step(out: &impl Print, duet: Duet, side: Side, body: &[u8]) -> io::Result<Next> {
     if body.len() < 4 {
-        return bad(duet);
+        return Ok(bad(duet));
     }
     let end = 4 + scan::word_at(body, 2) as usize;
     if body.len() < end {
-        return bad(duet);
+        return Ok(bad(duet));
     }
     let id = scan::byte_at(body, 1);
-    stretch(side, id, &body[4..end], &body[end..]);
-    good(duet)
+    stretch(out, side, id, &body[4..end], &body[end..])?;
+    Ok(good(duet))
 }
 
 // A step that names a side in its first byte.
-fn side_step(duet: Duet, kind: u8, side: Side, body: &[u8]) -> Next {
+fn side_step(out: &impl Print, duet: Duet, kind: u8, side: Side, body: &[u8]) -> io::Result<Next> {
     match kind {
-        1 => plug_in(duet, side, scan::stretch(body, 1, body.len())),
-        2 => load(duet, side, body),
-        6 => unplug(duet, side, body),
-        _ => stretch_step(duet, side, body),
+        1 => plug_in(out, duet, side, scan::stretch(body, 1, body.len())),
+        2 => load(out, duet, side, body),
+        6 => unplug(out, duet, side, body),
+        _ => stretch_step(out, duet, side, body),
     }
 }
 
@@ -388,67 +391,79 @@ fn names_side(kind: u8) -> bool {
     }
 }
 
-fn step(duet: Duet, kind: u8, body: &[u8]) -> Next {
+fn step(out: &impl Print, duet: Duet, kind: u8, body: &[u8]) -> io::Result<Next> {
     if names_side(kind) {
         if body.len() == 0 {
-            return bad(duet);
+            return Ok(bad(duet));
         }
         let mark = body[0];
         if 1 < mark {
-            return bad(duet);
+            return Ok(bad(duet));
         }
-        return side_step(duet, kind, side_of(mark), body);
+        return side_step(out, duet, kind, side_of(mark), body);
     }
     match kind {
-        3 => ask_step(duet, body),
-        4 => show(duet, body),
-        5 => put(duet, body),
-        _ => bad(duet),
+        3 => ask_step(out, duet, body),
+        4 => show(out, duet, body),
+        5 => put(out, duet, body),
+        _ => Ok(bad(duet)),
     }
 }
 
 // The step of a kind whose body is the next n bytes of standard input.
-fn read_step(duet: Duet, kind: u8, n: usize) -> Next {
+fn read_step(
+    input: &mut impl Read,
+    out: &impl Print,
+    duet: Duet,
+    kind: u8,
+    n: usize,
+) -> io::Result<Next> {
     if BODY < n {
-        return bad(duet);
+        return Ok(bad(duet));
     }
     let mut body = body_space();
-    let read = io::read_full(STDIN_FILENO, &mut body[..n]);
+    let read = fill::read_full(input, &mut body[..n]);
     if read < n {
-        return bad(duet);
+        return Ok(bad(duet));
     }
-    step(duet, kind, &body[..n])
+    step(out, duet, kind, &body[..n])
 }
 
 // One step from standard input. The input's end before a step begins is no step, and nothing is said.
-fn turn(duet: Duet) -> Next {
+fn turn(input: &mut impl Read, out: &impl Print, duet: Duet) -> io::Result<Next> {
     let mut opening = [0u8; 3];
-    let got = io::read_full(STDIN_FILENO, &mut opening);
+    let got = fill::read_full(input, &mut opening);
     if got == 0 {
-        return bad(duet);
+        return Ok(bad(duet));
     }
     if got < 3 {
-        say(b"bad step\n");
-        return bad(duet);
+        out.write_all(b"bad step\n")?;
+        return Ok(bad(duet));
     }
-    let next = read_step(duet, opening[0], scan::word_at(&opening, 1) as usize);
+    let next = read_step(
+        input,
+        out,
+        duet,
+        opening[0],
+        scan::word_at(&opening, 1) as usize,
+    )?;
     if !next.good {
-        say(b"bad step\n");
+        out.write_all(b"bad step\n")?;
     }
-    next
+    Ok(next)
 }
 
-fn main() {
+fn main(rt: HostRuntime) -> io::Result<()> {
     let mut duet = duet::empty();
-    // A proved loop has to end, and nothing says that a script does: it counts down from a number that no script uses up.
-    let mut turns = u64::MAX;
-    while 0 < turns {
-        let next = turn(duet);
+    let mut input = rt.stdin();
+    // A proved loop has to end, and nothing says that a script does: it counts up to a number that no script comes to.
+    for _ in 0..u64::MAX {
+        let next = turn(&mut input, &rt, duet)?;
         if !next.good {
-            return;
+            return Ok(());
         }
         let left = next.duet;
         duet = left;
-        turns -= 1;
     }
+    Ok(())
 }

@@ -4,7 +4,8 @@
 // a line, up to the last that is not AA, then how many stand behind it. A step that is none prints `bad step`, and the program ends.
 ghost use Rattle.std.specs.Prelude.{◌≡◌, length};
 
-use libc::{STDIN_FILENO, STDOUT_FILENO};
+use std::io;
+use std::io::Read;
 use topology::Reading;
 
 // The most bytes of a configuration that a step may give.
@@ -26,88 +27,86 @@ fn body_space() -> [u8; BODY]
     [0u8; BODY]
 }
 
-fn say(text: &[u8]) {
-    io::write_all(STDOUT_FILENO, text);
-}
-
 // A space, then a number.
-fn say_next(n: u64) {
-    say(b" ");
-    io::print_decimal(STDOUT_FILENO, n);
+fn say_next(out: &impl Print, n: u64) -> io::Result<()> {
+    print!(out; " {n}")
 }
 
-fn say_answer(reading: Reading) {
+fn say_answer(out: &impl Print, reading: Reading) -> io::Result<()> {
     if reading.number == 0 {
-        say(b"accepted");
-        say_next(reading.control as u64);
-        say_next(reading.entities as u64);
-        say_next(reading.controls as u64);
+        out.write_all(b"accepted")?;
+        say_next(out, reading.control as u64)?;
+        say_next(out, reading.entities as u64)?;
+        say_next(out, reading.controls as u64)?;
     } else {
-        say(b"refused");
-        say_next(reading.number as u64);
-        say(b" at");
-        say_next(reading.place as u64);
+        out.write_all(b"refused")?;
+        say_next(out, reading.number as u64)?;
+        out.write_all(b" at")?;
+        say_next(out, reading.place as u64)?;
     }
-    say(b"\n");
+    out.write_all(b"\n")
 }
 
-fn read_into(config: &[u8], sheet: &mut [u8]) {
+fn read_into(out: &impl Print, config: &[u8], sheet: &mut [u8]) -> io::Result<()> {
     let reading = topology::read(config, sheet);
-    say_answer(reading);
-    marks::show(sheet);
+    say_answer(out, reading)?;
+    marks::show(out, sheet)?;
+    Ok(())
 }
 
 // Reads a configuration with m bytes lent. Whether it was a step at all.
-fn step(m: usize, config: &[u8]) -> bool {
+fn step(out: &impl Print, m: usize, config: &[u8]) -> io::Result<bool> {
     if SHEET < m {
-        return false;
+        return Ok(false);
     }
     let mut sheet = sheet_space();
-    read_into(config, &mut sheet[..m]);
-    true
+    read_into(out, config, &mut sheet[..m])?;
+    Ok(true)
 }
 
 // The step whose configuration is the next n bytes of standard input.
-fn read_step(m: usize, n: usize) -> bool {
+fn read_step(input: &mut impl Read, out: &impl Print, m: usize, n: usize) -> io::Result<bool> {
     if BODY < n {
-        return false;
+        return Ok(false);
     }
     let mut body = body_space();
-    let read = io::read_full(STDIN_FILENO, &mut body[..n]);
+    let read = fill::read_full(input, &mut body[..n]);
     if read < n {
-        return false;
+        return Ok(false);
     }
-    step(m, &body[..n])
+    step(out, m, &body[..n])
 }
 
 // One step from standard input: whether another may follow. The input's end before a step begins is no step, and nothing is said.
-fn turn() -> bool {
+fn turn(input: &mut impl Read, out: &impl Print) -> io::Result<bool> {
     let mut opening = [0u8; 4];
-    let got = io::read_full(STDIN_FILENO, &mut opening);
+    let got = fill::read_full(input, &mut opening);
     if got == 0 {
-        return false;
+        return Ok(false);
     }
     if got < 4 {
-        say(b"bad step\n");
-        return false;
+        out.write_all(b"bad step\n")?;
+        return Ok(false);
     }
     let good = read_step(
+        input,
+        out,
         scan::word_at(&opening, 0) as usize,
         scan::word_at(&opening, 2) as usize,
-    );
+    )?;
     if !good {
-        say(b"bad step\n");
+        out.write_all(b"bad step\n")?;
     }
-    good
+    Ok(good)
 }
 
-fn main() {
-    // A proved loop has to end, and nothing says that the steps do: it counts down from a number that no input uses up.
-    let mut turns = u64::MAX;
-    while 0 < turns {
-        if !turn() {
-            return;
+fn main(rt: HostRuntime) -> io::Result<()> {
+    let mut input = rt.stdin();
+    // A proved loop has to end, and nothing says that the steps do: it counts up to a number that no input comes to.
+    for _ in 0..u64::MAX {
+        if !turn(&mut input, &rt)? {
+            return Ok(());
         }
-        turns -= 1;
     }
+    Ok(())
 }

@@ -5,7 +5,8 @@
 // and the program ends.
 ghost use Rattle.std.specs.Prelude.{◌≡◌, length};
 
-use libc::{STDIN_FILENO, STDOUT_FILENO};
+use std::io;
+use std::io::Read;
 use topology::Reading;
 
 // The most bytes of a configuration, and of a cluster buffer, that a step may give.
@@ -27,101 +28,111 @@ fn body_space() -> [u8; BODY]
     [0u8; BODY]
 }
 
-fn say(text: &[u8]) {
-    io::write_all(STDOUT_FILENO, text);
-}
-
 // A space, then a number.
-fn say_next(n: u64) {
-    say(b" ");
-    io::print_decimal(STDOUT_FILENO, n);
+fn say_next(out: &impl Print, n: u64) -> io::Result<()> {
+    print!(out; " {n}")
 }
 
 // "The answer is the sheet only": the other counts of an acceptance are 1.0's, and are not said of either edition.
-fn say_answer(reading: Reading) {
+fn say_answer(out: &impl Print, reading: Reading) -> io::Result<()> {
     if reading.number == 0 {
-        say(b"accepted");
-        say_next(reading.entities as u64);
+        out.write_all(b"accepted")?;
+        say_next(out, reading.entities as u64)?;
     } else {
-        say(b"refused");
-        say_next(reading.number as u64);
-        say(b" at");
-        say_next(reading.place as u64);
+        out.write_all(b"refused")?;
+        say_next(out, reading.number as u64)?;
+        out.write_all(b" at")?;
+        say_next(out, reading.place as u64)?;
     }
-    say(b"\n");
+    out.write_all(b"\n")
 }
 
-fn read_into(config: &[u8], clusters: &[u8], sheet: &mut [u8]) {
+fn read_into(out: &impl Print, config: &[u8], clusters: &[u8], sheet: &mut [u8]) -> io::Result<()> {
     let reading = protocol::read(config, clusters, sheet);
-    say_answer(reading);
-    marks::show(sheet);
+    say_answer(out, reading)?;
+    marks::show(out, sheet)?;
+    Ok(())
 }
 
 // Reads a configuration and its cluster buffer with m bytes lent. Whether it was a step at all.
-fn step(m: usize, config: &[u8], clusters: &[u8]) -> bool {
+fn step(out: &impl Print, m: usize, config: &[u8], clusters: &[u8]) -> io::Result<bool> {
     if SHEET < m {
-        return false;
+        return Ok(false);
     }
     let mut sheet = sheet_space();
-    read_into(config, clusters, &mut sheet[..m]);
-    true
+    read_into(out, config, clusters, &mut sheet[..m])?;
+    Ok(true)
 }
 
 // The step of this configuration whose cluster buffer is the next k bytes of standard input.
-fn read_clusters(m: usize, k: usize, config: &[u8]) -> bool {
+fn read_clusters(
+    input: &mut impl Read,
+    out: &impl Print,
+    m: usize,
+    k: usize,
+    config: &[u8],
+) -> io::Result<bool> {
     if BODY < k {
-        return false;
+        return Ok(false);
     }
     let mut clusters = body_space();
-    let read = io::read_full(STDIN_FILENO, &mut clusters[..k]);
+    let read = fill::read_full(input, &mut clusters[..k]);
     if read < k {
-        return false;
+        return Ok(false);
     }
-    step(m, config, &clusters[..k])
+    step(out, m, config, &clusters[..k])
 }
 
 // The step whose configuration is the next n bytes of standard input.
-fn read_step(m: usize, n: usize, k: usize) -> bool {
+fn read_step(
+    input: &mut impl Read,
+    out: &impl Print,
+    m: usize,
+    n: usize,
+    k: usize,
+) -> io::Result<bool> {
     if BODY < n {
-        return false;
+        return Ok(false);
     }
     let mut body = body_space();
-    let read = io::read_full(STDIN_FILENO, &mut body[..n]);
+    let read = fill::read_full(input, &mut body[..n]);
     if read < n {
-        return false;
+        return Ok(false);
     }
-    read_clusters(m, k, &body[..n])
+    read_clusters(input, out, m, k, &body[..n])
 }
 
 // One step from standard input: whether another may follow. The input's end before a step begins is no step, and nothing is said.
-fn turn() -> bool {
+fn turn(input: &mut impl Read, out: &impl Print) -> io::Result<bool> {
     let mut opening = [0u8; 6];
-    let got = io::read_full(STDIN_FILENO, &mut opening);
+    let got = fill::read_full(input, &mut opening);
     if got == 0 {
-        return false;
+        return Ok(false);
     }
     if got < 6 {
-        say(b"bad step\n");
-        return false;
+        out.write_all(b"bad step\n")?;
+        return Ok(false);
     }
     let good = read_step(
+        input,
+        out,
         scan::word_at(&opening, 0) as usize,
         scan::word_at(&opening, 2) as usize,
         scan::word_at(&opening, 4) as usize,
-    );
+    )?;
     if !good {
-        say(b"bad step\n");
+        out.write_all(b"bad step\n")?;
     }
-    good
+    Ok(good)
 }
 
-fn main() {
-    // A proved loop has to end, and nothing says that the steps do: it counts down from a number that no input uses up.
-    let mut turns = u64::MAX;
-    while 0 < turns {
-        if !turn() {
-            return;
+fn main(rt: HostRuntime) -> io::Result<()> {
+    let mut input = rt.stdin();
+    // A proved loop has to end, and nothing says that the steps do: it counts up to a number that no input comes to.
+    for _ in 0..u64::MAX {
+        if !turn(&mut input, &rt)? {
+            return Ok(());
         }
-        turns -= 1;
     }
+    Ok(())
 }

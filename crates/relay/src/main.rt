@@ -3,8 +3,9 @@
 // n bytes. Each step prints its answer on a line of its own; a step that is none prints `bad step`, and the program ends.
 ghost use Rattle.std.specs.Prelude.{◌≤◌, ◌≡◌, length};
 
-use libc::{STDIN_FILENO, STDOUT_FILENO};
 use request::State;
+use std::io;
+use std::io::Read;
 use table::{Control, Table};
 
 // The most bytes of a step's body.
@@ -39,25 +40,16 @@ fn body_space() -> [u8; BODY]
     [0u8; BODY]
 }
 
-fn say(text: &[u8]) {
-    io::write_all(STDOUT_FILENO, text);
-}
-
-fn say_number(n: u64) {
-    io::print_decimal(STDOUT_FILENO, n);
-}
-
 // A space, then a number.
-fn say_next(n: u64) {
-    say(b" ");
-    say_number(n);
+fn say_next(out: &impl Print, n: u64) -> io::Result<()> {
+    print!(out; " {n}")
 }
 
 // A space, then a byte as two capital hex digits.
-fn say_byte(b: u8) {
+fn say_byte(out: &impl Print, b: u8) -> io::Result<()> {
     let pair = text::hex_pair(b);
-    say(b" ");
-    say(&pair);
+    out.write_all(b" ")?;
+    out.write_all(&pair)
 }
 
 fn good(state: State) -> Next {
@@ -68,29 +60,29 @@ fn bad(state: State) -> Next {
     Next { good: false, state }
 }
 
-fn plug_in(config: &[u8]) -> Next {
+fn plug_in(out: &impl Print, config: &[u8]) -> io::Result<Next> {
     let mut sheet = [0u8; SHEET];
     let plugged = plug::plug_in(config, &mut sheet);
     let reading = plugged.reading;
     if reading.number == 0 {
-        say(b"accepted");
-        say_next(reading.control as u64);
-        say_next(reading.entities as u64);
-        say_next(reading.controls as u64);
+        out.write_all(b"accepted")?;
+        say_next(out, reading.control as u64)?;
+        say_next(out, reading.entities as u64)?;
+        say_next(out, reading.controls as u64)?;
     } else {
-        say(b"refused");
-        say_next(reading.number as u64);
-        say(b" at");
-        say_next(reading.place as u64);
+        out.write_all(b"refused")?;
+        say_next(out, reading.number as u64)?;
+        out.write_all(b" at")?;
+        say_next(out, reading.place as u64)?;
     }
-    say(b"\n");
+    out.write_all(b"\n")?;
     let state = plugged.state;
-    good(state)
+    Ok(good(state))
 }
 
-fn load(state: State, body: &[u8]) -> Next {
+fn load(out: &impl Print, state: State, body: &[u8]) -> io::Result<Next> {
     if body.len() != 11 {
-        return bad(state);
+        return Ok(bad(state));
     }
     let unit = scan::byte_at(body, 0);
     let channel = scan::byte_at(body, 1);
@@ -101,36 +93,35 @@ fn load(state: State, body: &[u8]) -> Next {
     let cur = scan::word_at(body, 9);
     let answer = request::load(state, unit, channel, selector, min, max, res, cur);
     if answer.number == 0 {
-        say(b"loaded");
+        out.write_all(b"loaded")?;
     } else {
-        say(b"refused");
-        say_next(answer.number as u64);
+        out.write_all(b"refused")?;
+        say_next(out, answer.number as u64)?;
     }
-    say(b"\n");
+    out.write_all(b"\n")?;
     let after = answer.state;
-    good(after)
+    Ok(good(after))
 }
 
-fn say_bytes(bytes: &[u8]) {
-    let mut i: usize = 0;
-    while i < bytes.len() {
-        say_byte(bytes[i]);
-        i += 1;
+fn say_bytes(out: &impl Print, bytes: &[u8]) -> io::Result<()> {
+    for b in bytes {
+        say_byte(out, *b)?;
     }
+    Ok(())
 }
 
 // The answer to a request: `set`, `got` and the bytes written, or the refusal.
-fn say_answer(number: u8, is_get: bool, reply: &[u8]) {
+fn say_answer(out: &impl Print, number: u8, is_get: bool, reply: &[u8]) -> io::Result<()> {
     if number != 0 {
-        say(b"refused");
-        say_next(number as u64);
+        out.write_all(b"refused")?;
+        say_next(out, number as u64)?;
     } else if is_get {
-        say(b"got");
-        say_bytes(reply);
+        out.write_all(b"got")?;
+        say_bytes(out, reply)?;
     } else {
-        say(b"set");
+        out.write_all(b"set")?;
     }
-    say(b"\n");
+    out.write_all(b"\n")
 }
 
 fn at_most(n: usize, most: usize) -> usize
@@ -140,38 +131,39 @@ fn at_most(n: usize, most: usize) -> usize
 }
 
 // A request with its parts told apart: how many bytes of reply it may write, its setup and its data.
-fn ask(state: State, room: usize, setup: &[u8], data: &[u8]) -> Next {
+fn ask(out: &impl Print, state: State, room: usize, setup: &[u8], data: &[u8]) -> io::Result<Next> {
     let mut reply = reply_space();
     let m = at_most(room, REPLY);
     let answer = request::request(state, setup, data, &mut reply[..m]);
     let is_get = scan::byte_at(setup, 0) == 0xA1;
     say_answer(
+        out,
         answer.number,
         is_get,
         scan::stretch(&reply, 0, answer.written),
-    );
+    )?;
     let after = answer.state;
-    good(after)
+    Ok(good(after))
 }
 
-fn ask_step(state: State, body: &[u8]) -> Next {
+fn ask_step(out: &impl Print, state: State, body: &[u8]) -> io::Result<Next> {
     if body.len() < 3 {
-        return bad(state);
+        return Ok(bad(state));
     }
     let room = scan::word_at(body, 0) as usize;
     let end = 3 + scan::byte_at(body, 2) as usize;
     if body.len() < end {
-        return bad(state);
+        return Ok(bad(state));
     }
-    ask(state, room, &body[3..end], &body[end..])
+    ask(out, state, room, &body[3..end], &body[end..])
 }
 
-fn show(state: State, body: &[u8]) -> Next {
+fn show(out: &impl Print, state: State, body: &[u8]) -> io::Result<Next> {
     if body.len() != 0 {
-        return bad(state);
+        return Ok(bad(state));
     }
-    listing::show(state.table);
-    good(state)
+    listing::show(out, state.table)?;
+    Ok(good(state))
 }
 
 // The control that 13 bytes of a put step give.
@@ -206,83 +198,95 @@ fn put_controls(body: &[u8], n: usize) -> Table {
     filled
 }
 
-fn put(state: State, body: &[u8]) -> Next {
+fn put(out: &impl Print, state: State, body: &[u8]) -> io::Result<Next> {
     if body.len() < 3 {
-        return bad(state);
+        return Ok(bad(state));
     }
     let given = body.len() - 3;
     if given % PUT != 0 {
-        return bad(state);
+        return Ok(bad(state));
     }
     let n = given / PUT;
     if table::CONTROLS < n {
-        return bad(state);
+        return Ok(bad(state));
     }
     let mut filled = put_controls(body, n);
     filled.count = scan::word_at(body, 1) as usize;
-    say(b"put\n");
-    good(State {
+    out.write_all(b"put\n")?;
+    Ok(good(State {
         control: scan::byte_at(body, 0),
         table: filled,
-    })
+    }))
 }
 
-fn step(state: State, kind: u8, body: &[u8]) -> Next {
+fn step(out: &impl Print, state: State, kind: u8, body: &[u8]) -> io::Result<Next> {
     match kind {
-        1 => plug_in(body),
-        2 => load(state, body),
-        3 => ask_step(state, body),
-        4 => show(state, body),
-        5 => put(state, body),
-        _ => bad(state),
+        1 => plug_in(out, body),
+        2 => load(out, state, body),
+        3 => ask_step(out, state, body),
+        4 => show(out, state, body),
+        5 => put(out, state, body),
+        _ => Ok(bad(state)),
     }
 }
 
 // The step of a kind whose body is the next n bytes of standard input.
-fn read_step(state: State, kind: u8, n: usize) -> Next {
+fn read_step(
+    input: &mut impl Read,
+    out: &impl Print,
+    state: State,
+    kind: u8,
+    n: usize,
+) -> io::Result<Next> {
     if BODY < n {
-        return bad(state);
+        return Ok(bad(state));
     }
     let mut body = body_space();
-    let read = io::read_full(STDIN_FILENO, &mut body[..n]);
+    let read = fill::read_full(input, &mut body[..n]);
     if read < n {
-        return bad(state);
+        return Ok(bad(state));
     }
-    step(state, kind, &body[..n])
+    step(out, state, kind, &body[..n])
 }
 
 // One step from standard input. The input's end before a step begins is no step, and nothing is said.
-fn turn(state: State) -> Next {
+fn turn(input: &mut impl Read, out: &impl Print, state: State) -> io::Result<Next> {
     let mut opening = [0u8; 3];
-    let got = io::read_full(STDIN_FILENO, &mut opening);
+    let got = fill::read_full(input, &mut opening);
     if got == 0 {
-        return bad(state);
+        return Ok(bad(state));
     }
     if got < 3 {
-        say(b"bad step\n");
-        return bad(state);
+        out.write_all(b"bad step\n")?;
+        return Ok(bad(state));
     }
-    let next = read_step(state, opening[0], scan::word_at(&opening, 1) as usize);
+    let next = read_step(
+        input,
+        out,
+        state,
+        opening[0],
+        scan::word_at(&opening, 1) as usize,
+    )?;
     if !next.good {
-        say(b"bad step\n");
+        out.write_all(b"bad step\n")?;
     }
-    next
+    Ok(next)
 }
 
-fn main() {
+fn main(rt: HostRuntime) -> io::Result<()> {
     let mut state = State {
         control: 0,
         table: table::empty(),
     };
-    // A proved loop has to end, and nothing says that a script does: it counts down from a number that no script uses up.
-    let mut turns = u64::MAX;
-    while 0 < turns {
-        let next = turn(state);
+    let mut input = rt.stdin();
+    // A proved loop has to end, and nothing says that a script does: it counts up to a number that no script comes to.
+    for _ in 0..u64::MAX {
+        let next = turn(&mut input, &rt, state)?;
         if !next.good {
-            return;
+            return Ok(());
         }
         let left = next.state;
         state = left;
-        turns -= 1;
     }
+    Ok(())
 }

@@ -1,80 +1,72 @@
 #![tactic(auto)]
 // What the programs that compare two sheets print (document 02, No. 4): a line for each difference, or `refused N`. What is printed is in no
 // contract; what is answered is.
-ghost use Rattle.std.specs.Prelude.{◌≡◌};
+ghost use Rattle.std.specs.Prelude.{◌≡◌, IfOk};
 ghost use Rattle.differences.specs.Lines.{pair_number};
 
 use differences::Difference;
-use libc::STDOUT_FILENO;
-
-fn say(text: &[u8]) {
-    io::write_all(STDOUT_FILENO, text);
-}
+use std::io;
 
 // A space, then a number.
-fn say_next(n: u64) {
-    say(b" ");
-    io::print_decimal(STDOUT_FILENO, n);
+fn say_next(out: &impl Print, n: u64) -> io::Result<()> {
+    print!(out; " {n}")
 }
 
 // A word, a space and an ID as two capital hex digits.
-fn say_id(word: &[u8], id: u8) {
+fn say_id(out: &impl Print, word: &[u8], id: u8) -> io::Result<()> {
     let pair = text::hex_pair(id);
-    say(word);
-    say(b" ");
-    say(&pair);
+    out.write_all(word)?;
+    out.write_all(b" ")?;
+    out.write_all(&pair)
 }
 
 // The numbers of a mask's bits that are set, each behind a space.
-fn say_bits(mask: u32) {
+fn say_bits(out: &impl Print, mask: u32) -> io::Result<()> {
     let mut left = mask;
-    let mut n: u64 = 0;
-    while n < 32 {
+    for n in 0..32u64 {
         if left % 2 == 1 {
-            say_next(n);
+            say_next(out, n)?;
         }
         left = left / 2;
-        n += 1;
     }
+    Ok(())
 }
 
-fn say_difference(difference: Difference) {
+fn say_difference(out: &impl Print, difference: Difference) -> io::Result<()> {
     match difference {
-        Difference::None => return,
-        Difference::LeftOnly(id) => say_id(b"left", id),
-        Difference::RightOnly(id) => say_id(b"right", id),
+        Difference::None => return Ok(()),
+        Difference::LeftOnly(id) => say_id(out, b"left", id)?,
+        Difference::RightOnly(id) => say_id(out, b"right", id)?,
         Difference::Changed(id, mask) => {
-            say_id(b"changed", id);
-            say_bits(mask);
+            say_id(out, b"changed", id)?;
+            say_bits(out, mask)?;
         }
     }
-    say(b"\n");
+    out.write_all(b"\n")
 }
 
-fn say_differences(left: &[u8], right: &[u8]) {
+fn say_differences(out: &impl Print, left: &[u8], right: &[u8]) -> io::Result<()> {
     let mut above: u8 = 0;
     loop {
         let difference = differences::next(left, right, above);
         let id = differences::id_of(difference);
         if id == 0 {
-            return;
+            return Ok(());
         }
-        say_difference(difference);
+        say_difference(out, difference)?;
         above = id;
     }
 }
 
 // Prints the differences of two sheets, or their refusal, whose number it answers.
-pub fn compare(left: &[u8], right: &[u8]) -> u8
-    ensures { result ≡ pair_number left.now right.now }
+pub fn compare(out: &impl Print, left: &[u8], right: &[u8]) -> io::Result<u8>
+    ensures { IfOk result (λ number. number ≡ pair_number left.now right.now) }
 {
     let number = differences::check(left, right);
     if number == 0 {
-        say_differences(left, right);
+        say_differences(out, left, right)?;
     } else {
-        say(b"refused");
-        say_next(number as u64);
-        say(b"\n");
+        println!(out; "refused {number}")?;
     }
-    number
+    Ok(number)
 }

@@ -4,7 +4,8 @@
 // the reader refuses, or `refused N`; then the lent bytes as `lend` shows them. A step that is none prints `bad step`, and the program ends.
 ghost use Rattle.std.specs.Prelude.{◌≡◌, length};
 
-use libc::{STDIN_FILENO, STDOUT_FILENO};
+use std::io;
+use std::io::Read;
 use upstream::Listing;
 
 // The most bytes of a configuration that a step may give.
@@ -26,91 +27,95 @@ fn body_space() -> [u8; BODY]
     [0u8; BODY]
 }
 
-fn say(text: &[u8]) {
-    io::write_all(STDOUT_FILENO, text);
-}
-
 // A space, then a number.
-fn say_next(n: u64) {
-    say(b" ");
-    io::print_decimal(STDOUT_FILENO, n);
+fn say_next(out: &impl Print, n: u64) -> io::Result<()> {
+    print!(out; " {n}")
 }
 
 // The reader's refusals have a place, those behind them none.
-fn say_answer(listing: Listing) {
+fn say_answer(out: &impl Print, listing: Listing) -> io::Result<()> {
     if listing.number == 0 {
-        say(b"routes");
-        say_next(listing.routes as u64);
-        say_next(listing.written as u64);
+        out.write_all(b"routes")?;
+        say_next(out, listing.routes as u64)?;
+        say_next(out, listing.written as u64)?;
     } else {
-        say(b"refused");
-        say_next(listing.number as u64);
+        out.write_all(b"refused")?;
+        say_next(out, listing.number as u64)?;
         if listing.number < 45 {
-            say(b" at");
-            say_next(listing.place as u64);
+            out.write_all(b" at")?;
+            say_next(out, listing.place as u64)?;
         }
     }
-    say(b"\n");
+    out.write_all(b"\n")
 }
 
-fn list_into(config: &[u8], id: u8, list: &mut [u8]) {
+fn list_into(out: &impl Print, config: &[u8], id: u8, list: &mut [u8]) -> io::Result<()> {
     let listing = routing::list_routes(config, id, list);
-    say_answer(listing);
-    marks::show(list);
+    say_answer(out, listing)?;
+    marks::show(out, list)?;
+    Ok(())
 }
 
 // Lists the routes of a configuration with m bytes lent. Whether it was a step at all.
-fn step(id: u8, m: usize, config: &[u8]) -> bool {
+fn step(out: &impl Print, id: u8, m: usize, config: &[u8]) -> io::Result<bool> {
     if LIST < m {
-        return false;
+        return Ok(false);
     }
     let mut list = list_space();
-    list_into(config, id, &mut list[..m]);
-    true
+    list_into(out, config, id, &mut list[..m])?;
+    Ok(true)
 }
 
 // The step whose configuration is the next n bytes of standard input.
-fn read_step(id: u8, m: usize, n: usize) -> bool {
+fn read_step(
+    input: &mut impl Read,
+    out: &impl Print,
+    id: u8,
+    m: usize,
+    n: usize,
+) -> io::Result<bool> {
     if BODY < n {
-        return false;
+        return Ok(false);
     }
     let mut body = body_space();
-    let read = io::read_full(STDIN_FILENO, &mut body[..n]);
+    let read = fill::read_full(input, &mut body[..n]);
     if read < n {
-        return false;
+        return Ok(false);
     }
-    step(id, m, &body[..n])
+    step(out, id, m, &body[..n])
 }
 
 // One step from standard input: whether another may follow. The input's end before a step begins is no step, and nothing is said.
-fn turn() -> bool {
+fn turn(input: &mut impl Read, out: &impl Print) -> io::Result<bool> {
     let mut opening = [0u8; 5];
-    let got = io::read_full(STDIN_FILENO, &mut opening);
+    let got = fill::read_full(input, &mut opening);
     if got == 0 {
-        return false;
+        return Ok(false);
     }
     if got < 5 {
-        say(b"bad step\n");
-        return false;
+        out.write_all(b"bad step\n")?;
+        return Ok(false);
     }
     let good = read_step(
+        input,
+        out,
         opening[0],
         scan::word_at(&opening, 1) as usize,
         scan::word_at(&opening, 3) as usize,
-    );
+    )?;
     if !good {
-        say(b"bad step\n");
+        out.write_all(b"bad step\n")?;
     }
-    good
+    Ok(good)
 }
 
-fn main() {
-    // A proved loop has to end, and nothing says that the steps do: it counts down from a number that no input uses up.
-    let mut turns = u64::MAX;
-    while 0 < turns {
-        if !turn() {
-            return;
+fn main(rt: HostRuntime) -> io::Result<()> {
+    let mut input = rt.stdin();
+    // A proved loop has to end, and nothing says that the steps do: it counts up to a number that no input comes to.
+    for _ in 0..u64::MAX {
+        if !turn(&mut input, &rt)? {
+            return Ok(());
         }
-        turns -= 1;
     }
+    Ok(())
 }

@@ -1,9 +1,11 @@
 #![tactic(auto)]
 // The program `sheet3` (document 02, No. 12), for a person: reads a configuration of either edition from standard input and its cluster buffer from the file
 // `clusters` in the folder that it runs in, lends 1,024 bytes and prints as `sheet` does. A file that cannot be read, or not whole, is `cannot read clusters`, and nothing else.
-ghost use Rattle.io.specs.Counts.{IsPrefixLen};
+ghost use Rattle.std.specs.Prelude.{◌≤◌, length};
 
-use libc::{STDIN_FILENO, STDOUT_FILENO};
+use std::io::Read;
+use std::rt::Files;
+use std::{fs, io};
 use topology::Reading;
 
 // One byte more than a configuration may have: a longer input reads as that long, and is refused for it.
@@ -22,84 +24,67 @@ struct Content {
     count: usize,
 }
 
-fn say(text: &[u8]) {
-    io::write_all(STDOUT_FILENO, text);
-}
-
-// Whether nothing is left to read. Where a read before this one failed, this one fails too, or brings what was left.
-fn is_over(file: i32) -> bool {
-    let mut more = [0u8; 1];
-    libc::read(file, &mut more) == 0
-}
-
 // The bytes of the file; good where there was room for all of them.
-fn read_file(room: &mut [u8]) -> Content
-    ensures { IsPrefixLen result.count room.new }
+fn read_file(files: &impl Files, room: &mut [u8]) -> Content
+    ensures { result.count ≤ length room.new }
 {
-    let file = os::open_read(b"clusters");
-    if file < 0 {
+    let Ok(mut file) = fs::open(files, "clusters") else {
         return Content {
             good: false,
             count: 0,
         };
-    }
-    let count = io::read_full(file, room);
-    let good = is_over(file);
-    libc::close(file);
+    };
+    let count = fill::read_full(&mut file, room);
+    let good = fill::is_over(&mut file);
     Content { good, count }
 }
 
-fn say_refusal(reading: Reading) {
-    say(b"refused ");
-    io::print_decimal(STDOUT_FILENO, reading.number as u64);
-    say(b" at ");
-    io::print_decimal(STDOUT_FILENO, reading.place as u64);
-    say(b"\n");
+fn say_refusal(out: &impl Print, reading: Reading) -> io::Result<()> {
+    let number = reading.number;
+    let place = reading.place;
+    println!(out; "refused {number} at {place}")
 }
 
 // The sheet's byte at an offset: two capital hex digits, and what stands behind them in its line.
-fn say_byte(b: u8, at: usize) {
+fn say_byte(out: &impl Print, b: u8, at: usize) -> io::Result<()> {
     let pair = text::hex_pair(b);
-    say(&pair);
+    out.write_all(&pair)?;
     if at % records::RECORD == records::RECORD - 1 {
-        say(b"\n");
+        out.write_all(b"\n")
     } else {
-        say(b" ");
+        out.write_all(b" ")
     }
 }
 
 // The records of so many entities, a line each.
-fn say_records(sheet: [u8; SHEET], entities: usize) {
-    let mut i: usize = 0;
-    while i < SHEET {
+fn say_records(out: &impl Print, sheet: [u8; SHEET], entities: usize) -> io::Result<()> {
+    for i in 0..SHEET {
         if i / records::RECORD == entities {
-            return;
+            return Ok(());
         }
-        say_byte(sheet[i], i);
-        i += 1;
+        say_byte(out, sheet[i], i)?;
     }
+    Ok(())
 }
 
 // Reads the configuration on standard input with this cluster buffer.
-fn read_input(clusters: &[u8]) {
+fn read_input(input: &mut impl Read, out: &impl Print, clusters: &[u8]) -> io::Result<()> {
     let mut config = [0u8; ROOM];
-    let n = io::read_full(STDIN_FILENO, &mut config);
+    let n = fill::read_full(input, &mut config);
     let mut sheet = [0u8; SHEET];
     let reading = protocol::read(&config[..n], clusters, &mut sheet);
     if reading.number != 0 {
-        say_refusal(reading);
-        return;
+        return say_refusal(out, reading);
     }
-    say_records(sheet, reading.entities);
+    say_records(out, sheet, reading.entities)
 }
 
-fn main() {
+fn main(rt: HostRuntime) -> io::Result<()> {
     let mut clusters = [0u8; CLUSTERS];
-    let content = read_file(&mut clusters);
+    let content = read_file(&rt, &mut clusters);
     if !content.good {
-        say(b"cannot read clusters\n");
-        return;
+        return rt.write_all(b"cannot read clusters\n");
     }
     let n = content.count;
-    read_input(&clusters[..n]);
+    read_input(&mut rt.stdin(), &rt, &clusters[..n])
 }

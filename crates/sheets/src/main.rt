@@ -6,8 +6,9 @@
 ghost use Rattle.std.specs.Prelude.{◌≡◌, length};
 
 use legal::Form;
-use libc::{STDIN_FILENO, STDOUT_FILENO};
 use mover::Moved;
+use std::io;
+use std::io::Read;
 
 // The most bytes of a step's body.
 const BODY: usize = 8192;
@@ -28,102 +29,98 @@ fn body_space() -> [u8; BODY]
     [0u8; BODY]
 }
 
-fn say(text: &[u8]) {
-    io::write_all(STDOUT_FILENO, text);
-}
-
 // Compares the two sheets of a body. Whether it was a step at all.
-fn compare(body: &[u8]) -> bool {
+fn compare(out: &impl Print, body: &[u8]) -> io::Result<bool> {
     if body.len() < 2 {
-        return false;
+        return Ok(false);
     }
     let end = 2 + scan::word_at(body, 0) as usize;
     if body.len() < end {
-        return false;
+        return Ok(false);
     }
-    report::compare(&body[2..end], &body[end..]);
-    say(b"end\n");
-    true
+    report::compare(out, &body[2..end], &body[end..])?;
+    out.write_all(b"end\n")?;
+    Ok(true)
 }
 
-fn say_moved(moved: Moved) {
-    if moved.number == 0 {
-        say(b"moved ");
-        io::print_decimal(STDOUT_FILENO, moved.written as u64);
+fn say_moved(out: &impl Print, moved: Moved) -> io::Result<()> {
+    let number = moved.number;
+    let written = moved.written;
+    if number == 0 {
+        println!(out; "moved {written}")
     } else {
-        say(b"refused ");
-        io::print_decimal(STDOUT_FILENO, moved.number as u64);
+        println!(out; "refused {number}")
     }
-    say(b"\n");
 }
 
-fn move_into(form: Form, sheet: &[u8], room: &mut [u8]) {
+fn move_into(out: &impl Print, form: Form, sheet: &[u8], room: &mut [u8]) -> io::Result<()> {
     let moved = mover::move_to(form, sheet, room);
-    say_moved(moved);
-    marks::show(room);
+    say_moved(out, moved)?;
+    marks::show(out, room)?;
+    Ok(())
 }
 
 // Moves a sheet with m bytes lent. Whether it was a step at all.
-fn move_with(form: Form, sheet: &[u8], m: usize) -> bool {
+fn move_with(out: &impl Print, form: Form, sheet: &[u8], m: usize) -> io::Result<bool> {
     if ROOM < m {
-        return false;
+        return Ok(false);
     }
     let mut room = room_space();
-    move_into(form, sheet, &mut room[..m]);
-    true
+    move_into(out, form, sheet, &mut room[..m])?;
+    Ok(true)
 }
 
 // Moves the sheet of a body into as much room as it asks for. Whether it was a step at all.
-fn move_sheet(form: Form, body: &[u8]) -> bool {
+fn move_sheet(out: &impl Print, form: Form, body: &[u8]) -> io::Result<bool> {
     if body.len() < 2 {
-        return false;
+        return Ok(false);
     }
-    move_with(form, &body[2..], scan::word_at(body, 0) as usize)
+    move_with(out, form, &body[2..], scan::word_at(body, 0) as usize)
 }
 
-fn step(kind: u8, body: &[u8]) -> bool {
+fn step(out: &impl Print, kind: u8, body: &[u8]) -> io::Result<bool> {
     match kind {
-        1 => compare(body),
-        2 => move_sheet(Form::New, body),
-        3 => move_sheet(Form::Old, body),
-        _ => false,
+        1 => compare(out, body),
+        2 => move_sheet(out, Form::New, body),
+        3 => move_sheet(out, Form::Old, body),
+        _ => Ok(false),
     }
 }
 
 // The step of a kind whose body is the next n bytes of standard input.
-fn read_step(kind: u8, n: usize) -> bool {
+fn read_step(input: &mut impl Read, out: &impl Print, kind: u8, n: usize) -> io::Result<bool> {
     if BODY < n {
-        return false;
+        return Ok(false);
     }
     let mut body = body_space();
-    let read = io::read_full(STDIN_FILENO, &mut body[..n]);
+    let read = fill::read_full(input, &mut body[..n]);
     if read < n {
-        return false;
+        return Ok(false);
     }
-    step(kind, &body[..n])
+    step(out, kind, &body[..n])
 }
 
 // One step from standard input: whether another may follow. The input's end before a step begins is no step, and nothing is said.
-fn turn() -> bool {
+fn turn(input: &mut impl Read, out: &impl Print) -> io::Result<bool> {
     let mut opening = [0u8; 3];
-    let got = io::read_full(STDIN_FILENO, &mut opening);
+    let got = fill::read_full(input, &mut opening);
     if got == 0 {
-        return false;
+        return Ok(false);
     }
-    let good = got == 3 && read_step(opening[0], scan::word_at(&opening, 1) as usize);
+    let good = got == 3 && read_step(input, out, opening[0], scan::word_at(&opening, 1) as usize)?;
     if !good {
-        say(b"bad step\n");
+        out.write_all(b"bad step\n")?;
     }
-    good
+    Ok(good)
 }
 
-fn main() {
-    // A proved loop has to end, and nothing says that a script does: it counts down from a number that no script uses up.
-    let mut turns = u64::MAX;
-    while 0 < turns {
-        if !turn() {
-            return;
+fn main(rt: HostRuntime) -> io::Result<()> {
+    let mut input = rt.stdin();
+    // A proved loop has to end, and nothing says that a script does: it counts up to a number that no script comes to.
+    for _ in 0..u64::MAX {
+        if !turn(&mut input, &rt)? {
+            return Ok(());
         }
-        turns -= 1;
     }
+    Ok(())
 }

@@ -4,6 +4,7 @@ ghost use Rattle.std.specs.Prelude.{◌≡◌, ◌<◌};
 ghost use Rattle.text.specs.Hex.{digit_of, hex_pair};
 
 // A capital hex digit.
+#[tactic(auto, unfolding(crate::specs::Hex::digit_of))]
 fn digit(n: u8) -> u8
     requires { n < 16 }
     ensures { result ≡ digit_of n }
@@ -15,6 +16,7 @@ fn digit(n: u8) -> u8
 }
 
 // A byte as two capital hex digits.
+#[tactic(auto, unfolding(crate::specs::Hex::hex_pair))]
 pub fn hex_pair(b: u8) -> [u8; 2]
     ensures { result ≡ hex_pair b }
 {

@@ -7,7 +7,8 @@
 ghost use Rattle.std.specs.Prelude.{◌≡◌, ◌≤◌, length};
 
 use fields::{Item, Numbers, Span};
-use libc::{STDIN_FILENO, STDOUT_FILENO};
+use std::io;
+use std::io::Read;
 use writing::{EntityList, Wrote};
 
 // The most bytes of room that a step may lend.
@@ -65,30 +66,20 @@ fn entity_space() -> [u8; SPACE]
     [0u8; SPACE]
 }
 
-fn say(text: &[u8]) {
-    io::write_all(STDOUT_FILENO, text);
-}
-
-fn say_number(n: usize) {
-    io::print_decimal(STDOUT_FILENO, n as u64);
-}
-
-fn say_answer(answer: Wrote) {
-    if answer.number == 0 {
-        say(b"wrote ");
-        say_number(answer.written);
+fn say_answer(out: &impl Print, answer: Wrote) -> io::Result<()> {
+    let number = answer.number;
+    let written = answer.written;
+    let place = answer.place;
+    if number == 0 {
+        println!(out; "wrote {written}")
     } else {
-        say(b"refused ");
-        say_number(answer.number as usize);
-        say(b" at ");
-        say_number(answer.place);
+        println!(out; "refused {number} at {place}")
     }
-    say(b"\n");
 }
 
 // Fills a buffer from standard input: whether there were bytes enough.
-fn read_into(buffer: &mut [u8]) -> bool {
-    io::read_full(STDIN_FILENO, buffer) == buffer.len()
+fn read_into(input: &mut impl Read, buffer: &mut [u8]) -> bool {
+    fill::read_full(input, buffer) == buffer.len()
 }
 
 // A Selector's fields, as those of a printed Selector; no entity where they are none.
@@ -140,11 +131,11 @@ fn entity_at(d: &mut [u8], at: usize) -> Item {
 }
 
 // Reads an entity into a slot, and answers how many bytes it has there; 0 where it is none.
-fn read_entity(slot: &mut [u8]) -> usize
+fn read_entity(input: &mut impl Read, slot: &mut [u8]) -> usize
     requires { length slot.old ≡ 602 }
     ensures { result ≤ 602 }
 {
-    if !read_into(&mut slot[..2]) {
+    if !read_into(input, &mut slot[..2]) {
         return 0;
     }
     let q = scan::word_at(slot, 0) as usize;
@@ -152,34 +143,47 @@ fn read_entity(slot: &mut [u8]) -> usize
         return 0;
     }
     let end = 2 + q;
-    if !read_into(&mut slot[2..end]) {
+    if !read_into(input, &mut slot[2..end]) {
         return 0;
     }
     end
 }
 
 // Writes a list into the bytes lent, and shows them.
-fn write_into(list: EntityList, varying: &[u8], numbers: &[u8], room: &mut [u8]) {
+fn write_into(
+    out: &impl Print,
+    list: EntityList,
+    varying: &[u8],
+    numbers: &[u8],
+    room: &mut [u8],
+) -> io::Result<()> {
     let answer = writing::write(list, varying, numbers, room);
-    say_answer(answer);
-    marks::show(room);
+    say_answer(out, answer)?;
+    marks::show(out, room)?;
+    Ok(())
 }
 
-fn write_with(list: EntityList, varying: &[u8], numbers: &[u8], m: usize)
+fn write_with(
+    out: &impl Print,
+    list: EntityList,
+    varying: &[u8],
+    numbers: &[u8],
+    m: usize,
+) -> io::Result<()>
     requires { m ≤ 9000 }
 {
     let mut room = room_space();
-    write_into(list, varying, numbers, &mut room[..m]);
+    write_into(out, list, varying, numbers, &mut room[..m])
 }
 
 // Reads the next entity into the slot of an index. Whether it was one at all.
-fn read_slot(bytes: &mut [u8], index: usize) -> Entered
+fn read_slot(input: &mut impl Read, bytes: &mut [u8], index: usize) -> Entered
     requires bytes_len { length bytes.old ≡ 19866 }
     requires index_bound { index ≤ 32 }
 {
     let at = index * SLOT;
     let end = at + SLOT;
-    let n = read_entity(&mut bytes[at..end]);
+    let n = read_entity(input, &mut bytes[at..end]);
     let stop = at + n;
     let item = entity_at(&mut bytes[at..stop], at);
     let good = n != 0;
@@ -187,14 +191,13 @@ fn read_slot(bytes: &mut [u8], index: usize) -> Entered
 }
 
 // Reads so many entities: the first 32 are kept.
-fn read_list(count: usize, bytes: &mut [u8]) -> Heard
+fn read_list(input: &mut impl Read, count: usize, bytes: &mut [u8]) -> Heard
     requires { length bytes.old ≡ 19866 }
 {
     let spare = fields::blank();
     let mut items = [spare; 32];
-    let mut i: usize = 0;
-    while i < count {
-        let entered = read_slot(bytes, slot_of(i));
+    for i in 0..count {
+        let entered = read_slot(input, bytes, slot_of(i));
         if !entered.good {
             let list = EntityList { count, items };
             return Heard { good: false, list };
@@ -203,71 +206,82 @@ fn read_list(count: usize, bytes: &mut [u8]) -> Heard
         if i < entities::MOST_ENTITIES {
             items[i] = item;
         }
-        i += 1;
     }
     let list = EntityList { count, items };
     Heard { good: true, list }
 }
 
 // Reads so many entities and writes them. Whether it was a step at all.
-fn write_list(count: usize, numbers: &[u8], m: usize) -> bool
+fn write_list(
+    input: &mut impl Read,
+    out: &impl Print,
+    count: usize,
+    numbers: &[u8],
+    m: usize,
+) -> io::Result<bool>
     requires { m ≤ 9000 }
 {
     let mut bytes = entity_space();
-    let heard = read_list(count, &mut bytes[..SPACE]);
+    let heard = read_list(input, count, &mut bytes[..SPACE]);
     if !heard.good {
-        return false;
+        return Ok(false);
     }
     let list = heard.list;
-    write_with(list, &bytes[..SPACE], numbers, m);
-    true
+    write_with(out, list, &bytes[..SPACE], numbers, m)?;
+    Ok(true)
 }
 
 // A step with m bytes of room. Whether it was one at all.
-fn read_step(m: usize) -> bool {
+fn read_step(input: &mut impl Read, out: &impl Print, m: usize) -> io::Result<bool> {
     if ROOM < m {
-        return false;
+        return Ok(false);
     }
     let mut counted = [0u8; 2];
-    if !read_into(&mut counted) {
-        return false;
+    if !read_into(input, &mut counted) {
+        return Ok(false);
     }
     let k = scan::word_at(&counted, 0) as usize;
     if MOST < k {
-        return false;
+        return Ok(false);
     }
     let mut numbers = number_space();
-    if !read_into(&mut numbers[..k]) {
-        return false;
+    if !read_into(input, &mut numbers[..k]) {
+        return Ok(false);
     }
     let mut count = [0u8; 1];
-    if !read_into(&mut count) {
-        return false;
+    if !read_into(input, &mut count) {
+        return Ok(false);
     }
-    write_list(scan::byte_at(&count, 0) as usize, &numbers[..k], m)
+    write_list(
+        input,
+        out,
+        scan::byte_at(&count, 0) as usize,
+        &numbers[..k],
+        m,
+    )
 }
 
 // One step from standard input: whether another may follow. The input's end before a step begins is no step, and nothing is said.
-fn turn() -> bool {
+fn turn(input: &mut impl Read, out: &impl Print) -> io::Result<bool> {
     let mut opening = [0u8; 2];
-    let got = io::read_full(STDIN_FILENO, &mut opening);
+    let got = fill::read_full(input, &mut opening);
     if got == 0 {
-        return false;
+        return Ok(false);
     }
-    let good = got == 2 && read_step(scan::word_at(&opening, 0) as usize);
+    let good = got == 2 && read_step(input, out, scan::word_at(&opening, 0) as usize)?;
     if !good {
-        say(b"bad step\n");
+        out.write_all(b"bad step\n")?;
     }
-    good
+    Ok(good)
 }
 
-fn main() {
-    // A proved loop has to end, and nothing says that a script does: it counts down from a number that no script uses up.
-    let mut turns = u64::MAX;
-    while 0 < turns {
-        if !turn() {
-            return;
+fn main(rt: HostRuntime) -> io::Result<()> {
+    let mut input = rt.stdin();
+    // A proved loop has to end, and nothing says that a script does: it counts up to a number that no script comes to.
+    for _ in 0..u64::MAX {
+        if !turn(&mut input, &rt)? {
+            return Ok(());
         }
-        turns -= 1;
     }
+    Ok(())
 }
