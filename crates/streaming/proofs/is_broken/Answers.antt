@@ -10,8 +10,7 @@ use Rattle.search.specs.Want.{is_audio}
 use Rattle.groups.specs.Reading.{strays_from}
 use Rattle.terminals.specs.declared.Bearer.{Bearer}
 use Rattle.streaming.specs.Tests.{described_at, broken_at}
-use Rattle.streaming.proofs.is_broken.Statement.{statement}
-use Rattle.streaming.proofs.is_broken.Tie as tie
+use Rattle.streaming.proofs.is_broken.Goals as goal
 
 module _ (find : ℕ → Bearer) (s i : List ℕ) (from : ℕ) (a : Bool) (e : a ≡ is_audio 2 i) where
   no_stream : not a ≡ true → false ≡ broken_at find s i from
@@ -29,35 +28,11 @@ module _ (find : ℕ → Bearer) (s i : List ℕ) (from : ℕ) (a : Bool) (e : a
 
 ruleset laws = (no_stream, by_strays, by_described, rules)
 
-is_audio_requires : tie.Need-is-audio-requires
-is_audio_requires c κs = search laws
+pub returns-then-not-is_audio : goal.returns-then-not-is_audio
+returns-then-not-is_audio c = search laws
 
-returns : tie.Need-returns
+pub returns-then-byte_at-eq0 : goal.returns-then-byte_at-eq0
+returns-then-byte_at-eq0 c = search laws
+
+pub returns : goal.returns
 returns c = search laws
-
-byte_at_requires : tie.Need-byte-at-requires
-byte_at_requires c κs = search laws
-
-strays_from_requires : tie.Need-strays-from-requires
-strays_from_requires c κs = search laws
-
-returns_2 : tie.Need-returns-2
-returns_2 c = search laws
-
-described_at_requires : tie.Need-described-at-requires
-described_at_requires c κs = search laws
-
-returns_3 : tie.Need-returns-3
-returns_3 c = search laws
-
-pub is_broken_spec : {M : Type 1} → statement M
-is_broken_spec =
-    tie.close
-    (tie.spec
-    is_audio_requires
-    returns
-    byte_at_requires
-    strays_from_requires
-    returns_2
-    described_at_requires
-    returns_3)

@@ -13,8 +13,7 @@ use Rattle.terminals.specs.declared.Bearer.{Bearer}
 use Rattle.terminals.specs.declared.Bearer.TheVariants as bearer
 use Rattle.terminals.specs.Terminals.{terminal_number, channels_borne}
 use Rattle.streaming.specs.Tests.{bearer_right, described_by}
-use Rattle.streaming.proofs.described_by.Statement.{statement}
-use Rattle.streaming.proofs.described_by.Tie as tie
+use Rattle.streaming.proofs.described_by.Goals as goal
 
 module _ (find : ℕ → Bearer) (g f : List ℕ) (a : Bool) (e : a ≡ is_general g) where
   no_general : not a ≡ true → false ≡ described_by find g f
@@ -43,51 +42,14 @@ module _ (find : ℕ → Bearer) (g f : List ℕ) (a : Bool) (e : a ≡ is_gener
 
 ruleset laws = (no_general, no_terminal, other_kind, by_format, rules)
 
-is_general_requires : tie.Need-is-general-requires
-is_general_requires c κs = search laws
+pub returns-then-not-is_general : goal.returns-then-not-is_general
+returns-then-not-is_general c = search laws
 
-returns : tie.Need-returns
+pub returns-in_default : goal.returns-in_default
+returns-in_default c = search laws
+
+pub returns-then-kind-ne257 : goal.returns-then-kind-ne257
+returns-then-kind-ne257 c = search laws
+
+pub returns : goal.returns
 returns c = search laws
-
-byte_at_requires : tie.Need-byte-at-requires
-byte_at_requires c κs = search laws
-
-bearer_at_requires : tie.Need-bearer-at-requires
-bearer_at_requires c κs = search laws
-
-enum_known_kind : tie.Need-enum-known-kind
-enum_known_kind c = search laws
-
-enum_told : tie.Need-enum-told
-enum_told c = search laws
-
-returns_2 : tie.Need-returns-2
-returns_2 c = search laws
-
-returns_3 : tie.Need-returns-3
-returns_3 c = search laws
-
-word_at_requires : tie.Need-word-at-requires
-word_at_requires c κs = search laws
-
-format_right_requires : tie.Need-format-right-requires
-format_right_requires c κs = search laws
-
-returns_4 : tie.Need-returns-4
-returns_4 c = search laws
-
-pub described_by_spec : {M : Type 1} → statement M
-described_by_spec =
-    tie.close
-    (tie.spec
-    is_general_requires
-    returns
-    byte_at_requires
-    bearer_at_requires
-    enum_known_kind
-    enum_told
-    returns_2
-    returns_3
-    word_at_requires
-    format_right_requires
-    returns_4)
