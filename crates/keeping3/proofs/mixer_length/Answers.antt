@@ -7,8 +7,7 @@ use native.Mathlib.Omega.{arith}
 use mir.Val.{Fits}
 use mir.Syntax.{w64}
 use Rattle.edition3.specs.Third.{mixer_length}
-use Rattle.keeping3.proofs.mixer_length.Statement.{statement}
-use Rattle.keeping3.proofs.mixer_length.Tie as tie
+use Rattle.keeping3.proofs.mixer_length.Goals as goal
 
 module _ (c i : ℕ) (h : c < 256) (few : i ≤ 65025) where
   small : i * c ≤ 65025 * 255
@@ -34,20 +33,5 @@ made p c i = refl
 
 ruleset laws = (product_fits, more_fits, sum_fits, made, rules)
 
-mul_controls : tie.Need-overflow-mul-controls
-mul_controls c = search laws
-
-add_controls : tie.Need-overflow-add-controls
-add_controls c = search laws
-
-add_result : tie.Need-overflow-add-result
-add_result c = search laws
-
-add_result_2 : tie.Need-overflow-add-result-2
-add_result_2 c = search laws
-
-returns : tie.Need-returns
+pub returns : goal.returns
 returns c = search laws
-
-pub mixer_length_spec : {M : Type 1} → statement M
-mixer_length_spec = tie.close (tie.spec mul_controls add_controls add_result add_result_2 returns)

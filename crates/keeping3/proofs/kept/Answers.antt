@@ -19,8 +19,7 @@ use Rattle.edition3.specs.Third.{first_of, channels_in, mixer_length, feature_le
 use Rattle.entities.specs.declared.Node.{Node}
 use Rattle.entities.specs.Run.{sources_of, descriptor_of}
 use Rattle.keeping3.specs.Keeping.{cluster_behind, keeps_by}
-use Rattle.keeping3.proofs.kept.Statement.{statement}
-use Rattle.keeping3.proofs.kept.Tie as tie
+use Rattle.keeping3.proofs.kept.Goals as goal
 
 -- a byte says how many pins there are
 few : (s : List ℕ) (n : Node) → n.pins < 256 → (ids : List ℕ) → ids ≡ sources_of s n → length ids ≤ 255
@@ -71,103 +70,23 @@ module _ (s b : List ℕ) (n : Node) (given d : List ℕ) (p : d ≡ descriptor_
 
 ruleset laws = (few, unknown, input, output, mixer, selector, feature, clock, rules)
 
-descriptor_at_requires : tie.Need-descriptor-at-requires
-descriptor_at_requires c κs = search laws
+pub returns-in-Unknown : goal.returns-in-Unknown
+returns-in-Unknown c = search laws
 
-sources_requires : tie.Need-sources-requires
-sources_requires c κs = search laws
+pub returns-in-Input : goal.returns-in-Input
+returns-in-Input c = search laws
 
-read_requires : tie.Need-read-requires
-read_requires c κs = search laws
+pub returns-in-Output : goal.returns-in-Output
+returns-in-Output c = search laws
 
-enum_told : tie.Need-enum-told
-enum_told c = search laws
+pub returns-in-Mixer : goal.returns-in-Mixer
+returns-in-Mixer c = search laws
 
-enum_known_entity : tie.Need-enum-known-entity
-enum_known_entity c = search laws
+pub returns-in-Selector : goal.returns-in-Selector
+returns-in-Selector c = search laws
 
-cluster_with_requires : tie.Need-cluster-with-requires
-cluster_with_requires c κs = search laws
+pub returns-in-Feature : goal.returns-in-Feature
+returns-in-Feature c = search laws
 
-byte_at_requires : tie.Need-byte-at-requires
-byte_at_requires c κs = search laws
-
-few_requires : tie.Need-few-requires
-few_requires c κs = search laws
-
-enum_told_2 : tie.Need-enum-told-2
-enum_told_2 c = search laws
-
-enum_known_entity_2 : tie.Need-enum-known-entity-2
-enum_known_entity_2 c = search laws
-
-mixer_kept_requires : tie.Need-mixer-kept-requires
-mixer_kept_requires c κs = search laws
-
-enum_told_3 : tie.Need-enum-told-3
-enum_told_3 c = search laws
-
-selector_kept_requires : tie.Need-selector-kept-requires
-selector_kept_requires c κs = search laws
-
-enum_told_4 : tie.Need-enum-told-4
-enum_told_4 c = search laws
-
-first_count_requires : tie.Need-first-count-requires
-first_count_requires c κs = search laws
-
-feature_length_requires : tie.Need-feature-length-requires
-feature_length_requires c κs = search laws
-
-enum_told_5 : tie.Need-enum-told-5
-enum_told_5 c = search laws
-
-returns : tie.Need-returns
-returns c = search laws
-
-returns_2 : tie.Need-returns-2
-returns_2 c = search laws
-
-returns_3 : tie.Need-returns-3
-returns_3 c = search laws
-
-returns_4 : tie.Need-returns-4
-returns_4 c = search laws
-
-returns_5 : tie.Need-returns-5
-returns_5 c = search laws
-
-returns_6 : tie.Need-returns-6
-returns_6 c = search laws
-
-returns_7 : tie.Need-returns-7
-returns_7 c = search laws
-
-pub kept_spec : {M : Type 1} → statement M
-kept_spec =
-    tie.close
-    (tie.spec
-    descriptor_at_requires
-    sources_requires
-    read_requires
-    enum_told
-    enum_known_entity
-    cluster_with_requires
-    byte_at_requires
-    few_requires
-    enum_told_2
-    enum_known_entity_2
-    mixer_kept_requires
-    enum_told_3
-    selector_kept_requires
-    enum_told_4
-    first_count_requires
-    feature_length_requires
-    enum_told_5
-    returns
-    returns_2
-    returns_3
-    returns_4
-    returns_5
-    returns_6
-    returns_7)
+pub returns-in-Clock : goal.returns-in-Clock
+returns-in-Clock c = search laws
