@@ -8,8 +8,7 @@ use Rattle.ground.specs.Pick.{pick}
 use Rattle.table.specs.declared.Control.{Control}
 use Rattle.address.specs.Addressed.{wants_channel}
 use Rattle.address.specs.AddressedLaws.{is_named}
-use Rattle.address.proofs.seated.Statement.{statement}
-use Rattle.address.proofs.seated.Tie as tie
+use Rattle.address.proofs.seated.Goals as goal
 
 -- one law for each way out
 module _ (x p : ℕ) (c : Control) (u ch s : ℕ) where
@@ -33,26 +32,14 @@ module _ (x p : ℕ) (c : Control) (u ch s : ℕ) where
 
 ruleset laws = (other_unit, other_selector, addressed, other_channel, rules)
 
-returns : tie.Need-returns
+pub returns-then-control-unit : goal.returns-then-control-unit
+returns-then-control-unit c = search laws
+
+pub returns-then-control-selector : goal.returns-then-control-selector
+returns-then-control-selector c = search laws
+
+pub returns-then-wants : goal.returns-then-wants
+returns-then-wants c = search laws
+
+pub returns : goal.returns
 returns c = search laws
-
-returns_2 : tie.Need-returns-2
-returns_2 c = search laws
-
-wants_requires : tie.Need-wants-requires
-wants_requires c κs = search rules
-
-add_result : tie.Need-overflow-add-result
-add_result c = search rules
-
-cast_result : tie.Need-overflow-cast-result
-cast_result c = search rules
-
-returns_3 : tie.Need-returns-3
-returns_3 c = search laws
-
-returns_4 : tie.Need-returns-4
-returns_4 c = search laws
-
-pub seated_spec : {M : Type 1} → statement M
-seated_spec = tie.close (tie.spec returns returns_2 wants_requires add_result cast_result returns_3 returns_4)

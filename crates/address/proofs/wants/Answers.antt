@@ -6,8 +6,7 @@ use borrow.Author.Rules.{rules}
 use borrow.Author.Tests.{eq-eqb, ne_eqb}
 use lib.Dec.{eqb}
 use Rattle.address.specs.Addressed.{wants_channel}
-use Rattle.address.proofs.wants.Statement.{statement}
-use Rattle.address.proofs.wants.Tie as tie
+use Rattle.address.proofs.wants.Goals as goal
 
 -- one law for each way out
 module _ (ch s c : ℕ) where
@@ -26,14 +25,11 @@ module _ (ch s c : ℕ) where
 
 ruleset laws = (itself, no_other, every, rules)
 
-returns : tie.Need-returns
+pub returns-then-of-channel : goal.returns-then-of-channel
+returns-then-of-channel c = search laws
+
+pub returns-then-selector-eq0 : goal.returns-then-selector-eq0
+returns-then-selector-eq0 c = search laws
+
+pub returns : goal.returns
 returns c = search laws
-
-returns_2 : tie.Need-returns-2
-returns_2 c = search laws
-
-returns_3 : tie.Need-returns-3
-returns_3 c = search laws
-
-pub wants_spec : {M : Type 1} → statement M
-wants_spec = tie.close (tie.spec returns returns_2 returns_3)

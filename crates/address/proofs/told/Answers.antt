@@ -14,14 +14,9 @@ use Rattle.ground.specs.Lists.{pad, pad_blank, pad_set}
 use Rattle.address.specs.Addressed.{most_addressed, indices_of}
 use Rattle.address.specs.Sought.{missing_by, told_of}
 use Rattle.address.specs.Seats.{seat_of, seated_in}
-use Rattle.address.proofs.told.Statement.{statement}
-use Rattle.address.proofs.told.Tie as tie
-
-record Taking (seats indices : List ℕ) (count c : ℕ) : Type 0 where
-  low : c ≤ most_addressed
-  few : count ≤ c
-  filled : indices ≡ pad 0 most_addressed (seated_in seats c)
-  counted : count ≡ length (seated_in seats c)
+use Rattle.address.proofs.told.Invariants.{Taking}
+use Rattle.address.proofs.told.Goals as goal
+use Rattle.address.proofs.told.Goals.{then-seat-gt0, else-seat-gt0}
 
 start : (seats : List ℕ) → Taking seats (replicate most_addressed 0) 0 0
 unfolding seated_in
@@ -78,55 +73,8 @@ over seats indices count c g h owned n e =
 
 ruleset laws = (start, skip, more, over, rules)
 
-abbrev invariant-loop : tie.invariant-loop
-invariant-loop seats owned indices₀ count₀ of₀ indices count of = Taking seats indices count of
+pub loop-of-init : goal.loop-of-init
+loop-of-init c = search laws
 
-abbrev decreases-loop : tie.decreases-loop
-decreases-loop seats owned indices₀ count₀ of₀ indices count of = most_addressed - of
-
-loop_holds : tie.Need-loop-init invariant-loop decreases-loop
-loop_holds c = search laws
-
-element_copy_out_seat : tie.Need-element-copy-out-seat invariant-loop decreases-loop
-element_copy_out_seat c = search laws
-
-sub_indices : tie.Need-overflow-sub-indices invariant-loop decreases-loop
-sub_indices c = search laws
-
-array_write_indices : tie.Need-array-write-indices invariant-loop decreases-loop
-array_write_indices c = search laws
-
-add_count : tie.Need-overflow-add-count invariant-loop decreases-loop
-add_count c = search laws
-
-add_of : tie.Need-overflow-add-of invariant-loop decreases-loop
-add_of c = search laws
-
-loop_less : tie.Need-loop-smaller invariant-loop decreases-loop
-loop_less c = search laws
-
-loop_again : tie.Need-loop-preserved invariant-loop decreases-loop
-loop_again c = ⊎_elim (λ w. search laws) (λ w. search laws) c.if1.branch
-
-missing_requires : tie.Need-missing-requires invariant-loop decreases-loop
-missing_requires c κs = search laws
-
-returns : tie.Need-returns invariant-loop decreases-loop
-returns c = search laws
-
-pub told_spec : {M : Type 1} → statement M
-told_spec =
-    tie.close
-    (tie.spec
-    invariant-loop
-    decreases-loop
-    loop_holds
-    element_copy_out_seat
-    sub_indices
-    array_write_indices
-    add_count
-    add_of
-    loop_less
-    loop_again
-    missing_requires
-    returns)
+pub loop-of-preserved : goal.loop-of-preserved
+loop-of-preserved c = elim c.if-seat-gt0.branch [ then-seat-gt0 w ↦ search laws | else-seat-gt0 w ↦ search laws ]
