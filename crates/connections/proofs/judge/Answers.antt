@@ -23,8 +23,7 @@ use Rattle.clusters.specs.BreachLaws.{breach13_same}
 use Rattle.sweep.specs.SweepLaws.{clusters_same}
 use Rattle.connections.specs.declared.Connected.{Connected}
 use Rattle.connections.specs.Judgement.{judged, clusters_for, refused_by, connected_in}
-use Rattle.connections.proofs.judge.Statement.{statement}
-use Rattle.connections.proofs.judge.Tie as tie
+use Rattle.connections.proofs.judge.Goals as goal
 
 -- the answer, from what is judged
 module _ (s : List ℕ) (run : Run) where
@@ -82,103 +81,17 @@ module _ (s : List ℕ) (run : Run) (a : Place) (e : a ≡ breach10 run) where
 
 ruleset laws = (ids, sources, ranks, clusters, all_kept, rules)
 
-check_ids_requires : tie.Need-check-ids-requires
-check_ids_requires c κs = search laws
+pub returns-in-At : goal.returns-in-At
+returns-in-At c = search laws
 
-enum_known_ids : tie.Need-enum-known-ids
-enum_known_ids c = search laws
+pub returns-in-At-wrong : goal.returns-in-At-wrong
+returns-in-At-wrong c = search laws
 
-refused_requires : tie.Need-refused-requires
-refused_requires c κs = search laws
+pub returns-in-At-endless : goal.returns-in-At-endless
+returns-in-At-endless c = search laws
 
-returns : tie.Need-returns
+pub returns-in-At-broken : goal.returns-in-At-broken
+returns-in-At-broken c = search laws
+
+pub returns : goal.returns
 returns c = search laws
-
-enum_told : tie.Need-enum-told
-enum_told c = search laws
-
-check_sources_requires : tie.Need-check-sources-requires
-check_sources_requires c κs = search laws
-
-enum_known_wrong : tie.Need-enum-known-wrong
-enum_known_wrong c = search laws
-
-refused_requires_2 : tie.Need-refused-requires-2
-refused_requires_2 c κs = search laws
-
-returns_2 : tie.Need-returns-2
-returns_2 c = search laws
-
-enum_told_2 : tie.Need-enum-told-2
-enum_told_2 c = search laws
-
-order_of_requires : tie.Need-order-of-requires
-order_of_requires c κs = search laws
-
-check_ranks_requires : tie.Need-check-ranks-requires
-check_ranks_requires c κs = search laws
-
-enum_known_endless : tie.Need-enum-known-endless
-enum_known_endless c = search laws
-
-refused_requires_3 : tie.Need-refused-requires-3
-refused_requires_3 c κs = search laws
-
-returns_3 : tie.Need-returns-3
-returns_3 c = search laws
-
-enum_told_3 : tie.Need-enum-told-3
-enum_told_3 c = search laws
-
-sweep_requires : tie.Need-sweep-requires
-sweep_requires c κs = search laws
-
-check_clusters_requires : tie.Need-check-clusters-requires
-check_clusters_requires c κs = search laws
-
-enum_known_broken : tie.Need-enum-known-broken
-enum_known_broken c = search laws
-
-refused_requires_4 : tie.Need-refused-requires-4
-refused_requires_4 c κs = search laws
-
-returns_4 : tie.Need-returns-4
-returns_4 c = search laws
-
-enum_told_4 : tie.Need-enum-told-4
-enum_told_4 c = search laws
-
-by_index_requires : tie.Need-by-index-requires
-by_index_requires c κs = search laws
-
-returns_5 : tie.Need-returns-5
-returns_5 c = search laws
-
-pub judge_spec : {M : Type 1} → statement M
-judge_spec =
-    tie.close
-    (tie.spec
-    check_ids_requires
-    enum_known_ids
-    refused_requires
-    returns
-    enum_told
-    check_sources_requires
-    enum_known_wrong
-    refused_requires_2
-    returns_2
-    enum_told_2
-    order_of_requires
-    check_ranks_requires
-    enum_known_endless
-    refused_requires_3
-    returns_3
-    enum_told_3
-    sweep_requires
-    check_clusters_requires
-    enum_known_broken
-    refused_requires_4
-    returns_4
-    enum_told_4
-    by_index_requires
-    returns_5)

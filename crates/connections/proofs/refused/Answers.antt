@@ -6,8 +6,7 @@ use lib.ListN.{replicate}
 use Rattle.layout.specs.Layout.{no_cluster}
 use Rattle.connections.specs.declared.Connected.{Connected}
 use Rattle.connections.specs.Judgement.{refused_by}
-use Rattle.connections.proofs.refused.Statement.{statement}
-use Rattle.connections.proofs.refused.Tie as tie
+use Rattle.connections.proofs.refused.Goals as goal
 
 empty : (n p : ℕ)
     → ◌≡◌ {A = Connected} (record { refusal = record { number = n; place = p }; clusters = replicate 32 no_cluster }) (refused_by (record { number = n; place = p }))
@@ -16,8 +15,5 @@ empty n p = refl
 
 ruleset laws = (empty, rules)
 
-returns : tie.Need-returns
+pub returns : goal.returns
 returns c = search laws
-
-pub refused_spec : {M : Type 1} → statement M
-refused_spec = tie.close (tie.spec returns)
