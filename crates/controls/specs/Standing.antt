@@ -72,10 +72,11 @@ module _ (cluster : ℕ → Cluster) where
       (λ h. let r = stands_of ds x h in record { one = r.one; among = Memᴰ.tail r.among; has = r.has })
       (Memᴰ.append_cases (entity_controls (entity_of d) d (cluster (own_id d)).channels) m)
 
-  of_stands : {ds : List (List ℕ)} {d : List ℕ} (x : Control) → d ∈ ds → LaidOut d → Carries d (cluster (own_id d)).channels x
+  of_stands : {d : List ℕ} {ds : List (List ℕ)} (x : Control) → d ∈ ds → LaidOut d → Carries d (cluster (own_id d)).channels x
       → x ∈ controls_of ds cluster
   unfolding controls_of
-  of_stands {ds = a ∷ ds} {d} x (Memᴰ.head e) o h =
+  of_stands {ds = []} x m o h = elim m [ ]
+  of_stands {d} {ds = a ∷ ds} x (Memᴰ.head e) o h =
       Memᴰ.append_left {s = entity_controls (entity_of a) a (cluster (own_id a)).channels} (controls_of ds cluster)
       (rw e at (carries d (cluster (own_id d)).channels (told d) o x h))
   of_stands {ds = a ∷ ds} x (Memᴰ.tail m) o h =

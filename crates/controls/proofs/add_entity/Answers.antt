@@ -16,8 +16,7 @@ use Rattle.controls.specs.Controls.{selector_control, entity_controls}
 use Rattle.controls.specs.Growth.{added, grown}
 use Rattle.controls.specs.Told.{Room, room_more}
 use Rattle.controls.specs.Counts.{entity_few}
-use Rattle.controls.proofs.add_entity.Statement.{statement}
-use Rattle.controls.proofs.add_entity.Tie as tie
+use Rattle.controls.proofs.add_entity.Goals as goal
 
 module _ (t : Table) (d : List ℕ) (c : ℕ) (e : Entity) (read : e ≡ entity_of d) where
   by_kind : (k : Entity) → e ≡ k → grown t (entity_controls (entity_of d) d c) ≡ grown t (entity_controls k d c)
@@ -57,71 +56,20 @@ room t r = room_more t 900000 1000000 r (omega arith)
 
 ruleset laws = (at_unknown, at_input, at_output, at_mixer, at_selector, at_feature, few, room, rules)
 
-read_requires : tie.Need-read-requires
-read_requires c κs = search rules
+pub returns-in-Unknown : goal.returns-in-Unknown
+returns-in-Unknown c = search laws
 
-enum_told : tie.Need-enum-told
-enum_told c = search rules
+pub returns-in-Input : goal.returns-in-Input
+returns-in-Input c = search laws
 
-enum_told_2 : tie.Need-enum-told-2
-enum_told_2 c = search rules
+pub returns-in-Output : goal.returns-in-Output
+returns-in-Output c = search laws
 
-enum_told_3 : tie.Need-enum-told-3
-enum_told_3 c = search rules
+pub returns-in-Mixer : goal.returns-in-Mixer
+returns-in-Mixer c = search laws
 
-enum_told_4 : tie.Need-enum-told-4
-enum_told_4 c = search rules
+pub returns-in-Selector : goal.returns-in-Selector
+returns-in-Selector c = search laws
 
-enum_known_entity : tie.Need-enum-known-entity
-enum_known_entity c = search rules
-
-note_of_requires : tie.Need-note-of-requires
-note_of_requires c κs = search rules
-
-add_requires : tie.Need-add-requires
-add_requires c κs = search rules
-
-enum_known_entity_2 : tie.Need-enum-known-entity-2
-enum_known_entity_2 c = search rules
-
-add_unit_requires : tie.Need-add-unit-requires
-add_unit_requires c κs = search rules
-
-returns : tie.Need-returns
-returns c = search laws
-
-returns_2 : tie.Need-returns-2
-returns_2 c = search laws
-
-returns_3 : tie.Need-returns-3
-returns_3 c = search laws
-
-returns_4 : tie.Need-returns-4
-returns_4 c = search laws
-
-returns_5 : tie.Need-returns-5
-returns_5 c = search laws
-
-returns_6 : tie.Need-returns-6
-returns_6 c = search laws
-
-pub add_entity_spec : {M : Type 1} → statement M
-add_entity_spec =
-    tie.close
-    (tie.spec
-    read_requires
-    enum_told
-    enum_told_2
-    enum_told_3
-    enum_told_4
-    enum_known_entity
-    note_of_requires
-    add_requires
-    enum_known_entity_2
-    add_unit_requires
-    returns
-    returns_2
-    returns_3
-    returns_4
-    returns_5
-    returns_6)
+pub returns-in-Feature : goal.returns-in-Feature
+returns-in-Feature c = search laws

@@ -11,8 +11,7 @@ use Rattle.table.specs.declared.Table.{Table}
 use Rattle.masks.specs.Masks.{unit_control, bit_set, bit_carries, bit_controls}
 use Rattle.masks.specs.Notes.{control_from}
 use Rattle.controls.specs.Growth.{added, grown}
-use Rattle.controls.proofs.add_bit.Statement.{statement}
-use Rattle.controls.proofs.add_bit.Tie as tie
+use Rattle.controls.proofs.add_bit.Goals as goal
 
 module _ (t : Table) (m : List ℕ) (u k b : ℕ) where
   carries : (x : Bool) → bit_set m b ≡ x → (f : Bool) → eqb b 5 ≡ f → bit_controls m u k b ≡ pick (not f && x) (unit_control u k (b + 1) ∷ []) []
@@ -34,35 +33,11 @@ module _ (t : Table) (m : List ℕ) (u k b : ℕ) where
 
 ruleset laws = (five, unset, is_set, rules)
 
-returns : tie.Need-returns
+pub returns-then-bit-eq5 : goal.returns-then-bit-eq5
+returns-then-bit-eq5 c = search laws
+
+pub returns-then-not-has_bit : goal.returns-then-not-has_bit
+returns-then-not-has_bit c = search laws
+
+pub returns : goal.returns
 returns c = search laws
-
-has_bit_requires : tie.Need-has-bit-requires
-has_bit_requires c κs = search laws
-
-returns_2 : tie.Need-returns-2
-returns_2 c = search laws
-
-add_note_of : tie.Need-overflow-add-note-of
-add_note_of c = search laws
-
-note_of_requires : tie.Need-note-of-requires
-note_of_requires c κs = search laws
-
-add_requires : tie.Need-add-requires
-add_requires c κs = search laws
-
-returns_3 : tie.Need-returns-3
-returns_3 c = search laws
-
-pub add_bit_spec : {M : Type 1} → statement M
-add_bit_spec =
-    tie.close
-    (tie.spec
-    returns
-    has_bit_requires
-    returns_2
-    add_note_of
-    note_of_requires
-    add_requires
-    returns_3)

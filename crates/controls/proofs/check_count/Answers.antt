@@ -6,8 +6,7 @@ use borrow.Author.Tests.{le-leb, lt-leb}
 use Rattle.ground.specs.declared.Place.TheVariants.{Nowhere, At}
 use Rattle.ground.specs.Pick.{yes, no}
 use Rattle.controls.specs.Controls.{breach15}
-use Rattle.controls.proofs.check_count.Statement.{statement}
-use Rattle.controls.proofs.check_count.Tie as tie
+use Rattle.controls.proofs.check_count.Goals as goal
 
 few : (k p : ℕ) → k ≤ 128 → Nowhere ≡ breach15 k p
 unfolding breach15
@@ -19,11 +18,8 @@ many k p h = sym (no _ _ (lt-leb k 128 h))
 
 ruleset laws = (few, many, rules)
 
-returns : tie.Need-returns
+pub returns-then-table-le-CONTROLS : goal.returns-then-table-le-CONTROLS
+returns-then-table-le-CONTROLS c = search laws
+
+pub returns : goal.returns
 returns c = search laws
-
-returns_2 : tie.Need-returns-2
-returns_2 c = search laws
-
-pub check_count_spec : {M : Type 1} → statement M
-check_count_spec = tie.close (tie.spec returns returns_2)
