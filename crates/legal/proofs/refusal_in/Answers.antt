@@ -15,8 +15,7 @@ use Rattle.legal.specs.declared.Form.{Form}
 use Rattle.legal.specs.Forms.{record_size_of, record_size_most}
 use Rattle.legal.specs.Sheet.{count_by, WrongLengthBy, bad_ids_by, number_by}
 use Rattle.legal.specs.SheetLaws.{reads_length}
-use Rattle.legal.proofs.refusal_in.Statement.{statement}
-use Rattle.legal.proofs.refusal_in.Tie as tie
+use Rattle.legal.proofs.refusal_in.Goals as goal
 
 module _ (f : Form) (s : List ℕ) (k : ℕ) (q : k ≡ record_size_of f) where
   most_fits : Fits w64 (most_entities * k)
@@ -52,43 +51,17 @@ module _ (f : Form) (s : List ℕ) (k : ℕ) (q : k ≡ record_size_of f) where
 
 ruleset laws = (most_fits, counted, too_long, broken, bad_id, accepted, rules)
 
-record_size_requires : tie.Need-record-size-requires
-record_size_requires c κs = search rules
+pub overflow_mul-size : goal.overflow_mul-size
+overflow_mul-size c = search laws
 
-mul_if1 : tie.Need-overflow-mul-if1
-mul_if1 c = search laws
+pub returns-then-size-s : goal.returns-then-size-s
+returns-then-size-s c = search laws
 
-returns : tie.Need-returns
+pub returns-then-rest-ne0 : goal.returns-then-rest-ne0
+returns-then-rest-ne0 c = search laws
+
+pub returns-then-has_bad_id : goal.returns-then-has_bad_id
+returns-then-has_bad_id c = search laws
+
+pub returns : goal.returns
 returns c = search laws
-
-rest_requires : tie.Need-rest-requires
-rest_requires c κs = search rules
-
-returns_2 : tie.Need-returns-2
-returns_2 c = search laws
-
-count_requires : tie.Need-count-requires
-count_requires c κs = search rules
-
-has_bad_id_requires : tie.Need-has-bad-id-requires
-has_bad_id_requires c κs = search laws
-
-returns_3 : tie.Need-returns-3
-returns_3 c = search laws
-
-returns_4 : tie.Need-returns-4
-returns_4 c = search laws
-
-pub refusal_in_spec : {M : Type 1} → statement M
-refusal_in_spec =
-    tie.close
-    (tie.spec
-    record_size_requires
-    mul_if1
-    returns
-    rest_requires
-    returns_2
-    count_requires
-    has_bad_id_requires
-    returns_3
-    returns_4)

@@ -6,8 +6,7 @@ use Rattle.records.specs.Records.{record_size}
 use Rattle.legal.specs.declared.Form.{Form}
 use Rattle.legal.specs.declared.Form.TheVariants.{Old, New}
 use Rattle.legal.specs.Forms.{old_size, record_size_of}
-use Rattle.legal.proofs.rest.Statement.{statement}
-use Rattle.legal.proofs.rest.Tie as tie
+use Rattle.legal.proofs.rest.Goals as goal
 
 module _ (n : ℕ) (f : Form) where
   old : f ≡ Old → n % old_size ≡ n % record_size_of f
@@ -20,17 +19,8 @@ module _ (n : ℕ) (f : Form) where
 
 ruleset laws = (old, new, rules)
 
-enum_told : tie.Need-enum-told
-enum_told c = search rules
+pub returns-in-Old : goal.returns-in-Old
+returns-in-Old c = search laws
 
-enum_told_2 : tie.Need-enum-told-2
-enum_told_2 c = search rules
-
-returns : tie.Need-returns
-returns c = search laws
-
-returns_2 : tie.Need-returns-2
-returns_2 c = search laws
-
-pub rest_spec : {M : Type 1} → statement M
-rest_spec = tie.close (tie.spec enum_told enum_told_2 returns returns_2)
+pub returns-in-New : goal.returns-in-New
+returns-in-New c = search laws
