@@ -12,8 +12,7 @@ use Rattle.edition3.specs.Third.{said_by}
 use Rattle.entities.specs.declared.Node.{Node}
 use Rattle.entities.specs.Run.{sources_of, descriptor_of}
 use Rattle.sweep3.specs.Sweep.{id_on, first_id, gives_id}
-use Rattle.sweep3.proofs.give_out.Statement.{statement}
-use Rattle.sweep3.proofs.give_out.Tie as tie
+use Rattle.sweep3.proofs.give_out.Goals as goal
 
 module _ (s : List ℕ) (n : Node) (given : List ℕ) (f : Facts) (e : f ≡ said_by (descriptor_of s n)) where
   names : f.declares ≡ true → f.cluster ≡ gives_id s n (id_on given)
@@ -43,43 +42,11 @@ module _ (s : List ℕ) (n : Node) (given : List ℕ) (f : Facts) (e : f ≡ sai
 
 ruleset laws = (names, nothing, first, rules)
 
-facts_at_requires : tie.Need-facts-at-requires
-facts_at_requires c κs = search laws
+pub returns-then-said : goal.returns-then-said
+returns-then-said c = search laws
 
-returns : tie.Need-returns
+pub returns-then-ids-eq0 : goal.returns-then-ids-eq0
+returns-then-ids-eq0 c = search laws
+
+pub returns : goal.returns
 returns c = search laws
-
-sources_requires : tie.Need-sources-requires
-sources_requires c κs = search laws
-
-returns_2 : tie.Need-returns-2
-returns_2 c = search laws
-
-shared_slice_read_index_of : tie.Need-shared-slice-read-index-of
-shared_slice_read_index_of c = search laws
-
-index_of_requires : tie.Need-index-of-requires
-index_of_requires c κs = search laws
-
-mul_result : tie.Need-overflow-mul-result
-mul_result c = search laws
-
-element_copy_out_result : tie.Need-element-copy-out-result
-element_copy_out_result c = search laws
-
-returns_3 : tie.Need-returns-3
-returns_3 c = search laws
-
-pub give_out_spec : {M : Type 1} → statement M
-give_out_spec =
-    tie.close
-    (tie.spec
-    facts_at_requires
-    returns
-    sources_requires
-    returns_2
-    shared_slice_read_index_of
-    index_of_requires
-    mul_result
-    element_copy_out_result
-    returns_3)
