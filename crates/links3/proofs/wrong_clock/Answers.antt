@@ -8,8 +8,7 @@ use lib.ListN.{get_or}
 use borrow.Author.Tests.{not-true, not-false}
 use Rattle.layout3.specs.declared.Facts.{Facts}
 use Rattle.links3.specs.Links.{wrong_clock_by}
-use Rattle.links3.proofs.wrong_clock.Statement.{statement}
-use Rattle.links3.proofs.wrong_clock.Tie as tie
+use Rattle.links3.proofs.wrong_clock.Goals as goal
 
 module _ (g f : Facts) (e : f ≡ g) where
   no_clock : (is_clock : ℕ → Bool) → not f.clocked ≡ true → false ≡ wrong_clock_by is_clock g
@@ -25,22 +24,8 @@ module _ (g f : Facts) (e : f ≡ g) where
 
 ruleset laws = (no_clock, by_mark, rules)
 
-facts_at_requires : tie.Need-facts-at-requires
-facts_at_requires c κs = search laws
+pub returns-then-not-said : goal.returns-then-not-said
+returns-then-not-said c = search laws
 
-returns : tie.Need-returns
+pub returns : goal.returns
 returns c = search laws
-
-index_of_requires : tie.Need-index-of-requires
-index_of_requires c κs = search laws
-
-element_copy_out_result : tie.Need-element-copy-out-result
-element_copy_out_result c = search laws
-
-returns_2 : tie.Need-returns-2
-returns_2 c = search laws
-
-pub wrong_clock_spec : {M : Type 1} → statement M
-wrong_clock_spec =
-    tie.close
-    (tie.spec facts_at_requires returns index_of_requires element_copy_out_result returns_2)

@@ -7,8 +7,7 @@ use Rattle.ground.specs.declared.Place.{Place}
 use Rattle.ground.specs.declared.Place.TheVariants.{Nowhere, At}
 use Rattle.ground.specs.Pick.{yes, no}
 use Rattle.links3.specs.Links.{lesser}
-use Rattle.links3.proofs.lesser_place.Statement.{statement}
-use Rattle.links3.proofs.lesser_place.Tie as tie
+use Rattle.links3.proofs.lesser_place.Goals as goal
 
 module _ (a b : Place) where
   first_nowhere : a ≡ Nowhere → b ≡ lesser a b
@@ -31,39 +30,14 @@ module _ (a b : Place) where
 
 ruleset laws = (first_nowhere, second_nowhere, second, first, rules)
 
-enum_known_a : tie.Need-enum-known-a
-enum_known_a c = search laws
+pub returns-in_default : goal.returns-in_default
+returns-in_default c = search laws
 
-enum_told : tie.Need-enum-told
-enum_told c = search laws
+pub returns-in_default-b : goal.returns-in_default-b
+returns-in_default-b c = search laws
 
-returns : tie.Need-returns
+pub returns-then-q-p : goal.returns-then-q-p
+returns-then-q-p c = search laws
+
+pub returns : goal.returns
 returns c = search laws
-
-enum_known_b : tie.Need-enum-known-b
-enum_known_b c = search laws
-
-enum_told_2 : tie.Need-enum-told-2
-enum_told_2 c = search laws
-
-returns_2 : tie.Need-returns-2
-returns_2 c = search laws
-
-returns_3 : tie.Need-returns-3
-returns_3 c = search laws
-
-returns_4 : tie.Need-returns-4
-returns_4 c = search laws
-
-pub lesser_place_spec : {M : Type 1} → statement M
-lesser_place_spec =
-    tie.close
-    (tie.spec
-    enum_known_a
-    enum_told
-    returns
-    enum_known_b
-    enum_told_2
-    returns_2
-    returns_3
-    returns_4)

@@ -10,8 +10,7 @@ use Rattle.ground.specs.declared.Place.TheVariants.{Nowhere, At}
 use Rattle.layout3.specs.declared.Facts.{Facts}
 use Rattle.buffer.specs.Reading.{found_cluster}
 use Rattle.links3.specs.Links.{is_nowhere, unknown_by}
-use Rattle.links3.proofs.is_unknown.Statement.{statement}
-use Rattle.links3.proofs.is_unknown.Tie as tie
+use Rattle.links3.proofs.is_unknown.Goals as goal
 
 module _ (b : List ℕ) (g f : Facts) (e : f ≡ g) where
   names_none : not f.declares ≡ true → false ≡ unknown_by b g
@@ -35,28 +34,11 @@ module _ (b : List ℕ) (g f : Facts) (e : f ≡ g) where
 
 ruleset laws = (names_none, found, unknown, rules)
 
-facts_at_requires : tie.Need-facts-at-requires
-facts_at_requires c κs = search laws
+pub returns-then-not-said : goal.returns-then-not-said
+returns-then-not-said c = search laws
 
-returns : tie.Need-returns
-returns c = search laws
+pub returns-in-At : goal.returns-in-At
+returns-in-At c = search laws
 
-find_requires : tie.Need-find-requires
-find_requires c κs = search laws
-
-enum_told : tie.Need-enum-told
-enum_told c = search laws
-
-enum_told_2 : tie.Need-enum-told-2
-enum_told_2 c = search laws
-
-returns_2 : tie.Need-returns-2
-returns_2 c = search laws
-
-returns_3 : tie.Need-returns-3
-returns_3 c = search laws
-
-pub is_unknown_spec : {M : Type 1} → statement M
-is_unknown_spec =
-    tie.close
-    (tie.spec facts_at_requires returns find_requires enum_told enum_told_2 returns_2 returns_3)
+pub returns-in-Nowhere : goal.returns-in-Nowhere
+returns-in-Nowhere c = search laws
