@@ -25,8 +25,7 @@ use Rattle.request.specs.Outcome.{answer_of, refusal, deed_answer}
 use Rattle.request.specs.Stored.{outcome_at}
 use Rattle.request.specs.Load.{load_at, load_of}
 use Rattle.request.proofs.Storing.{done_answer, refuses}
-use Rattle.request.proofs.load.Statement.{statement}
-use Rattle.request.proofs.load.Tie as tie
+use Rattle.request.proofs.load.Goals as goal
 
 -- the control of an entry is the one that stands there
 entry_control : (t : Table) (x : Seat) (p : ℕ) (c : Control) → entry_at t x ≡ At p c → c ≡ at t p
@@ -60,51 +59,11 @@ module _ (st : State) (u ch s : ℕ) (range : Range) (w : ℕ) (r : Answer) (a :
 
 ruleset laws = (no_table, missed, there, rules)
 
-sound_requires : tie.Need-sound-requires
-sound_requires c κs = search laws
+pub returns-then-not-sound : goal.returns-then-not-sound
+returns-then-not-sound c = search laws
 
-refused_requires : tie.Need-refused-requires
-refused_requires c κs = search laws
+pub returns-in-Nothing : goal.returns-in-Nothing
+returns-in-Nothing c = search laws
 
-returns : tie.Need-returns
-returns c = search laws
-
-find_requires : tie.Need-find-requires
-find_requires c κs = search laws
-
-enum_told : tie.Need-enum-told
-enum_told c = search laws
-
-refused_requires_2 : tie.Need-refused-requires-2
-refused_requires_2 c κs = search laws
-
-enum_known_index : tie.Need-enum-known-index
-enum_known_index c = search laws
-
-load_on_requires : tie.Need-load-on-requires
-load_on_requires c κs = search laws
-
-done_requires : tie.Need-done-requires
-done_requires c κs = search laws
-
-returns_2 : tie.Need-returns-2
-returns_2 c = search laws
-
-returns_3 : tie.Need-returns-3
-returns_3 c = search laws
-
-pub load_spec : {M : Type 1} → statement M
-load_spec =
-    tie.close
-    (tie.spec
-    sound_requires
-    refused_requires
-    returns
-    find_requires
-    enum_told
-    refused_requires_2
-    enum_known_index
-    load_on_requires
-    done_requires
-    returns_2
-    returns_3)
+pub returns-in-At : goal.returns-in-At
+returns-in-At c = search laws

@@ -28,8 +28,7 @@ use Rattle.request.specs.Request.{barred_by, doing_of, done_at, answer_asked, re
 use Rattle.request.proofs.Searched.{is_unsound, is_sound, is_missed, is_indices, is_there, is_seated}
 use Rattle.request.proofs.Storing.{refuses}
 use Rattle.request.proofs.Passing.{set_writes_none}
-use Rattle.request.proofs.request.Statement.{statement}
-use Rattle.request.proofs.request.Tie as tie
+use Rattle.request.proofs.request.Goals as goal
 
 done_some : (t : Table) (u : ℕ) (ps : List ℕ) (act : List Control → Doing) → (ps ≡ [] → ⊥) → done_at t u ps act ≡ outcome_of t ps act
 unfolding done_at
@@ -106,87 +105,23 @@ module _ (st : State) (s d b : List ℕ) (r : Answer) (k : Asked) (f : k ≡ ask
 
 ruleset laws = (unsound, barred, missed, seated, unknown, setting, getting, rules)
 
-read_requires : tie.Need-read-requires
-read_requires c κs = search rules
+pub returns-then-sought-eq30 : goal.returns-then-sought-eq30
+returns-then-sought-eq30 c = search laws
 
-target_of_requires : tie.Need-target-of-requires
-target_of_requires c κs = search rules
+pub returns-then-barred-ne0 : goal.returns-then-barred-ne0
+returns-then-barred-ne0 c = search laws
 
-seek_requires : tie.Need-seek-requires
-seek_requires c κs = search rules
+pub returns-then-sought-ne0 : goal.returns-then-sought-ne0
+returns-then-sought-ne0 c = search laws
 
-refused_requires : tie.Need-refused-requires
-refused_requires c κs = search rules
+pub set_all-requires : goal.set_all-requires
+set_all-requires c = search laws
 
-returns : tie.Need-returns
-returns c = search laws
+pub get_all-requires : goal.get_all-requires
+get_all-requires c = search laws
 
-bar_requires : tie.Need-bar-requires
-bar_requires c κs = search rules
+pub returns-in-Set : goal.returns-in-Set
+returns-in-Set c = search laws
 
-refused_requires_2 : tie.Need-refused-requires-2
-refused_requires_2 c κs = search rules
-
-returns_2 : tie.Need-returns-2
-returns_2 c = search laws
-
-refused_requires_3 : tie.Need-refused-requires-3
-refused_requires_3 c κs = search rules
-
-returns_3 : tie.Need-returns-3
-returns_3 c = search laws
-
-enum_told : tie.Need-enum-told
-enum_told c = search rules
-
-refused_requires_4 : tie.Need-refused-requires-4
-refused_requires_4 c κs = search rules
-
-enum_known_asked : tie.Need-enum-known-asked
-enum_known_asked c = search rules
-
-set_all_requires : tie.Need-set-all-requires
-set_all_requires c κs = search laws
-
-enum_known_asked_2 : tie.Need-enum-known-asked-2
-enum_known_asked_2 c = search rules
-
-get_all_requires : tie.Need-get-all-requires
-get_all_requires c κs = search laws
-
-returns_4 : tie.Need-returns-4
-returns_4 c = search laws
-
-returns_5 : tie.Need-returns-5
-returns_5 c = search laws
-
-same_length : tie.Need-same-length
-same_length c = search rules
-
-returns_6 : tie.Need-returns-6
-returns_6 c = search laws
-
-pub request_spec : {M : Type 1} → statement M
-request_spec =
-    tie.close
-    (tie.spec
-    read_requires
-    target_of_requires
-    seek_requires
-    refused_requires
-    returns
-    bar_requires
-    refused_requires_2
-    returns_2
-    refused_requires_3
-    returns_3
-    enum_told
-    refused_requires_4
-    enum_known_asked
-    set_all_requires
-    enum_known_asked_2
-    get_all_requires
-    returns_4
-    returns_5
-    same_length
-    returns_6)
+pub returns-in-Get : goal.returns-in-Get
+returns-in-Get c = search laws

@@ -6,8 +6,7 @@ use borrow.Author.Tests.{eq-eqb, ne_eqb}
 use Rattle.ground.specs.Pick.{yes, no}
 use Rattle.setup.specs.declared.Target.{Target}
 use Rattle.request.specs.Request.{elsewhere_by}
-use Rattle.request.proofs.elsewhere.Statement.{statement}
-use Rattle.request.proofs.elsewhere.Tie as tie
+use Rattle.request.proofs.elsewhere.Goals as goal
 
 -- one law for each way out
 module _ (g : Target) (m : ℕ) where
@@ -21,11 +20,8 @@ module _ (g : Target) (m : ℕ) where
 
 ruleset laws = (other, same, rules)
 
-returns : tie.Need-returns
+pub returns-then-target-number : goal.returns-then-target-number
+returns-then-target-number c = search laws
+
+pub returns : goal.returns
 returns c = search laws
-
-returns_2 : tie.Need-returns-2
-returns_2 c = search laws
-
-pub elsewhere_spec : {M : Type 1} → statement M
-elsewhere_spec = tie.close (tie.spec returns returns_2)
