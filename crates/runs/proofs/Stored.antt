@@ -23,7 +23,7 @@ use Rattle.table.specs.Same.{Same, same_self, same_back, same_by}
 use Rattle.table.specs.Placed.{placed_here, placed_elsewhere}
 use Rattle.single.specs.Meaning.{SoundAs}
 use Rattle.sound.specs.Meaning.{Sound}
-use Rattle.request.specs.Stored.{stored_at, Apart, apart}
+use Rattle.request.specs.Stored.{stored_at, Apart, alone, apart}
 
 pub data Pair : List ℕ → List Control → ℕ → Control → Type 0 where
   front : {p : ℕ} {ps : List ℕ} {c : Control} {cs : List Control} → Pair (p ∷ ps) (c ∷ cs) p c
@@ -55,6 +55,7 @@ stored_other t (p ∷ ps) (c ∷ cs) q h =
 pub stored_here : (t : Table) (ps : List ℕ) (cs : List Control) → Apart ps → ((p : ℕ) → p ∈ ps → p < length t.controls) → (q : ℕ) (c : Control)
     → Pair ps cs q c → at (stored_at t ps cs) q ≡ c
 unfolding stored_at
+stored_here t _ cs alone inside q c x5 = elim x5 [ ]
 stored_here t _ _ (apart {p} {ps} n a) inside _ c (front {cs = cs}) =
     stored_other (placed t p c) ps cs p n ∙ placed_here t p (inside p (Memᴰ.head refl)) c
 stored_here t _ _ (apart {p} {ps} n a) inside q e (behind {c = c} {cs = cs} h) =
