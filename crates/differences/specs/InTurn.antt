@@ -56,6 +56,7 @@ module _ {X : Type 0} where
   turn_few t few i (suc k) = go (t i) (few i) (turn_few t few (suc i) k)
     where
       go : (l : List X) → AtMostOne l → length (in_turn t (suc i) k) ≤ k → length (l ++ in_turn t (suc i) k) ≤ suc k
+      go (x ∷ (_ ∷ _)) x7 h = elim x7 [ ]
       go [] nothing h = omega arith
       go (x ∷ []) one h = omega arith
 
@@ -66,6 +67,7 @@ module _ {X : Type 0} where
   turn_rising key t few own i (suc k) = go (t i) (few i) (own i) (turn_rising key t few own (suc i) k)
     where
       go : (l : List X) → AtMostOne l → ((x : X) → x ∈ l → key x ≡ i) → Rising key (in_turn t (suc i) k) → Rising key (l ++ in_turn t (suc i) k)
+      go (x ∷ (_ ∷ _)) x8 o r = elim x8 [ ]
       go [] nothing o r = r
       go (x ∷ []) one o r = more later r
         where

@@ -7,8 +7,7 @@ use borrow.Author.Tests.{eq-eqb, ne_eqb}
 use Rattle.ground.specs.Pick.{yes, no}
 use Rattle.legal.specs.Sheet.{sheet_number}
 use Rattle.differences.specs.Lines.{pair_number}
-use Rattle.differences.proofs.check.Statement.{statement}
-use Rattle.differences.proofs.check.Tie as tie
+use Rattle.differences.proofs.check.Goals as goal
 
 module _ (l r : List ℕ) (n : ℕ) (e : n ≡ sheet_number l) where
   of_left : (n ≡ 0 → ⊥) → n ≡ pair_number l r
@@ -21,17 +20,8 @@ module _ (l r : List ℕ) (n : ℕ) (e : n ≡ sheet_number l) where
 
 ruleset laws = (of_left, of_right, rules)
 
-refusal_requires : tie.Need-refusal-requires
-refusal_requires c κs = search laws
+pub returns-then-number-ne0 : goal.returns-then-number-ne0
+returns-then-number-ne0 c = search laws
 
-returns : tie.Need-returns
+pub returns : goal.returns
 returns c = search laws
-
-refusal_requires_2 : tie.Need-refusal-requires-2
-refusal_requires_2 c κs = search laws
-
-returns_2 : tie.Need-returns-2
-returns_2 c = search laws
-
-pub check_spec : {M : Type 1} → statement M
-check_spec = tie.close (tie.spec refusal_requires returns refusal_requires_2 returns_2)

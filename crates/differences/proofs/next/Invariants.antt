@@ -1,5 +1,3 @@
--- A merge by rising ID: no ID up to the one come to has a line above the number asked for. The lowest ID that is left on either side is the next
--- to be looked at; where it stands on one side only, it cannot stand on the other, whose lowest is higher.
 use borrow.Author.Rules.{rules}
 use Prim.Native.Nat.{ℕ, ◌-◌, ◌≤◌, ◌<◌}
 use mathlib.Core.Path.{◌≡◌, refl, sym, ap, ◌∙◌}
@@ -16,89 +14,88 @@ use Rattle.differences.specs.Lines.Line.{left_only, right_only, changed}
 use Rattle.differences.specs.LinesLaws.{record_first, record_none, lines_none, lines_some}
 use Rattle.differences.specs.Lowest.{no_id, LowestAbove, Standing}
 use Rattle.differences.specs.Masks.{mask_zero}
-use Rattle.differences.proofs.next.Statement.{statement}
-use Rattle.differences.proofs.next.Tie as tie
+use Rattle.differences.proofs.next.Given as goal
 
 module _ (s : List ℕ) (a x k : ℕ) (g : LowestAbove (id_at s) a (count_in s) x k) where
-  absent : (j : ℕ) → a < j → j < x → record_bearing s j ≡ none
+  pub absent : (j : ℕ) → a < j → j < x → record_bearing s j ≡ none
   absent j p q = record_none s j (λ i h e. let n = g.none_lower i h (let z : a < id_at s i = omega arith in z) in omega arith)
 
-  present : x < no_id → record_bearing s x ≡ some (record_at s k)
+  pub present : x < no_id → record_bearing s x ≡ some (record_at s k)
   present p = record_first s x k (g.inside p) (g.stands p) (g.first p)
 
 module _ (l r : List ℕ) where
-  line_by : (i : ℕ) {a b : Option (List ℕ)} → record_bearing l i ≡ a → record_bearing r i ≡ b → line_at l r i ≡ line_of i a b
+  pub line_by : (i : ℕ) {a b : Option (List ℕ)} → record_bearing l i ≡ a → record_bearing r i ≡ b → line_at l r i ≡ line_of i a b
   unfolding line_at
   line_by i p q = rw (p, q) refl
 
   module _ (above : ℕ) where
-    record Come (at : ℕ) : Type 0 where
-      low : above ≤ at
-      high : at ≤ last_id
-      none_passed : (j : ℕ) → above < j → j ≤ at → line_at l r j ≡ []
+    pub record Come (at : ℕ) : Type 0 where
+      pub low : above ≤ at
+      pub high : at ≤ last_id
+      pub none_passed : (j : ℕ) → above < j → j ≤ at → line_at l r j ≡ []
 
-    start : above < no_id → Come above
+    pub start : above < no_id → Come above
     start h = record { low = omega arith; high = omega arith; none_passed = λ j p q. absurd (omega arith) }
 
     module _ (at : ℕ) (g : Come at) where
       -- no ID below m has a line where none between the one come to and m has
-      before : (m : ℕ) → ((j : ℕ) → at < j → j < m → line_at l r j ≡ []) → (j : ℕ) → above < j → j < m → line_at l r j ≡ []
+      pub before : (m : ℕ) → ((j : ℕ) → at < j → j < m → line_at l r j ≡ []) → (j : ℕ) → above < j → j < m → line_at l r j ≡ []
       before m h j p q = ⊎_elim (λ (o : at < j). h j o q) (λ (n : at < j → ⊥). g.none_passed j p (omega arith)) (decided (ltb at j) (reads_lt at j))
 
-      found : (m : ℕ) (x : Line) → at < m → m < no_id → line_at l r m ≡ x ∷ [] → ((j : ℕ) → at < j → j < m → line_at l r j ≡ [])
+      pub found : (m : ℕ) (x : Line) → at < m → m < no_id → line_at l r m ≡ x ∷ [] → ((j : ℕ) → at < j → j < m → line_at l r j ≡ [])
           → difference_of (some x) ≡ difference_of (first_above above (lines_of l r))
       found m x p q e h = let o = g.low in ap difference_of (sym (lines_some l r above m x (omega arith) (omega arith) e (before m h)))
 
       module _ (x k y m : ℕ) (L : LowestAbove (id_at l) at (count_in l) x k) (R : LowestAbove (id_at r) at (count_in r) y m) where
-        neither : (j : ℕ) → at < j → j < x → j < y → line_at l r j ≡ []
+        pub neither : (j : ℕ) → at < j → j < x → j < y → line_at l r j ≡ []
         neither j p q o = line_by j (absent l at x k L j p q) (absent r at y m R j p o)
 
-        left_small : x < y → x < no_id
+        pub left_small : x < y → x < no_id
         left_small h = let n = R.low in omega arith
 
-        left_only_lem : x < y → difference.LeftOnly x ≡ difference_of (first_above above (lines_of l r))
+        pub left_only_lem : x < y → difference.LeftOnly x ≡ difference_of (first_above above (lines_of l r))
         left_only_lem h =
             let s = left_small h in
             let p = L.above s in
             found x (left_only x) p s (line_by x (present l at x k L s) (absent r at y m R x p h)) (λ j o q. neither j o q (omega arith))
 
         module _ (f : y ≤ x) where
-          right_small : y < x → y < no_id
+          pub right_small : y < x → y < no_id
           right_small h = let n = L.low in omega arith
 
-          right_only_lem : y < x → difference.RightOnly y ≡ difference_of (first_above above (lines_of l r))
+          pub right_only_lem : y < x → difference.RightOnly y ≡ difference_of (first_above above (lines_of l r))
           right_only_lem h =
               let s = right_small h in
               let p = R.above s in
               found y (right_only y) p s (line_by y (absent l at x k L y p h) (present r at y m R s)) (λ j o q. neither j o (omega arith) q)
 
           module _ (h : x ≤ y) where
-            over : x ≡ no_id → difference.None ≡ difference_of (first_above above (lines_of l r))
+            pub over : x ≡ no_id → difference.None ≡ difference_of (first_above above (lines_of l r))
             over e =
                 let b : (j : ℕ) → above < j → j < no_id → line_at l r j ≡ [] = before no_id (λ j o q. neither j o (omega arith) (omega arith)) in
                 ap difference_of (sym (lines_none l r above (λ j p q. b j p (omega arith))))
 
             module _ (e : x ≡ no_id → ⊥) where
-              small : x < no_id
+              pub small : x < no_id
               small = let n = L.low in omega arith
 
-              both_inside : Standing l k r m
+              pub both_inside : Standing l k r m
               both_inside = record { on_left = L.inside small; on_right = R.inside (omega (arith, small)) }
 
-              line_both : line_at l r x ≡ changed_line x (differing (record_at l k) (record_at r m))
+              pub line_both : line_at l r x ≡ changed_line x (differing (record_at l k) (record_at r m))
               line_both =
                   let q : x ≡ y = omega arith in
                   line_by x (present l at x k L small) (ap (record_bearing r) q ∙ present r at y m R (omega (arith, small)))
 
               module _ (mask : ℕ) (d : mask ≡ bits_set (differing (record_at l k) (record_at r m))) where
-                differ : (mask ≡ 0 → ⊥) → difference.Changed x mask ≡ difference_of (first_above above (lines_of l r))
+                pub differ : (mask ≡ 0 → ⊥) → difference.Changed x mask ≡ difference_of (first_above above (lines_of l r))
                 differ n = ap (difference.Changed x) d ∙ go (differing (record_at l k) (record_at r m)) (λ z. n (d ∙ (mask_zero _).1 z)) line_both
                   where
                     go : (ns : List ℕ) → (ns ≡ [] → ⊥) → line_at l r x ≡ changed_line x ns → difference.Changed x (bits_set ns) ≡ difference_of (first_above above (lines_of l r))
                     go [] z b = absurd (z refl)
                     go (n ∷ ns) z b = found x (changed x (n ∷ ns)) (L.above small) small b (λ j o q. neither j o q (omega arith))
 
-                same : mask ≡ 0 → Come x
+                pub same : mask ≡ 0 → Come x
                 same z =
                     let w = L.above small in
                     let o = g.low in
@@ -110,72 +107,11 @@ module _ (l r : List ℕ) where
                       none_passed = λ j p q. ⊎_elim (λ (n : j < x). before x (λ i a c. neither i a c (omega arith)) j p n) (λ (n : j < x → ⊥). let t : j ≡ x = omega arith in ap (line_at l r) t ∙ b) (decided (ltb j x) (reads_lt j x));
                     }
 
-                falls : mask ≡ 0 → last_id - x < last_id - at
+                pub falls : mask ≡ 0 → last_id - x < last_id - at
                 falls z = let w = L.above small in let u = small in omega arith
 
-ruleset fits = (left_small, right_small, small, rules)
+abbrev pub invariant-loop-r : goal.invariant-loop-r
+invariant-loop-r l = Come l.left l.right l.above l.at
 
-abbrev invariant-loop : tie.invariant-loop
-invariant-loop left right above at₀ at = Come left right above at
-
-abbrev decreases-loop : tie.decreases-loop
-decreases-loop left right above at₀ at = last_id - at
-
-loop_holds : tie.Need-loop-init invariant-loop decreases-loop
-loop_holds c = search start
-
-lowest_above_requires : tie.Need-lowest-above-requires invariant-loop decreases-loop
-lowest_above_requires c κs = search fits
-
-lowest_above_requires_2 : tie.Need-lowest-above-requires-2 invariant-loop decreases-loop
-lowest_above_requires_2 c κs = search fits
-
-cast_t9 : tie.Need-overflow-cast-t9 invariant-loop decreases-loop
-cast_t9 c = search fits
-
-returns : tie.Need-returns invariant-loop decreases-loop
-returns c = search left_only_lem
-
-cast_t10 : tie.Need-overflow-cast-t10 invariant-loop decreases-loop
-cast_t10 c = search fits
-
-returns_2 : tie.Need-returns-2 invariant-loop decreases-loop
-returns_2 c = search right_only_lem
-
-returns_3 : tie.Need-returns-3 invariant-loop decreases-loop
-returns_3 c = search over
-
-changes_requires : tie.Need-changes-requires invariant-loop decreases-loop
-changes_requires c κs = search both_inside
-
-cast_t11 : tie.Need-overflow-cast-t11 invariant-loop decreases-loop
-cast_t11 c = search fits
-
-returns_4 : tie.Need-returns-4 invariant-loop decreases-loop
-returns_4 c = search differ
-
-loop_less : tie.Need-loop-smaller invariant-loop decreases-loop
-loop_less c = search falls
-
-loop_again : tie.Need-loop-preserved invariant-loop decreases-loop
-loop_again c = search same
-
-pub next_spec : {M : Type 1} → statement M
-next_spec =
-    tie.close
-    (tie.spec
-    invariant-loop
-    decreases-loop
-    loop_holds
-    lowest_above_requires
-    lowest_above_requires_2
-    cast_t9
-    returns
-    cast_t10
-    returns_2
-    returns_3
-    changes_requires
-    cast_t11
-    returns_4
-    loop_less
-    loop_again)
+abbrev pub decreases-loop-r : goal.decreases-loop-r
+decreases-loop-r l = last_id - l.at

@@ -9,8 +9,7 @@ use borrow.Author.Tests.{eq-eqb, ne_eqb}
 use Rattle.ground.specs.Pick.{yes, no}
 use Rattle.ground.specs.Numbers.{byte}
 use Rattle.differences.specs.Mended.{compared_as}
-use Rattle.differences.proofs.compared.Statement.{statement}
-use Rattle.differences.proofs.compared.Tie as tie
+use Rattle.differences.proofs.compared.Goals as goal
 
 module _ (a : List ℕ) (n x : ℕ) (e : x ≡ byte a n) where
   as_is : eqb n 1 && eqb (byte a n) 0x15 ≡ false → x ≡ compared_as n (byte a n)
@@ -33,17 +32,11 @@ module _ (a : List ℕ) (n x : ℕ) (e : x ≡ byte a n) where
 
 ruleset laws = (other_byte, other_kind, printed, rules)
 
-byte_at_requires : tie.Need-byte-at-requires
-byte_at_requires c κs = search rules
+pub returns-then-n-ne-KIND : goal.returns-then-n-ne-KIND
+returns-then-n-ne-KIND c = search laws
 
-returns : tie.Need-returns
+pub returns-then-byte-ne-PRINTED : goal.returns-then-byte-ne-PRINTED
+returns-then-byte-ne-PRINTED c = search laws
+
+pub returns : goal.returns
 returns c = search laws
-
-returns_2 : tie.Need-returns-2
-returns_2 c = search laws
-
-returns_3 : tie.Need-returns-3
-returns_3 c = search laws
-
-pub compared_spec : {M : Type 1} → statement M
-compared_spec = tie.close (tie.spec byte_at_requires returns returns_2 returns_3)
