@@ -13,8 +13,7 @@ use Rattle.connections.specs.declared.Connected.{Connected}
 use Rattle.connections.specs.Judgement.{connected_in}
 use Rattle.indices.specs.Indices.{index_at, index_in, connected_then, indexed_then}
 use Rattle.indices.specs.IndexLaws.{indexed, indexed_judged, connected_refusal}
-use Rattle.indices.proofs.judge.Statement.{statement}
-use Rattle.indices.proofs.judge.Tie as tie
+use Rattle.indices.proofs.judge.Goals as goal
 
 module _ (s : List ℕ) (w : Walk) (e : w ≡ walk_of s 0) where
   unlaid_at : (q i : ℕ) → w.unlaid ≡ At q → i ≡ index_at w.run q → record { number = 17; place = i } ≡ indexed_then s none
@@ -38,43 +37,11 @@ module _ (s : List ℕ) (w : Walk) (e : w ≡ walk_of s 0) where
 
 ruleset laws = (unlaid_at, kept, broken, rules)
 
-read_run_requires : tie.Need-read-run-requires
-read_run_requires c κs = search laws
+pub returns-in-At : goal.returns-in-At
+returns-in-At c = search laws
 
-enum_known_unlaid : tie.Need-enum-known-unlaid
-enum_known_unlaid c = search laws
+pub returns-then-refusal-eq0 : goal.returns-then-refusal-eq0
+returns-then-refusal-eq0 c = search laws
 
-index_at_requires : tie.Need-index-at-requires
-index_at_requires c κs = search laws
-
-returns : tie.Need-returns
+pub returns : goal.returns
 returns c = search laws
-
-enum_told : tie.Need-enum-told
-enum_told c = search laws
-
-judge_requires : tie.Need-judge-requires
-judge_requires c κs = search laws
-
-returns_2 : tie.Need-returns-2
-returns_2 c = search laws
-
-index_at_requires_2 : tie.Need-index-at-requires-2
-index_at_requires_2 c κs = search laws
-
-returns_3 : tie.Need-returns-3
-returns_3 c = search laws
-
-pub judge_spec : {M : Type 1} → statement M
-judge_spec =
-    tie.close
-    (tie.spec
-    read_run_requires
-    enum_known_unlaid
-    index_at_requires
-    returns
-    enum_told
-    judge_requires
-    returns_2
-    index_at_requires_2
-    returns_3)
