@@ -12,8 +12,7 @@ use Rattle.legal.specs.Forms.{record_size_of}
 use Rattle.legal.specs.Sheet.{most_sheet, number_by}
 use Rattle.mover.specs.Moving.{other_of, loses_to, moved_to, move_number}
 use Rattle.mover.specs.MovingLaws.{moved_short}
-use Rattle.mover.proofs.number_of.Statement.{statement}
-use Rattle.mover.proofs.number_of.Tie as tie
+use Rattle.mover.proofs.number_of.Goals as goal
 
 module _ (f : Form) (s : List ℕ) (room : ℕ) (g : Form) (q : g ≡ other_of f) (n : ℕ) (e : n ≡ number_by (record_size_of g) s) where
   known : n ≡ number_by (record_size_of (other_of f)) s
@@ -43,39 +42,17 @@ module _ (f : Form) (s : List ℕ) (room : ℕ) (g : Form) (q : g ≡ other_of f
 
 ruleset laws = (by_form, short, by_more, by_room, moved, rules)
 
-other_requires : tie.Need-other-requires
-other_requires c κs = search rules
+pub returns-then-refused-ne0 : goal.returns-then-refused-ne0
+returns-then-refused-ne0 c = search laws
 
-refusal_in_requires : tie.Need-refusal-in-requires
-refusal_in_requires c κs = search rules
+pub returns-then-loses : goal.returns-then-loses
+returns-then-loses c = search laws
 
-returns : tie.Need-returns
+pub moved_size-requires : goal.moved_size-requires
+moved_size-requires c = search laws
+
+pub returns-then-room-moved_size : goal.returns-then-room-moved_size
+returns-then-room-moved_size c = search laws
+
+pub returns : goal.returns
 returns c = search laws
-
-loses_requires : tie.Need-loses-requires
-loses_requires c κs = search rules
-
-returns_2 : tie.Need-returns-2
-returns_2 c = search laws
-
-moved_size_requires : tie.Need-moved-size-requires
-moved_size_requires c κs = search laws
-
-returns_3 : tie.Need-returns-3
-returns_3 c = search laws
-
-returns_4 : tie.Need-returns-4
-returns_4 c = search laws
-
-pub number_of_spec : {M : Type 1} → statement M
-number_of_spec =
-    tie.close
-    (tie.spec
-    other_requires
-    refusal_in_requires
-    returns
-    loses_requires
-    returns_2
-    moved_size_requires
-    returns_3
-    returns_4)

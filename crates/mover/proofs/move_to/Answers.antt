@@ -14,8 +14,7 @@ use Rattle.legal.specs.Sheet.{most_sheet, count_by}
 use Rattle.mover.specs.Moving.{other_of, moved_to, move_number, written_by, room_after, Move}
 use Rattle.mover.specs.Laid.{Room, resized}
 use Rattle.mover.specs.MovingLaws.{moved_resized, moved_long, unrefused_short, unrefused_room}
-use Rattle.mover.proofs.move_to.Statement.{statement}
-use Rattle.mover.proofs.move_to.Tie as tie
+use Rattle.mover.proofs.move_to.Goals as goal
 
 module _ (f : Form) (s d : List ℕ) (x : ℕ) (e : x ≡ move_number f s (length d)) where
   refused : (x ≡ 0 → ⊥) → Move f s d x 0 d
@@ -48,47 +47,14 @@ module _ (f : Form) (s d : List ℕ) (x : ℕ) (e : x ≡ move_number f s (lengt
 
 ruleset laws = (refused, short, room_left, put, rules)
 
-number_of_requires : tie.Need-number-of-requires
-number_of_requires c κs = search rules
+pub returns-then-number-ne0 : goal.returns-then-number-ne0
+returns-then-number-ne0 c = search laws
 
-returns : tie.Need-returns
+pub put_records-requires : goal.put_records-requires
+put_records-requires c = search laws
+
+pub moved_size-requires : goal.moved_size-requires
+moved_size-requires c = search laws
+
+pub returns : goal.returns
 returns c = search laws
-
-other_requires : tie.Need-other-requires
-other_requires c κs = search rules
-
-count_requires : tie.Need-count-requires
-count_requires c κs = search rules
-
-record_size_requires : tie.Need-record-size-requires
-record_size_requires c κs = search rules
-
-record_size_requires_2 : tie.Need-record-size-requires-2
-record_size_requires_2 c κs = search rules
-
-put_records_requires : tie.Need-put-records-requires
-put_records_requires c κs = search laws
-
-moved_size_requires : tie.Need-moved-size-requires
-moved_size_requires c κs = search laws
-
-same_length : tie.Need-same-length
-same_length c = search rules
-
-returns_2 : tie.Need-returns-2
-returns_2 c = search laws
-
-pub move_to_spec : {M : Type 1} → statement M
-move_to_spec =
-    tie.close
-    (tie.spec
-    number_of_requires
-    returns
-    other_requires
-    count_requires
-    record_size_requires
-    record_size_requires_2
-    put_records_requires
-    moved_size_requires
-    same_length
-    returns_2)

@@ -14,8 +14,7 @@ use Rattle.legal.specs.Forms.{record_size_of, record_size_most}
 use Rattle.legal.specs.Sheet.{most_sheet, count_by}
 use Rattle.mover.specs.Moving.{other_of, moved_to}
 use Rattle.mover.specs.MovingLaws.{moved_long}
-use Rattle.mover.proofs.moved_size.Statement.{statement}
-use Rattle.mover.proofs.moved_size.Tie as tie
+use Rattle.mover.proofs.moved_size.Goals as goal
 
 module _ (f : Form) (s : List ℕ) (g : Form) (q : g ≡ other_of f) (n m : ℕ) (e : n ≡ count_by (record_size_of g) s) (h : m ≡ record_size_of f) where
   product_fits : length s ≤ most_sheet → Fits w64 (n * m)
@@ -32,21 +31,8 @@ module _ (f : Form) (s : List ℕ) (g : Form) (q : g ≡ other_of f) (n m : ℕ)
 
 ruleset laws = (product_fits, told, rules)
 
-other_requires : tie.Need-other-requires
-other_requires c κs = search rules
+pub overflow_mul-result : goal.overflow_mul-result
+overflow_mul-result c = search laws
 
-count_requires : tie.Need-count-requires
-count_requires c κs = search rules
-
-record_size_requires : tie.Need-record-size-requires
-record_size_requires c κs = search rules
-
-mul_result : tie.Need-overflow-mul-result
-mul_result c = search laws
-
-returns : tie.Need-returns
+pub returns : goal.returns
 returns c = search laws
-
-pub moved_size_spec : {M : Type 1} → statement M
-moved_size_spec =
-    tie.close (tie.spec other_requires count_requires record_size_requires mul_result returns)
