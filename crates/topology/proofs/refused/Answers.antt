@@ -5,8 +5,7 @@ use Rattle.ground.specs.declared.Refusal.{Refusal}
 use Rattle.table.specs.declared.Table.{Table}
 use Rattle.table.specs.Controls.{empty_table}
 use Rattle.topology.specs.Reading.{refused_reading}
-use Rattle.topology.proofs.refused.Statement.{statement}
-use Rattle.topology.proofs.refused.Tie as tie
+use Rattle.topology.proofs.refused.Goals as goal
 
 made : (r : Refusal) (t : Table) → t ≡ empty_table → record { number = r.number; place = r.place; control = 0; entities = 0; controls = 0; table = t } ≡ refused_reading r
 unfolding refused_reading
@@ -14,11 +13,5 @@ made r t e = rw e refl
 
 ruleset laws = (made, rules)
 
-empty_requires : tie.Need-empty-requires
-empty_requires c κs = search laws
-
-returns : tie.Need-returns
+pub returns : goal.returns
 returns c = search laws
-
-pub refused_spec : {M : Type 1} → statement M
-refused_spec = tie.close (tie.spec empty_requires returns)

@@ -16,8 +16,7 @@ use Rattle.table.specs.declared.Table.{Table}
 use Rattle.topology.specs.declared.Finding.{Finding}
 use Rattle.topology.specs.Reading.{table_for, count_judged, refused_finding, finding_with, table_judged}
 use Rattle.topology.specs.Verdict.{found_refused, found_taken}
-use Rattle.topology.proofs.judge_table.Statement.{statement}
-use Rattle.topology.proofs.judge_table.Tie as tie
+use Rattle.topology.proofs.judge_table.Goals as goal
 
 module _ (s : List ℕ) (v : Survey) (cs : List Cluster) (t : Table) (e : t ≡ table_of (controls_of_run s v.run cs)) (m : Place) (f : m ≡ breach15 t.count v.header) where
   counted : m ≡ breach15 (table_for s v cs).count v.header
@@ -37,35 +36,8 @@ module _ (s : List ℕ) (v : Survey) (cs : List Cluster) (t : Table) (e : t ≡ 
 
 ruleset laws = (many, few, rules)
 
-read_controls_requires : tie.Need-read-controls-requires
-read_controls_requires c κs = search laws
+pub returns-in-At : goal.returns-in-At
+returns-in-At c = search laws
 
-check_count_requires : tie.Need-check-count-requires
-check_count_requires c κs = search laws
-
-enum_known_many : tie.Need-enum-known-many
-enum_known_many c = search laws
-
-refused_finding_requires : tie.Need-refused-finding-requires
-refused_finding_requires c κs = search laws
-
-returns : tie.Need-returns
+pub returns : goal.returns
 returns c = search laws
-
-enum_told : tie.Need-enum-told
-enum_told c = search laws
-
-returns_2 : tie.Need-returns-2
-returns_2 c = search laws
-
-pub judge_table_spec : {M : Type 1} → statement M
-judge_table_spec =
-    tie.close
-    (tie.spec
-    read_controls_requires
-    check_count_requires
-    enum_known_many
-    refused_finding_requires
-    returns
-    enum_told
-    returns_2)

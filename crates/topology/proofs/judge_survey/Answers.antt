@@ -18,8 +18,7 @@ use Rattle.streaming.specs.Tests.{breach14}
 use Rattle.topology.specs.declared.Finding.{Finding}
 use Rattle.topology.specs.Reading.{clusters_at, count_judged, rest_judged, survey_judged, refused_finding, finding_with, found_by, table_judged, survey_finding}
 use Rattle.topology.specs.Verdict.{found_refused, connected_refusal, connected_clusters}
-use Rattle.topology.proofs.judge_survey.Statement.{statement}
-use Rattle.topology.proofs.judge_survey.Tie as tie
+use Rattle.topology.proofs.judge_survey.Goals as goal
 
 module _ (s : List ℕ) (v : Survey) (k : Connected) (e : k ≡ connected_in s v.run) where
   -- the rest is judged where the four rules are kept
@@ -54,47 +53,11 @@ module _ (s : List ℕ) (v : Survey) (k : Connected) (e : k ≡ connected_in s v
 
 ruleset laws = (unconnected, streams, counts, rules)
 
-judge_requires : tie.Need-judge-requires
-judge_requires c κs = search laws
+pub returns-then-refusal-ne0 : goal.returns-then-refusal-ne0
+returns-then-refusal-ne0 c = search laws
 
-refused_finding_requires : tie.Need-refused-finding-requires
-refused_finding_requires c κs = search laws
+pub returns-in-At : goal.returns-in-At
+returns-in-At c = search laws
 
-returns : tie.Need-returns
+pub returns : goal.returns
 returns c = search laws
-
-check_streams_requires : tie.Need-check-streams-requires
-check_streams_requires c κs = search laws
-
-enum_known_streams : tie.Need-enum-known-streams
-enum_known_streams c = search laws
-
-refused_finding_requires_2 : tie.Need-refused-finding-requires-2
-refused_finding_requires_2 c κs = search laws
-
-returns_2 : tie.Need-returns-2
-returns_2 c = search laws
-
-enum_told : tie.Need-enum-told
-enum_told c = search laws
-
-judge_table_requires : tie.Need-judge-table-requires
-judge_table_requires c κs = search laws
-
-returns_3 : tie.Need-returns-3
-returns_3 c = search laws
-
-pub judge_survey_spec : {M : Type 1} → statement M
-judge_survey_spec =
-    tie.close
-    (tie.spec
-    judge_requires
-    refused_finding_requires
-    returns
-    check_streams_requires
-    enum_known_streams
-    refused_finding_requires_2
-    returns_2
-    enum_told
-    judge_table_requires
-    returns_3)

@@ -11,8 +11,7 @@ use Rattle.cutting.specs.Verdict.{verdict_chain}
 use Rattle.topology.specs.declared.Finding.{Finding}
 use Rattle.topology.specs.Reading.{clusters_at, survey_judged, judged_then, refused_finding, finding_with, found_by, survey_finding, finding_of}
 use Rattle.topology.specs.Verdict.{found_refused, survey_refusal}
-use Rattle.topology.proofs.judge.Statement.{statement}
-use Rattle.topology.proofs.judge.Tie as tie
+use Rattle.topology.proofs.judge.Goals as goal
 
 module _ (s : List ℕ) (v : Survey) (e : v ≡ survey_of s) where
   told : v.refusal ≡ verdict s
@@ -35,22 +34,8 @@ module _ (s : List ℕ) (v : Survey) (e : v ≡ survey_of s) where
 
 ruleset laws = (uncut, judged_on, rules)
 
-cut_requires : tie.Need-cut-requires
-cut_requires c κs = search laws
+pub returns-then-refusal-ne0 : goal.returns-then-refusal-ne0
+returns-then-refusal-ne0 c = search laws
 
-refused_finding_requires : tie.Need-refused-finding-requires
-refused_finding_requires c κs = search laws
-
-returns : tie.Need-returns
+pub returns : goal.returns
 returns c = search laws
-
-judge_survey_requires : tie.Need-judge-survey-requires
-judge_survey_requires c κs = search laws
-
-returns_2 : tie.Need-returns-2
-returns_2 c = search laws
-
-pub judge_spec : {M : Type 1} → statement M
-judge_spec =
-    tie.close
-    (tie.spec cut_requires refused_finding_requires returns judge_survey_requires returns_2)
