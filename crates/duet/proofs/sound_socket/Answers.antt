@@ -7,8 +7,7 @@ use Rattle.ground.specs.Pick.{yes, no}
 use Rattle.sound.specs.Sound.{sound_of}
 use Rattle.duet.specs.declared.Socket.{Socket}
 use Rattle.duet.specs.Box.{sound_socket}
-use Rattle.duet.proofs.sound_socket.Statement.{statement}
-use Rattle.duet.proofs.sound_socket.Tie as tie
+use Rattle.duet.proofs.sound_socket.Goals as goal
 
 without : (x : Socket) → not x.plugged ≡ true → true ≡ sound_socket x
 unfolding sound_socket
@@ -20,14 +19,8 @@ tested x r h e = e ∙ sym (yes (sound_of x.state.table) true (not-false x.plugg
 
 ruleset laws = (without, tested, rules)
 
-returns : tie.Need-returns
+pub returns-then-not-socket : goal.returns-then-not-socket
+returns-then-not-socket c = search laws
+
+pub returns : goal.returns
 returns c = search laws
-
-sound_requires : tie.Need-sound-requires
-sound_requires c κs = search laws
-
-returns_2 : tie.Need-returns-2
-returns_2 c = search laws
-
-pub sound_socket_spec : {M : Type 1} → statement M
-sound_socket_spec = tie.close (tie.spec returns sound_requires returns_2)

@@ -7,8 +7,7 @@ use Rattle.sides.specs.declared.Side.TheVariants.{Left}
 use Rattle.duet.specs.declared.Duet.{Duet}
 use Rattle.duet.specs.Box.{sound_socket, sound_beside, sound_duet}
 use Rattle.duet.specs.BoxLaws.{unsound_beside, sound_own}
-use Rattle.duet.proofs.sound_duet.Statement.{statement}
-use Rattle.duet.proofs.sound_duet.Tie as tie
+use Rattle.duet.proofs.sound_duet.Goals as goal
 
 module _ (b : Duet) (a : Bool) (h : a ≡ sound_beside b Left) where
   not_so : not a ≡ true → false ≡ sound_duet b
@@ -19,18 +18,8 @@ module _ (b : Duet) (a : Bool) (h : a ≡ sound_beside b Left) where
 
 ruleset laws = (not_so, by_the_left, rules)
 
-sound_beside_requires : tie.Need-sound-beside-requires
-sound_beside_requires c κs = search laws
+pub returns-then-not-sound_beside : goal.returns-then-not-sound_beside
+returns-then-not-sound_beside c = search laws
 
-returns : tie.Need-returns
+pub returns : goal.returns
 returns c = search laws
-
-sound_socket_requires : tie.Need-sound-socket-requires
-sound_socket_requires c κs = search laws
-
-returns_2 : tie.Need-returns-2
-returns_2 c = search laws
-
-pub sound_duet_spec : {M : Type 1} → statement M
-sound_duet_spec =
-    tie.close (tie.spec sound_beside_requires returns sound_socket_requires returns_2)

@@ -10,8 +10,7 @@ use Rattle.sides.specs.Sides.{most_together}
 use Rattle.duet.specs.declared.Socket.{Socket}
 use Rattle.duet.specs.declared.Duet.{Duet}
 use Rattle.duet.specs.Box.{other_side, socket_of, controls_on, sound_socket, sound_beside}
-use Rattle.duet.proofs.sound_beside.Statement.{statement}
-use Rattle.duet.proofs.sound_beside.Tie as tie
+use Rattle.duet.proofs.sound_beside.Goals as goal
 
 module _ (b : Duet) (k : Side) (x : Socket) (e : x ≡ socket_of b k) (m : ℕ) (f : m ≡ controls_on x) where
   own : m ≡ controls_on (socket_of b k)
@@ -41,43 +40,11 @@ module _ (b : Duet) (k : Side) (x : Socket) (e : x ≡ socket_of b k) (m : ℕ) 
 
 ruleset laws = (too_many, too_many_beside, few, rules)
 
-socket_of_requires : tie.Need-socket-of-requires
-socket_of_requires c κs = search laws
+pub returns-then-own-gt-TOGETHER : goal.returns-then-own-gt-TOGETHER
+returns-then-own-gt-TOGETHER c = search laws
 
-controls_on_requires : tie.Need-controls-on-requires
-controls_on_requires c κs = search laws
+pub returns-then-own-controls_on : goal.returns-then-own-controls_on
+returns-then-own-controls_on c = search laws
 
-returns : tie.Need-returns
+pub returns : goal.returns
 returns c = search laws
-
-other_requires : tie.Need-other-requires
-other_requires c κs = search laws
-
-socket_of_requires_2 : tie.Need-socket-of-requires-2
-socket_of_requires_2 c κs = search laws
-
-controls_on_requires_2 : tie.Need-controls-on-requires-2
-controls_on_requires_2 c κs = search laws
-
-returns_2 : tie.Need-returns-2
-returns_2 c = search laws
-
-sound_socket_requires : tie.Need-sound-socket-requires
-sound_socket_requires c κs = search laws
-
-returns_3 : tie.Need-returns-3
-returns_3 c = search laws
-
-pub sound_beside_spec : {M : Type 1} → statement M
-sound_beside_spec =
-    tie.close
-    (tie.spec
-    socket_of_requires
-    controls_on_requires
-    returns
-    other_requires
-    socket_of_requires_2
-    controls_on_requires_2
-    returns_2
-    sound_socket_requires
-    returns_3)
