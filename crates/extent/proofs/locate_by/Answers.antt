@@ -9,8 +9,7 @@ use Rattle.ground.specs.Pick.{yes, no}
 use Rattle.topology.specs.declared.Finding.{Finding}
 use Rattle.extent.specs.declared.Located.TheVariants.{Refused, From}
 use Rattle.extent.specs.Stretch.{entity_place, known, located_by}
-use Rattle.extent.proofs.locate_by.Statement.{statement}
-use Rattle.extent.proofs.locate_by.Tie as tie
+use Rattle.extent.proofs.locate_by.Goals as goal
 
 module _ (f : Finding) (x : ℕ) where
   refuses : (f.refusal.number ≡ 0 → ⊥) → Refused f.refusal.number f.refusal.place ≡ located_by f x
@@ -30,25 +29,11 @@ module _ (f : Finding) (x : ℕ) where
 
 ruleset laws = (refuses, unknown, stands, rules)
 
-returns : tie.Need-returns
-returns c = search laws
+pub returns-then-refusal-ne0 : goal.returns-then-refusal-ne0
+returns-then-refusal-ne0 c = search laws
 
-entity_place_requires : tie.Need-entity-place-requires
-entity_place_requires c κs = search laws
+pub returns-in-Nowhere : goal.returns-in-Nowhere
+returns-in-Nowhere c = search laws
 
-enum_told : tie.Need-enum-told
-enum_told c = search laws
-
-enum_known_place : tie.Need-enum-known-place
-enum_known_place c = search laws
-
-returns_2 : tie.Need-returns-2
-returns_2 c = search laws
-
-returns_3 : tie.Need-returns-3
-returns_3 c = search laws
-
-pub locate_by_spec : {M : Type 1} → statement M
-locate_by_spec =
-    tie.close
-    (tie.spec returns entity_place_requires enum_told enum_known_place returns_2 returns_3)
+pub returns-in-At : goal.returns-in-At
+returns-in-At c = search laws
