@@ -9,8 +9,7 @@ use Rattle.topology.specs.declared.Reading.{Reading}
 use Rattle.topology.specs.Reading.{reading_of, sheet_of}
 use Rattle.reader.proofs.Tables.{reader_table}
 use Rattle.plug.specs.Plugged.{state_of, PluggedIn}
-use Rattle.plug.proofs.plug_in.Statement.{statement}
-use Rattle.plug.proofs.plug_in.Tie as tie
+use Rattle.plug.proofs.plug_in.Goals as goal
 
 plugged : (s d : List ℕ) (r : Reading) (a : List ℕ) → r ≡ reading_of s (length d) → a ≡ sheet_of s d
     → PluggedIn s d (record { reading = r; state = record { control = r.control; table = r.table } }) a
@@ -23,14 +22,5 @@ plugged s d r a e f = record {
 
 ruleset laws = (plugged, rules)
 
-read_requires : tie.Need-read-requires
-read_requires c κs = search laws
-
-same_length : tie.Need-same-length
-same_length c = search laws
-
-returns : tie.Need-returns
+pub returns : goal.returns
 returns c = search laws
-
-pub plug_in_spec : {M : Type 1} → statement M
-plug_in_spec = tie.close (tie.spec read_requires same_length returns)
