@@ -16,8 +16,7 @@ use Rattle.groups.specs.declared.Frame.{Frame}
 use Rattle.third.specs.declared.Finding.{Finding}
 use Rattle.third.specs.Judgement.{run_for, run_refused, run_judged, links_judged, frame_judged, nothing_found, all_found, found_then, linked_in, framed_in}
 use Rattle.third.specs.Verdict.{run_chain, found_refused}
-use Rattle.third.proofs.judge_frame.Statement.{statement}
-use Rattle.third.proofs.judge_frame.Tie as tie
+use Rattle.third.proofs.judge_frame.Goals as goal
 
 module _ (c b : List ℕ) (f : Frame) (s : List ℕ) (e : s ≡ part c 0 f.end) where
   front : s ≡ take f.end c
@@ -61,35 +60,8 @@ module _ (c b : List ℕ) (f : Frame) (s : List ℕ) (e : s ≡ part c 0 f.end) 
 
 ruleset laws = (turned_away, on, rules)
 
-stretch_requires : tie.Need-stretch-requires
-stretch_requires c κs = search laws
+pub returns-then-verdict-ne0 : goal.returns-then-verdict-ne0
+returns-then-verdict-ne0 c = search laws
 
-read_run_requires : tie.Need-read-run-requires
-read_run_requires c κs = search laws
-
-judge_run_requires : tie.Need-judge-run-requires
-judge_run_requires c κs = search laws
-
-nothing_found_requires : tie.Need-nothing-found-requires
-nothing_found_requires c κs = search laws
-
-returns : tie.Need-returns
+pub returns : goal.returns
 returns c = search laws
-
-judge_links_requires : tie.Need-judge-links-requires
-judge_links_requires c κs = search laws
-
-returns_2 : tie.Need-returns-2
-returns_2 c = search laws
-
-pub judge_frame_spec : {M : Type 1} → statement M
-judge_frame_spec =
-    tie.close
-    (tie.spec
-    stretch_requires
-    read_run_requires
-    judge_run_requires
-    nothing_found_requires
-    returns
-    judge_links_requires
-    returns_2)

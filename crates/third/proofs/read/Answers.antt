@@ -16,8 +16,7 @@ use Rattle.third.specs.declared.Finding.{Finding}
 use Rattle.third.specs.declared.SheetAnswer.{SheetAnswer}
 use Rattle.third.specs.Judgement.{run_for, room_refused, third_verdict, third_finding, sheet_refused, third_answer, third_sheet}
 use Rattle.third.specs.Verdict.{finding_all, verdict_before, verdict_room}
-use Rattle.third.proofs.read.Statement.{statement}
-use Rattle.third.proofs.read.Tie as tie
+use Rattle.third.proofs.read.Goals as goal
 
 module _ (s b d : List ℕ) (f : Finding) (e : f ≡ third_finding s b) where
   -- what is refused, and the sheet as it stood
@@ -56,50 +55,17 @@ module _ (s b d : List ℕ) (f : Finding) (e : f ≡ third_finding s b) where
 
 ruleset laws = (turned_away, no_room, taken, rules)
 
-judge_requires : tie.Need-judge-requires
-judge_requires c κs = search laws
+pub returns-then-refusal-ne0 : goal.returns-then-refusal-ne0
+returns-then-refusal-ne0 c =
+    let r = turned_away _ _ _ _ c.judge-found.ensures c.if-refusal-ne0.true _ c.refused.ensures in
+    record { value = r.0; sheet_after = r.1 }
 
-refused_requires : tie.Need-refused-requires
-refused_requires c κs = search laws
+pub returns-then-not-has_room : goal.returns-then-not-has_room
+returns-then-not-has_room c =
+    let r = no_room _ _ _ _ c.judge-found.ensures c.if-refusal-ne0.false _ c.has_room.ensures (ap not c.if-not-has_room.true) _ c.refused-then-not-has_room.ensures in
+    record { value = r.0; sheet_after = r.1 }
 
-returns : tie.Need-returns
-returns c = turned_away _ _ _ _ c.before.before.before.before.judge.ensures c.before.if1.true _ c.refused.ensures
-
-has_room_requires : tie.Need-has-room-requires
-has_room_requires c κs = search laws
-
-refused_requires_2 : tie.Need-refused-requires-2
-refused_requires_2 c κs = search laws
-
-returns_2 : tie.Need-returns-2
-returns_2 c =
-    let h = c.before.before in
-    let i = h.before.before.before in
-    no_room _ _ _ _ i.before.before.before.judge.ensures i.if1.false _ h.has_room.ensures c.before.if2.true _ c.refused2.ensures
-
-show_requires : tie.Need-show-requires
-show_requires c κs = search laws
-
-same_length : tie.Need-same-length
-same_length c = search laws
-
-returns_3 : tie.Need-returns-3
-returns_3 c =
-    let k = c.before.before in
-    let h = k.before.before.before in
-    let i = h.before.before.before in
-    taken _ _ _ _ i.before.before.before.judge.ensures i.if1.false _ h.has_room.ensures k.before.before.if2.false _ k.show.ensures
-
-pub read_spec : {M : Type 1} → statement M
-read_spec =
-    tie.close
-    (tie.spec
-    judge_requires
-    refused_requires
-    returns
-    has_room_requires
-    refused_requires_2
-    returns_2
-    show_requires
-    same_length
-    returns_3)
+pub returns : goal.returns
+returns c =
+    let r = taken _ _ _ _ c.judge-found.ensures c.if-refusal-ne0.false _ c.has_room.ensures (ap not c.if-not-has_room.false) _ c.show.ensures in
+    record { value = r.0; sheet_after = r.1 }

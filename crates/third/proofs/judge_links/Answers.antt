@@ -16,8 +16,7 @@ use Rattle.links3.specs.Links.{breach11_third}
 use Rattle.third.specs.declared.Finding.{Finding}
 use Rattle.third.specs.Judgement.{links_judged, nothing_found, all_found, found_then, clustered_in, linked_in}
 use Rattle.third.specs.Verdict.{found_refused}
-use Rattle.third.proofs.judge_links.Statement.{statement}
-use Rattle.third.proofs.judge_links.Tie as tie
+use Rattle.third.proofs.judge_links.Goals as goal
 
 module _ (s b : List ℕ) (header : ℕ) (run : Run) where
   turned_away : (n p : ℕ) → (n ≡ 0 → ⊥) → links_judged s b run none ≡ record { number = n; place = p }
@@ -51,79 +50,14 @@ module _ (s b : List ℕ) (header : ℕ) (run : Run) (a : Place) (e : a ≡ brea
 
 ruleset laws = (ids, sources, ranks, on, rules)
 
-check_ids_requires : tie.Need-check-ids-requires
-check_ids_requires c κs = search laws
+pub returns-in-At : goal.returns-in-At
+returns-in-At c = search laws
 
-enum_known_ids : tie.Need-enum-known-ids
-enum_known_ids c = search laws
+pub returns-in-At-wrong : goal.returns-in-At-wrong
+returns-in-At-wrong c = search laws
 
-nothing_found_requires : tie.Need-nothing-found-requires
-nothing_found_requires c κs = search laws
+pub returns-in-At-endless : goal.returns-in-At-endless
+returns-in-At-endless c = search laws
 
-returns : tie.Need-returns
+pub returns : goal.returns
 returns c = search laws
-
-enum_told : tie.Need-enum-told
-enum_told c = search laws
-
-check_sources_requires : tie.Need-check-sources-requires
-check_sources_requires c κs = search laws
-
-enum_known_wrong : tie.Need-enum-known-wrong
-enum_known_wrong c = search laws
-
-nothing_found_requires_2 : tie.Need-nothing-found-requires-2
-nothing_found_requires_2 c κs = search laws
-
-returns_2 : tie.Need-returns-2
-returns_2 c = search laws
-
-enum_told_2 : tie.Need-enum-told-2
-enum_told_2 c = search laws
-
-order_of_requires : tie.Need-order-of-requires
-order_of_requires c κs = search laws
-
-check_ranks_requires : tie.Need-check-ranks-requires
-check_ranks_requires c κs = search laws
-
-enum_known_endless : tie.Need-enum-known-endless
-enum_known_endless c = search laws
-
-nothing_found_requires_3 : tie.Need-nothing-found-requires-3
-nothing_found_requires_3 c κs = search laws
-
-returns_3 : tie.Need-returns-3
-returns_3 c = search laws
-
-enum_told_3 : tie.Need-enum-told-3
-enum_told_3 c = search laws
-
-judge_clusters_requires : tie.Need-judge-clusters-requires
-judge_clusters_requires c κs = search laws
-
-returns_4 : tie.Need-returns-4
-returns_4 c = search laws
-
-pub judge_links_spec : {M : Type 1} → statement M
-judge_links_spec =
-    tie.close
-    (tie.spec
-    check_ids_requires
-    enum_known_ids
-    nothing_found_requires
-    returns
-    enum_told
-    check_sources_requires
-    enum_known_wrong
-    nothing_found_requires_2
-    returns_2
-    enum_told_2
-    order_of_requires
-    check_ranks_requires
-    enum_known_endless
-    nothing_found_requires_3
-    returns_3
-    enum_told_3
-    judge_clusters_requires
-    returns_4)

@@ -6,8 +6,7 @@ use lib.ListN.{replicate}
 use Rattle.entities.specs.declared.Node.{Node}
 use Rattle.entities.specs.Run.{blank_node}
 use Rattle.third.specs.Judgement.{nothing_found}
-use Rattle.third.proofs.nothing_found.Statement.{statement}
-use Rattle.third.proofs.nothing_found.Tie as tie
+use Rattle.third.proofs.nothing_found.Goals as goal
 
 made : (n p : ℕ) (b : Node) → b ≡ blank_node
     → record { refusal = record { number = n; place = p }; header = 0; run = record { count = 0; nodes = replicate 32 b }; clusters = replicate 32 (record { channels = 0; locations = 0; names = 0 }) } ≡ nothing_found (record { number = n; place = p })
@@ -16,11 +15,5 @@ made n p b e = rw e refl
 
 ruleset laws = (made, rules)
 
-blank_requires : tie.Need-blank-requires
-blank_requires c κs = search laws
-
-returns : tie.Need-returns
+pub returns : goal.returns
 returns c = search laws
-
-pub nothing_found_spec : {M : Type 1} → statement M
-nothing_found_spec = tie.close (tie.spec blank_requires returns)

@@ -11,8 +11,7 @@ use Rattle.groups.specs.Third.{third_framed_of, third_refusal, third_frame, thir
 use Rattle.third.specs.declared.Finding.{Finding}
 use Rattle.third.specs.Judgement.{run_for, frame_judged, third_then, nothing_found, all_found, found_then, framed_in, third_finding}
 use Rattle.third.specs.Verdict.{found_refused}
-use Rattle.third.proofs.judge.Statement.{statement}
-use Rattle.third.proofs.judge.Tie as tie
+use Rattle.third.proofs.judge.Goals as goal
 
 module _ (s b : List ℕ) (g : Framing) (h : g ≡ third_framed_of s) where
   verdict_on : g.refusal.number ≡ 0 → third_then s b none ≡ frame_judged s b (frame_of s) none
@@ -41,22 +40,8 @@ module _ (s b : List ℕ) (g : Framing) (h : g ≡ third_framed_of s) where
 
 ruleset laws = (turned_away, on, rules)
 
-framed_third_requires : tie.Need-framed-third-requires
-framed_third_requires c κs = search laws
+pub returns-then-verdict-ne0 : goal.returns-then-verdict-ne0
+returns-then-verdict-ne0 c = search laws
 
-nothing_found_requires : tie.Need-nothing-found-requires
-nothing_found_requires c κs = search laws
-
-returns : tie.Need-returns
+pub returns : goal.returns
 returns c = search laws
-
-judge_frame_requires : tie.Need-judge-frame-requires
-judge_frame_requires c κs = search laws
-
-returns_2 : tie.Need-returns-2
-returns_2 c = search laws
-
-pub judge_spec : {M : Type 1} → statement M
-judge_spec =
-    tie.close
-    (tie.spec framed_third_requires nothing_found_requires returns judge_frame_requires returns_2)

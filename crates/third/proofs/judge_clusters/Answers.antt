@@ -21,8 +21,7 @@ use Rattle.clusters3.specs.Given.{given_clusters}
 use Rattle.third.specs.declared.Finding.{Finding}
 use Rattle.third.specs.Judgement.{clusters_judged, nothing_found, clusters_shown, all_found, clustered_in}
 use Rattle.third.specs.Verdict.{found_refused, found_taken}
-use Rattle.third.proofs.judge_clusters.Statement.{statement}
-use Rattle.third.proofs.judge_clusters.Tie as tie
+use Rattle.third.proofs.judge_clusters.Goals as goal
 
 module _ (s b : List ℕ) (header : ℕ) (run : Run) where
   turned_away : (n p : ℕ) → (n ≡ 0 → ⊥) → clusters_judged s b run none ≡ record { number = n; place = p }
@@ -60,59 +59,11 @@ module _ (s b : List ℕ) (header : ℕ) (run : Run) where
 
 ruleset laws = (names, clusters, all_kept, rules)
 
-check_names_requires : tie.Need-check-names-requires
-check_names_requires c κs = search laws
+pub returns-in-At : goal.returns-in-At
+returns-in-At c = search laws
 
-enum_known_unknown : tie.Need-enum-known-unknown
-enum_known_unknown c = search laws
+pub returns-in-At-broken : goal.returns-in-At-broken
+returns-in-At-broken c = search laws
 
-nothing_found_requires : tie.Need-nothing-found-requires
-nothing_found_requires c κs = search laws
-
-returns : tie.Need-returns
+pub returns : goal.returns
 returns c = search laws
-
-enum_told : tie.Need-enum-told
-enum_told c = search laws
-
-sweep_requires : tie.Need-sweep-requires
-sweep_requires c κs = search laws
-
-check_clusters_requires : tie.Need-check-clusters-requires
-check_clusters_requires c κs = search laws
-
-enum_known_broken : tie.Need-enum-known-broken
-enum_known_broken c = search laws
-
-nothing_found_requires_2 : tie.Need-nothing-found-requires-2
-nothing_found_requires_2 c κs = search laws
-
-returns_2 : tie.Need-returns-2
-returns_2 c = search laws
-
-enum_told_2 : tie.Need-enum-told-2
-enum_told_2 c = search laws
-
-by_index_requires : tie.Need-by-index-requires
-by_index_requires c κs = search laws
-
-returns_3 : tie.Need-returns-3
-returns_3 c = search laws
-
-pub judge_clusters_spec : {M : Type 1} → statement M
-judge_clusters_spec =
-    tie.close
-    (tie.spec
-    check_names_requires
-    enum_known_unknown
-    nothing_found_requires
-    returns
-    enum_told
-    sweep_requires
-    check_clusters_requires
-    enum_known_broken
-    nothing_found_requires_2
-    returns_2
-    enum_told_2
-    by_index_requires
-    returns_3)

@@ -13,8 +13,7 @@ use Rattle.scan.specs.Search.{searched}
 use Rattle.buffer.specs.Reading.{breach51}
 use Rattle.entities.specs.Run.{most_entities}
 use Rattle.third.specs.Judgement.{unlaid, run_refused}
-use Rattle.third.proofs.judge_run.Statement.{statement}
-use Rattle.third.proofs.judge_run.Tie as tie
+use Rattle.third.proofs.judge_run.Goals as goal
 
 module _ (s b : List ℕ) (from count header : ℕ) where
   abbrev Answer : Refusal
@@ -42,51 +41,17 @@ module _ (s b : List ℕ) (from count header : ℕ) where
 
 ruleset laws = (too_few, too_many, fault, wrong, kept, rules)
 
-returns : tie.Need-returns
+pub returns-then-count-lt1 : goal.returns-then-count-lt1
+returns-then-count-lt1 c = search laws
+
+pub returns-then-count-gt-MOST_ENTITIES : goal.returns-then-count-gt-MOST_ENTITIES
+returns-then-count-gt-MOST_ENTITIES c = search laws
+
+pub returns-in-At : goal.returns-in-At
+returns-in-At c = search laws
+
+pub returns-in-At-wrong_layout : goal.returns-in-At-wrong_layout
+returns-in-At-wrong_layout c = search laws
+
+pub returns : goal.returns
 returns c = search laws
-
-returns_2 : tie.Need-returns-2
-returns_2 c = search laws
-
-check_buffer_requires : tie.Need-check-buffer-requires
-check_buffer_requires c κs = search laws
-
-enum_known_place : tie.Need-enum-known-place
-enum_known_place c = search laws
-
-returns_3 : tie.Need-returns-3
-returns_3 c = search laws
-
-enum_told : tie.Need-enum-told
-enum_told c = search laws
-
-wrong_layout_requires : tie.Need-wrong-layout-requires
-wrong_layout_requires c κs = search laws
-
-enum_known_place_2 : tie.Need-enum-known-place-2
-enum_known_place_2 c = search laws
-
-returns_4 : tie.Need-returns-4
-returns_4 c = search laws
-
-enum_told_2 : tie.Need-enum-told-2
-enum_told_2 c = search laws
-
-returns_5 : tie.Need-returns-5
-returns_5 c = search laws
-
-pub judge_run_spec : {M : Type 1} → statement M
-judge_run_spec =
-    tie.close
-    (tie.spec
-    returns
-    returns_2
-    check_buffer_requires
-    enum_known_place
-    returns_3
-    enum_told
-    wrong_layout_requires
-    enum_known_place_2
-    returns_4
-    enum_told_2
-    returns_5)
