@@ -154,6 +154,9 @@ module _ (st su : State) (same : SameState st su) (sound : Sound st.table) (whol
 
 -- the same controls stored at their indices, in the one table and in the other
 pair_as : (ps qs : List ℕ) (cs : List Control) → length ps ≡ length qs → (i : ℕ) (c : Control) → Pair ps cs i c → (j : ℕ) × Pair qs cs j c
+pair_as [] qs cs l i e h = elim h [ ]
+pair_as (p ∷ ps) [] [] l i e h = elim h [ ]
+pair_as (p ∷ ps) (q ∷ qs) [] l i e h = elim h [ ]
 pair_as (p ∷ ps) [] (c ∷ cs) l i e h = absurd (omega arith)
 pair_as (p ∷ ps) (q ∷ qs) (c ∷ cs) l _ _ front = (q, front)
 pair_as (p ∷ ps) (q ∷ qs) (c ∷ cs) l i e (behind h) = let k = pair_as ps qs cs (omega arith) i e h in (k.0, behind k.1)
