@@ -48,11 +48,14 @@ module _ (ask : ℕ → List Way) (x : ℕ) where
       let q : suc k + j ≡ k + suc j = omega arith in
       Memᴰ.append_right (map (via k x) (ask y)) (subst (λ (i : ℕ). via i x v ∈ by_pins ask x (suc k) ys) q (pins_in (suc k) ys j (le_of_suc-le-suc h) v a))
 
+crossed : {p q a b : List ℕ} → PinsBefore p q → PinsBefore a b → a ≡ q → b ≡ p → ⊥
+crossed (here {k = i} {l = j} h) (here {k = k} {l = l} g) e f = let x : k ≡ j = cc in let y : l ≡ i = cc in omega arith
+crossed (here {k = i} {l = j} h) (later {k = k} g) e f = let x : k ≡ j = cc in let y : k ≡ i = cc in omega arith
+crossed (later {k = k} h) (here {k = i} {l = j} g) e f = let x : i ≡ k = cc in let y : j ≡ k = cc in omega arith
+crossed (later {p = p} {q = q} h) (later {p = a} {q = b} g) e f = let x : a ≡ q = cc in let y : b ≡ p = cc in crossed h g x y
+
 before_not : {p q : List ℕ} → PinsBefore p q → PinsBefore q p → ⊥
-before_not (here h) (here l) = omega arith
-before_not (here h) (later b) = omega arith
-before_not (later a) (here h) = omega arith
-before_not (later a) (later b) = before_not a b
+before_not h g = crossed h g refl refl
 
 before_self : {p : List ℕ} → PinsBefore p p → ⊥
 before_self b = before_not b b

@@ -1,4 +1,3 @@
--- The entities are noted one by one: at each ID stand the numbers of the last that bears it, of those before the one come to.
 use borrow.Author.Rules.{rules}
 use Prim.Native.Nat.{ℕ, ◌+◌, ◌-◌, ◌≤◌, ◌<◌}
 use mathlib.Core.Path.{◌≡◌, refl, sym, ap, ◌∙◌}
@@ -16,30 +15,29 @@ use Rattle.entities.specs.declared.Node.{Node}
 use Rattle.entities.specs.declared.Run.{Run}
 use Rattle.entities.specs.Run.{blank_node, held, node_at, id_at}
 use Rattle.routing.specs.Listing.{bearer_below, bearer, source_places_of}
-use Rattle.routing.proofs.source_places.Statement.{statement}
-use Rattle.routing.proofs.source_places.Tie as tie
+use Rattle.routing.proofs.source_places.Given as goal
 
 module _ (run : Run) where
-  bearer_here : (i k : ℕ) → k ≡ id_at run i → bearer_below run (i + 1) k ≡ node_at run i
+  pub bearer_here : (i k : ℕ) → k ≡ id_at run i → bearer_below run (i + 1) k ≡ node_at run i
   unfolding bearer_below
   bearer_here i k e = rw add-one (yes _ _ (eq-eqb (id_at run i) k (sym e)))
 
-  bearer_other : (i k : ℕ) → (k ≡ id_at run i → ⊥) → bearer_below run (i + 1) k ≡ bearer_below run i k
+  pub bearer_other : (i k : ℕ) → (k ≡ id_at run i → ⊥) → bearer_below run (i + 1) k ≡ bearer_below run i k
   unfolding bearer_below
   bearer_other i k f = rw add-one (no _ _ (ne_eqb (id_at run i) k (λ e. f (sym e))))
 
   -- one table
   module _ (number : Node → ℕ) where
-    record Noted (table : List ℕ) (i : ℕ) : Type 0 where
-      long : length table ≡ 256
-      at : (x : ℕ) → x < 256 → get_or table x 0 ≡ number (bearer_below run i x)
+    pub record Noted (table : List ℕ) (i : ℕ) : Type 0 where
+      pub long : length table ≡ 256
+      pub at : (x : ℕ) → x < 256 → get_or table x 0 ≡ number (bearer_below run i x)
 
-    noted_none : number blank_node ≡ 0 → Noted (replicate 256 0) 0
+    pub noted_none : number blank_node ≡ 0 → Noted (replicate 256 0) 0
     unfolding bearer_below
     noted_none z = record { long = length-replicate {A = ℕ} 256 0; at = λ x l. get_or-replicate {A = ℕ} 256 x 0 0 l ∙ sym z }
 
     module _ (table : List ℕ) (i : ℕ) (g : Noted table i) where
-      noted_more : (x : ℕ) → x ≡ id_at run i → x < 256 → Noted (set table x (number (node_at run i))) (i + 1)
+      pub noted_more : (x : ℕ) → x ≡ id_at run i → x < 256 → Noted (set table x (number (node_at run i))) (i + 1)
       noted_more x w l = record {
         long = length-set table x (number (node_at run i)) ∙ g.long;
         at = λ k h. ⊎_elim (λ e. same k e) (λ f. other k h f) (decided (eqb k x) (reads_eq k x));
@@ -53,28 +51,28 @@ module _ (run : Run) where
           other : (k : ℕ) → k < 256 → (k ≡ x → ⊥) → get_or (set table x (number (node_at run i))) k 0 ≡ number (bearer_below run (i + 1) k)
           other k h f = get_or-set_other table x k (number (node_at run i)) 0 f ∙ g.at k h ∙ sym (ap number (bearer_other i k (λ e. f (e ∙ sym w))))
 
-      noted_all : i ≡ held run → table ≡ tabulate 256 (λ x. number (bearer run x))
+      pub noted_all : i ≡ held run → table ≡ tabulate 256 (λ x. number (bearer run x))
       noted_all e =
           sym (tabulate_get_d table 0) ∙ ap (λ (k : ℕ). tabulate k (λ x. get_or table x 0)) g.long
           ∙ tabulate_same 256 (λ x. get_or table x 0) (λ x. number (bearer run x)) (λ x l. g.at x l ∙ ap (λ (k : ℕ). number (bearer_below run k x)) e)
 
-  abbrev first_of : Node → ℕ
+  abbrev pub first_of : Node → ℕ
   first_of n = n.first
 
-  abbrev pins_of : Node → ℕ
+  abbrev pub pins_of : Node → ℕ
   pins_of n = n.pins
 
-  record Both (firsts counts : List ℕ) (i : ℕ) : Type 0 where
-    low : i ≤ held run
-    firsts_are : Noted first_of firsts i
-    counts_are : Noted pins_of counts i
+  pub record Both (firsts counts : List ℕ) (i : ℕ) : Type 0 where
+    pub low : i ≤ held run
+    pub firsts_are : Noted first_of firsts i
+    pub counts_are : Noted pins_of counts i
 
-  start : Both (replicate 256 0) (replicate 256 0) 0
+  pub start : Both (replicate 256 0) (replicate 256 0) 0
   unfolding blank_node
   start = record { low = omega arith; firsts_are = noted_none first_of refl; counts_are = noted_none pins_of refl }
 
   module _ (firsts counts : List ℕ) (i : ℕ) (g : Both firsts counts i) where
-    on : (x : ℕ) → (x ≡ id_at run i) × (x < 256) → (n : ℕ) → n ≡ held run → i < n
+    pub on : (x : ℕ) → (x ≡ id_at run i) × (x < 256) → (n : ℕ) → n ≡ held run → i < n
         → Both (set firsts x (node_at run i).first) (set counts x (node_at run i).pins) (i + 1)
     on x w n m h = record {
       low = omega arith;
@@ -82,73 +80,15 @@ module _ (run : Run) where
       counts_are = noted_more pins_of counts i g.counts_are x w.0 w.1;
     }
 
-    over : (n : ℕ) → n ≡ held run → n ≤ i → record { firsts = firsts; counts = counts } ≡ source_places_of run
+    pub over : (n : ℕ) → n ≡ held run → n ≤ i → record { firsts = firsts; counts = counts } ≡ source_places_of run
     unfolding source_places_of
     over n m h =
         let l = g.low in
         let e : i ≡ held run = omega arith in
         rw (noted_all first_of firsts i g.firsts_are e, noted_all pins_of counts i g.counts_are e) refl
 
-ruleset laws = (start, on, over, rules)
+abbrev pub invariant-loop-i : goal.invariant-loop-i
+invariant-loop-i l = Both l.run l.firsts l.counts l.i
 
-abbrev invariant-loop : tie.invariant-loop
-invariant-loop run n firsts₀ counts₀ i₀ firsts counts i = Both run firsts counts i
-
-abbrev decreases-loop : tie.decreases-loop
-decreases-loop run n firsts₀ counts₀ i₀ firsts counts i = n - i
-
-count_requires : tie.Need-count-requires invariant-loop decreases-loop
-count_requires c κs = search laws
-
-loop_holds : tie.Need-loop-init invariant-loop decreases-loop
-loop_holds c = search laws
-
-mul_node : tie.Need-overflow-mul-node invariant-loop decreases-loop
-mul_node c = search laws
-
-element_copy_out_node : tie.Need-element-copy-out-node invariant-loop decreases-loop
-element_copy_out_node c = search laws
-
-index_of_requires : tie.Need-index-of-requires invariant-loop decreases-loop
-index_of_requires c κs = search laws
-
-mul_firsts : tie.Need-overflow-mul-firsts invariant-loop decreases-loop
-mul_firsts c = search laws
-
-array_write_firsts : tie.Need-array-write-firsts invariant-loop decreases-loop
-array_write_firsts c = search laws
-
-array_write_counts : tie.Need-array-write-counts invariant-loop decreases-loop
-array_write_counts c = search laws
-
-add_i : tie.Need-overflow-add-i invariant-loop decreases-loop
-add_i c = search laws
-
-loop_less : tie.Need-loop-smaller invariant-loop decreases-loop
-loop_less c = search laws
-
-loop_again : tie.Need-loop-preserved invariant-loop decreases-loop
-unfolding blank_node
-loop_again c = search laws
-
-returns : tie.Need-returns invariant-loop decreases-loop
-returns c = search laws
-
-pub source_places_spec : {M : Type 1} → statement M
-source_places_spec =
-    tie.close
-    (tie.spec
-    invariant-loop
-    decreases-loop
-    count_requires
-    loop_holds
-    mul_node
-    element_copy_out_node
-    index_of_requires
-    mul_firsts
-    array_write_firsts
-    array_write_counts
-    add_i
-    loop_less
-    loop_again
-    returns)
+abbrev pub decreases-loop-i : goal.decreases-loop-i
+decreases-loop-i l = l.n - l.i

@@ -17,8 +17,7 @@ use Rattle.routing.specs.declared.SourcePlaces.{SourcePlaces}
 use Rattle.routing.specs.WaysLaws.{ways_same}
 use Rattle.routing.specs.Listing.{named_in, source_places_of, is_output, ways_for, listing_in, list_in}
 use Rattle.routing.specs.ListingLaws.{tables_named, named_bytes}
-use Rattle.routing.proofs.list_run.Statement.{statement}
-use Rattle.routing.proofs.list_run.Tie as tie
+use Rattle.routing.proofs.list_run.Goals as goal
 
 module _ (s : List ℕ) (run : Run) (x : ℕ) (b : Bool) (e : b ≡ is_output run x) where
   other_answer : not b ≡ true → (r : Listing) → r ≡ refused_with 45 0 → (room : ℕ) → r ≡ listing_in s run x room
@@ -44,41 +43,17 @@ module _ (s : List ℕ) (run : Run) (x : ℕ) (b : Bool) (e : b ≡ is_output ru
 
 ruleset laws = (other_answer, other_list, rules)
 
-is_output_requires : tie.Need-is-output-requires
-is_output_requires c κs = search laws
+pub returns-then-not-is_output-clause-value : goal.returns-then-not-is_output-clause-value
+returns-then-not-is_output-clause-value c = search laws
 
-refused_requires : tie.Need-refused-requires
-refused_requires c κs = search laws
+pub returns-then-not-is_output-clause-list_after : goal.returns-then-not-is_output-clause-list_after
+returns-then-not-is_output-clause-list_after c = search laws
 
-returns : tie.Need-returns
-returns c = (search laws, search laws)
-
-source_places_requires : tie.Need-source-places-requires
-source_places_requires c κs = search laws
-
-list_ways_requires : tie.Need-list-ways-requires
-list_ways_requires c κs = search laws
-
-same_length : tie.Need-same-length
-same_length c = search laws
-
-returns_2 : tie.Need-returns-2
-returns_2 c =
-    let out = c.before.before.before.before.before.before.before.before.before.is-output.ensures in
-    let byte : c.before.before.before.before.before.before.before.before.before.before.before.before.args.id < 256 = omega (arith, c.before.before.before.before.before.before.before.before.before.before.before.before.ranges.id.fits) in
-    let bytes : (k : ℕ) → get_or c.before.before.before.before.before.before.before.before.before.before.before.before.args.config.now k 0 < 256 = λ k. omega (arith, c.before.before.before.before.before.before.before.before.before.before.before.shared-slice-known.given k) in (
-      answer _ _ _ _ out c.before.before.before.before.before.before.before.before.if1.false _ c.before.before.before.before.before.before.before.source-places.ensures byte bytes _ _ c.before.before.list-ways.ensures.0,
-      list _ _ _ _ out c.before.before.before.before.before.before.before.before.if1.false _ c.before.before.before.before.before.before.before.source-places.ensures byte bytes _ _ c.before.before.list-ways.ensures.1,
-    )
-
-pub list_run_spec : {M : Type 1} → statement M
-list_run_spec =
-    tie.close
-    (tie.spec
-    is_output_requires
-    refused_requires
-    returns
-    source_places_requires
-    list_ways_requires
-    same_length
-    returns_2)
+pub returns : goal.returns
+returns c =
+    let byte : c.args.id < 256 = omega (arith, c.ranges.id.fits) in
+    let bytes : (k : ℕ) → get_or c.args.config.now k 0 < 256 = λ k. omega (arith, c.type_inv.config k) in
+    record {
+      value = answer _ _ _ _ c.is_output.ensures (ap not c.if-not-is_output.false) _ c.source_places-tables.ensures byte bytes _ _ c.list_ways.ensures.value;
+      list_after = list _ _ _ _ c.is_output.ensures (ap not c.if-not-is_output.false) _ c.source_places-tables.ensures byte bytes _ _ c.list_ways.ensures.list_after;
+    }

@@ -15,8 +15,7 @@ use Rattle.topology.specs.Verdict.{finding_refusal, finding_taken}
 use Rattle.upstream.specs.declared.Listing.{Listing}
 use Rattle.upstream.specs.Listing.{refused_with}
 use Rattle.routing.specs.Listing.{listing_in, list_in, listing_of, list_after}
-use Rattle.routing.proofs.list_routes.Statement.{statement}
-use Rattle.routing.proofs.list_routes.Tie as tie
+use Rattle.routing.proofs.list_routes.Goals as goal
 
 module _ (s : List ℕ) (f : Finding) (e : f ≡ finding_of s) (x : ℕ) where
   refusal_is : f.refusal ≡ judged_then s none
@@ -53,25 +52,14 @@ module _ (s : List ℕ) (f : Finding) (e : f ≡ finding_of s) (x : ℕ) where
 
 ruleset laws = (refused_answer, refused_list, taken_answer, taken_list, rules)
 
-judge_requires : tie.Need-judge-requires
-judge_requires c κs = search laws
+pub returns-then-refusal-ne0-clause-value : goal.returns-then-refusal-ne0-clause-value
+returns-then-refusal-ne0-clause-value c = search laws
 
-refused_requires : tie.Need-refused-requires
-refused_requires c κs = search laws
+pub returns-then-refusal-ne0-clause-list_after : goal.returns-then-refusal-ne0-clause-list_after
+returns-then-refusal-ne0-clause-list_after c = search laws
 
-returns : tie.Need-returns
-returns c = (search laws, search laws)
+pub returns-clause-value : goal.returns-clause-value
+returns-clause-value c = search laws
 
-list_run_requires : tie.Need-list-run-requires
-list_run_requires c κs = search laws
-
-same_length : tie.Need-same-length
-same_length c = search laws
-
-returns_2 : tie.Need-returns-2
-returns_2 c = (search laws, search laws)
-
-pub list_routes_spec : {M : Type 1} → statement M
-list_routes_spec =
-    tie.close
-    (tie.spec judge_requires refused_requires returns list_run_requires same_length returns_2)
+pub returns-clause-list_after : goal.returns-clause-list_after
+returns-clause-list_after c = search laws
