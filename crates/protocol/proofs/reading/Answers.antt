@@ -5,8 +5,7 @@ use Rattle.table.specs.declared.Table.{Table}
 use Rattle.table.specs.Controls.{empty_table}
 use Rattle.third.specs.declared.SheetAnswer.{SheetAnswer}
 use Rattle.protocol.specs.Protocol.{sheet_reading}
-use Rattle.protocol.proofs.reading.Statement.{statement}
-use Rattle.protocol.proofs.reading.Tie as tie
+use Rattle.protocol.proofs.reading.Goals as goal
 
 made : (a : SheetAnswer) (t : Table) → t ≡ empty_table → record { number = a.number; place = a.place; control = 0; entities = a.entities; controls = 0; table = t } ≡ sheet_reading a
 unfolding sheet_reading
@@ -14,11 +13,5 @@ made a t e = rw e refl
 
 ruleset laws = (made, rules)
 
-empty_requires : tie.Need-empty-requires
-empty_requires c κs = search laws
-
-returns : tie.Need-returns
+pub returns : goal.returns
 returns c = search laws
-
-pub reading_spec : {M : Type 1} → statement M
-reading_spec = tie.close (tie.spec empty_requires returns)

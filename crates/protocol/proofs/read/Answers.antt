@@ -13,8 +13,7 @@ use Rattle.topology.specs.Reading.{reading_of, sheet_of}
 use Rattle.third.specs.declared.SheetAnswer.{SheetAnswer}
 use Rattle.third.specs.Judgement.{third_answer, third_sheet}
 use Rattle.protocol.specs.Protocol.{version3, protocol_of, sheet_reading, either_reading, either_sheet}
-use Rattle.protocol.proofs.read.Statement.{statement}
-use Rattle.protocol.proofs.read.Tie as tie
+use Rattle.protocol.proofs.read.Goals as goal
 
 module _ (s b d : List ℕ) (p : ℕ) (e : p ≡ protocol_of s) where
   by_third : p ≡ 48 → (a : SheetAnswer) → a ≡ third_answer s b (length d) → (x : List ℕ) → x ≡ third_sheet s b d → (r : Reading) → r ≡ sheet_reading a
@@ -33,45 +32,12 @@ module _ (s b d : List ℕ) (p : ℕ) (e : p ≡ protocol_of s) where
 
 ruleset laws = (by_third, by_first, rules)
 
-protocol_of_requires : tie.Need-protocol-of-requires
-protocol_of_requires c κs = search laws
+pub returns-then-protocol_of-eq-VERSION_3 : goal.returns-then-protocol_of-eq-VERSION_3
+returns-then-protocol_of-eq-VERSION_3 c =
+    let r = by_third _ _ _ _ c.protocol_of.ensures c.if-protocol_of-eq-VERSION_3.true _ c.read.ensures.value _ c.read.ensures.sheet_after _ c.reading.ensures in
+    record { value = r.0; sheet_after = r.1 }
 
-read_requires : tie.Need-read-requires
-read_requires c κs = search laws
-
-reading_requires : tie.Need-reading-requires
-reading_requires c κs = search laws
-
-same_length : tie.Need-same-length
-same_length c = search laws
-
-returns : tie.Need-returns
+pub returns : goal.returns
 returns c =
-    let h = c.before.before.before in
-    let i = h.before.before in
-    by_third _ _ _ _ i.before.protocol-of.ensures i.if1.true _ h.read.ensures.0 _ h.read.ensures.1 _ c.reading.ensures
-
-read_requires_2 : tie.Need-read-requires-2
-read_requires_2 c κs = search laws
-
-same_length_2 : tie.Need-same-length-2
-same_length_2 c = search laws
-
-returns_2 : tie.Need-returns-2
-returns_2 c =
-    let h = c.before.before in
-    let i = h.before.before in
-    by_first _ _ _ _ i.before.protocol-of.ensures i.if1.false _ h.read2.ensures.0 _ h.read2.ensures.1
-
-pub read_spec : {M : Type 1} → statement M
-read_spec =
-    tie.close
-    (tie.spec
-    protocol_of_requires
-    read_requires
-    reading_requires
-    same_length
-    returns
-    read_requires_2
-    same_length_2
-    returns_2)
+    let r = by_first _ c.args.clusters.now _ _ c.protocol_of.ensures c.if-protocol_of-eq-VERSION_3.false _ c.read-2.ensures.value _ c.read-2.ensures.sheet_after in
+    record { value = r.0; sheet_after = r.1 }
