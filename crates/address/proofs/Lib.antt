@@ -1,1 +1,2 @@
+pub mod AddressedLemmas
 mod Seeking

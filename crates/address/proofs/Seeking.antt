@@ -29,7 +29,8 @@ use Rattle.sound.specs.Meaning.{Sound, sound_reads}
 use Rattle.sound.specs.Rising.{Keyed, TopsAbove, rising_start, rising_on, rising_over}
 use Rattle.address.specs.declared.Sought.{Sought}
 use Rattle.address.specs.Addressed.{most_addressed, indices_of, seat_at, seats_from, addressed_in, unit_in}
-use Rattle.address.specs.AddressedLaws.{sound_channel, is_named, Named, named_reads, SeatedOn, seat_named, named_seat, seats_on}
+use Rattle.address.specs.AddressedLaws.{sound_channel, is_named, Named, named_reads, SeatedOn, seat_named, named_seat}
+use Rattle.address.proofs.AddressedLemmas.{seats_on}
 use Rattle.address.specs.Sought.{none_sought, told_of, sought_for, sought_in}
 use Rattle.address.specs.Seats.{seat_of, seated_in}
 

@@ -1,2 +1,3 @@
+pub mod PluggingLemmas
 mod Drafted
 mod Admitting

@@ -1,11 +1,7 @@
 -- What a Set and a Get ask of a list of controls and of the same list with one control more behind it.
---   block_long           ==  a block has the bytes of all its controls; cut_long: and what is sent of it the lesser of those and wLength
 --   size_least, size_most  ==  a control's value has one byte or two; sizes_most: and those of a list so many together
 --   sizes_snoc, takes_snoc, sets_snoc, block_snoc  ==  sizes, 38, what is stored and the block, of one control more
---   sets_long            ==  a Set leaves as many controls as there were
 --   byte_sent, word_sent ==  the number that one byte of the data is, or two
---   set_by_number, get_by_number  ==  a Set and a Get by the number of their refusal
---   set_silent           ==  a Set writes nothing
 use Rattle.std.specs.Prelude.{ℕ, suc, ◌+◌, ◌*◌, ◌≤◌, min, ◌≡◌, refl, List, [], ◌∷◌, ◌++◌, Bool, true, false, ◌&&◌, length, get_or, take, drop, eqb, ltb}
 use Rattle.std.proofs.Common.{sym, ap, ◌∙◌, append-nil, append_assoc, add-zero, arith, length-append, length-take, get_or-drop, drop-drop}
 use Rattle.std.proofs.Math.Bool.{and-true, and_assoc}
@@ -58,78 +54,7 @@ byte_sent d k = sym (one_byte (drop k d) ∙ get_or-drop k d 0 0 ∙ ap (byte d)
 pub word_sent : (d : List ℕ) (k : ℕ) → word d k ≡ value_in (take 2 (drop k d))
 word_sent d k = rw (two_bytes (drop k d), get_or-drop k d 0 0, get_or-drop k d 1 0, add-zero k)
 
-pub block_long : (part : Part) (cs : List Control) → length (block_of part cs) ≡ sizes_of cs
-unfolding block_of sizes_of
-block_long part [] = refl
-block_long part (c ∷ cs) = rw (length-append (low_first (size_in c) (part_of part c)) (block_of part cs), low_first_long (size_in c) (part_of part c), block_long part cs)
-
-pub cut_long : (n : ℕ) (part : Part) (cs : List Control) → length (cut_to n part cs) ≡ min n (sizes_of cs)
-cut_long n part cs = length-take n (block_of part cs) ∙ ap (min n) (block_long part cs)
-
--- one control more
-pub sizes_snoc : (cs : List Control) (c : Control) → sizes_of (cs ++ c ∷ []) ≡ sizes_of cs + size_in c
-unfolding sizes_of
-sizes_snoc [] c = omega arith
-sizes_snoc (e ∷ cs) c = let h = sizes_snoc cs c in omega arith
-
-pub sizes_most : (cs : List Control) → sizes_of cs ≤ length cs * 2
-unfolding sizes_of
-sizes_most [] = omega arith
-sizes_most (c ∷ cs) = let h = sizes_most cs in let m = size_most (held_by c) in omega arith
-
-pub takes_snoc : (cs : List Control) (c : Control) (d : List ℕ)
-    → all_take (cs ++ c ∷ []) d ≡ (all_take cs d && takes (held_by c) c (sent_to c (drop (sizes_of cs) d)))
-unfolding all_take sizes_of
-takes_snoc [] c d = and-true (takes (held_by c) c (sent_to c d))
-takes_snoc (e ∷ cs) c d =
-    rw (takes_snoc cs c (rest_of e d), drop-drop (sizes_of cs) (size_in e) d)
-    (sym (and_assoc (takes (held_by e) e (sent_to e d)) (all_take cs (rest_of e d)) (takes (held_by c) c (sent_to c (drop (size_in e + sizes_of cs) d)))))
-
-pub sets_snoc : (cs : List Control) (c : Control) (d : List ℕ)
-    → all_set (cs ++ c ∷ []) d ≡ all_set cs d ++ with_cur (stored_for (held_by c) c (sent_to c (drop (sizes_of cs) d))) c ∷ []
-unfolding all_set sizes_of
-sets_snoc [] c d = refl
-sets_snoc (e ∷ cs) c d = rw (sets_snoc cs c (rest_of e d), drop-drop (sizes_of cs) (size_in e) d)
-
-pub sets_long : (cs : List Control) (d : List ℕ) → length (all_set cs d) ≡ length cs
-unfolding all_set
-sets_long [] d = refl
-sets_long (c ∷ cs) d = ap suc (sets_long cs (rest_of c d))
-
 pub block_snoc : (part : Part) (cs : List Control) (c : Control) → block_of part (cs ++ c ∷ []) ≡ block_of part cs ++ low_first (size_in c) (part_of part c)
 unfolding block_of
 block_snoc part [] c = append-nil (low_first (size_in c) (part_of part c))
 block_snoc part (e ∷ cs) c = rw (block_snoc part cs c) (sym (append_assoc (low_first (size_in e) (part_of part e)) (block_of part cs) (low_first (size_in c) (part_of part c))))
-
-silent : (b : Bool) (o q : Doing) → bytes_in o ≡ [] → bytes_in q ≡ [] → bytes_in (pick b o q) ≡ []
-silent true o q e f = e
-silent false o q e f = f
-
-pub set_silent : (cs : List Control) (n : ℕ) (d : List ℕ) → bytes_in (set_of cs n d) ≡ []
-unfolding set_of
-set_silent cs n d = silent (any (λ c. unready (held_by c) c) cs) _ _ refl (silent (misfits cs n d) _ _ refl (silent (all_take cs d) _ _ refl refl))
-
--- the rows, by their number
-set_picked : (u m t : Bool) (o : Doing) (n : ℕ) → n ≡ pick u 36 (pick m 37 (pick t 0 38)) → pick u (denied 36) (pick m (denied 37) (pick t o (denied 38))) ≡ pick (eqb n 0) o (denied n)
-set_picked true m t o n e = rw e
-set_picked false true t o n e = rw e
-set_picked false false true o n e = rw e
-set_picked false false false o n e = rw e
-
-pub set_by_number : (cs : List Control) (n : ℕ) (d : List ℕ) (x : ℕ) → x ≡ set_number (any (λ c. unready (held_by c) c) cs) (all_take cs d) (sizes_of cs) n (length d)
-    → set_of cs n d ≡ pick (eqb x 0) (changed (all_set cs d)) (denied x)
-unfolding set_of set_number
-set_by_number cs n d x e = set_picked (any (λ c. unready (held_by c) c) cs) (misfits cs n d) (all_take cs d) _ x e
-
-get_picked : (k u r : Bool) (o : Doing) (n : ℕ) → n ≡ pick k 35 (pick u 36 (pick r 39 0)) → pick k (denied 35) (pick u (denied 36) (pick r (denied 39) o)) ≡ pick (eqb n 0) o (denied n)
-get_picked true u r o n e = rw e
-get_picked false true r o n e = rw e
-get_picked false false true o n e = rw e
-get_picked false false false o n e = rw e
-
-pub get_by_number : (part : Part) (cs : List Control) (n room x : ℕ)
-    → x ≡ get_number (any (λ c. lacking (held_by c) part) cs) (any (λ c. unready (held_by c) c) cs) (length (cut_to n part cs)) room
-    → get_of part cs n room ≡ pick (eqb x 0) (given (cut_to n part cs)) (denied x)
-unfolding get_of get_number
-get_by_number part cs n room x e =
-    get_picked (any (λ c. lacking (held_by c) part) cs) (any (λ c. unready (held_by c) c) cs) (ltb room (length (cut_to n part cs))) _ x e

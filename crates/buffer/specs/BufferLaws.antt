@@ -20,7 +20,8 @@ use Rattle.ground.specs.Numbers.{word}
 use Rattle.ground.specs.Lists.{any, reads_any, total, part, part_drop, flatten_append, length_flatten, of_split}
 use Rattle.ground.specs.First.{first_from, Sound, Breaks, first_nowhere, first_at, first_before, first_none_any, is_before, sound_none}
 use Rattle.scan.specs.Cutting.{Piece, end_by, rest_by, breach_by, MisfitBy}
-use Rattle.scan.specs.PieceLaws.{StandingBy, standing, end_none, end_off, end_stands, rest_none, rest_more, rest_of, starts_end, starts_part, cut_rest, cut_exists, cut_misfit}
+use Rattle.scan.specs.PieceLaws.{StandingBy, standing, end_none, end_off, end_stands, rest_none, rest_more, rest_of, starts_end, starts_part, cut_rest}
+use Rattle.scan.proofs.PieceLemmas.{cut_exists, cut_misfit}
 use Rattle.scan.specs.Search.{PassedBy}
 use Rattle.buffer.specs.Clusters.{two_bytes, cluster_id, WrongCluster, Buffer, Fault, no_piece, wrong_id_lem, Broken51}
 use Rattle.buffer.specs.Reading.{pieces, bearing, found_cluster, cluster_in, cluster_with, is_wrong_cluster, found_or, breach51}

@@ -10,7 +10,8 @@ use mathlib.Core.List.Memᴰ
 use mathlib.Core.List.{List, [], ◌∷◌, map}
 use Rattle.graph.specs.Members.{◌∈◌}
 use Rattle.graph.specs.Tables.{below, below_lt, map_tabulate, tabulate_get_d}
-use Rattle.graph.specs.Along.{put, given, given_out, made_along}
+use Rattle.graph.specs.Along.{put, given, given_out}
+use Rattle.graph.proofs.AlongLemmas.{made_along}
 use Rattle.entities.specs.declared.Node.{Node}
 use Rattle.entities.specs.declared.Run.{Run}
 use Rattle.entities.specs.Run.{held, node_at, id_at, sources_of, sources_at}

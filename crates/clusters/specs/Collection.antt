@@ -2,7 +2,6 @@
 -- never for a place: a run with the same descriptors is connected by the same ranks and the same clusters.
 --   SameMembers ds es  ==  the descriptors of ds are those of es
 --   wrong_source_members, rule11_members  ==  rule 11 is the same for both
---   connected_members  ==  THE LAW: so is the whole topology, rule 10 apart, which names the later of two that bear one ID
 use Rattle.std.specs.Prelude.{ℕ, List, ◌↔◌}
 use Rattle.graph.specs.Members.{◌∈◌}
 use Rattle.edition.specs.Edition.{Edition}
@@ -21,14 +20,3 @@ module _ {ed : Edition} {ds es : List (List ℕ)} (same : SameMembers ds es) whe
 
   pub rule11_members : Rule11 ed ds → Rule11 ed es
   rule11_members r d m w = r d ((same d).1 m) (record { one = w.one; among = w.among; has = wrong_source_members w.one w.has })
-
-  pub connected_members : Rule10 es → Connected ed ds → Connected ed es
-  connected_members own c = record {
-    rule10 = own;
-    rule11 = rule11_members c.rule11;
-    rank = c.rank;
-    ranked = λ d m. c.ranked d ((same d).1 m);
-    cluster = c.cluster;
-    given_out = λ d m. c.given_out d ((same d).1 m);
-    fits = λ d m. c.fits d ((same d).1 m);
-  }

@@ -37,7 +37,8 @@ use Rattle.sources.specs.Rule11.{Rule11}
 use Rattle.ranks.specs.Rule12.{Rule12}
 use Rattle.ranks.specs.Order.{ordered}
 use Rattle.clusters.specs.Rule13.{entering, GivenOut, Fits, Rule13, Broken, Connected}
-use Rattle.clusters.specs.Topology.{given_by_index, cluster_on, ranks_kept, swept_each, unfit_nowhere, unfit_at}
+use Rattle.clusters.specs.Topology.{ranks_kept, swept_each}
+use Rattle.clusters.proofs.TopologyLemmas.{given_by_index, cluster_on, unfit_nowhere, unfit_at}
 use Rattle.sweep3.specs.Sweep.{first_id, given_ids}
 use Rattle.keeping3.specs.Keeping.{keeps_by, breach13}
 use Rattle.clusters3.specs.Shown.{shown_cluster, clusters_by}

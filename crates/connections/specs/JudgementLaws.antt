@@ -28,10 +28,10 @@ use Rattle.sources.specs.GraphLaws.{known_run}
 use Rattle.ranks.specs.Rule12.{Endless, Rule12}
 use Rattle.ranks.specs.Order.{ordered}
 use Rattle.ranks.specs.Breach.{breach12}
-use Rattle.ranks.specs.Rule12Laws.{rule12_nowhere, rule12_at}
+use Rattle.ranks.proofs.Rule12Laws.{rule12_nowhere, rule12_at}
 use Rattle.clusters.specs.Rule13.{Broken, Rule13}
 use Rattle.clusters.specs.Breach.{given_for, breach13}
-use Rattle.clusters.specs.Topology.{rule13_nowhere, rule13_at}
+use Rattle.clusters.proofs.TopologyLemmas.{rule13_nowhere, rule13_at}
 use Rattle.connections.specs.Judgement.{judged}
 
 module _ (p : ℕ) (ds : List (List ℕ)) where

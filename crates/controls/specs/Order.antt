@@ -12,7 +12,7 @@ use Rattle.layout.specs.declared.Cluster.{Cluster}
 use Rattle.layout.specs.declared.Entity.{Entity}
 use Rattle.layout.specs.declared.Entity.TheVariants.{Unknown, Input, Output, Mixer, Selector, Feature}
 use Rattle.layout.specs.Layout.{entity_of}
-use Rattle.layout.specs.LayoutLaws.{told}
+use Rattle.layout.proofs.LayoutLemmas.{told}
 use Rattle.edition.specs.Edition.{own_id}
 use Rattle.table.specs.declared.Control.{Control}
 use Rattle.masks.specs.Masks.{feature_controls}

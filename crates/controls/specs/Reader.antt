@@ -17,8 +17,10 @@ use Rattle.graph.specs.Members.{◌∈◌}
 use Rattle.layout.specs.declared.Cluster.{Cluster}
 use Rattle.layout.specs.Layout.{Pins, LaidOut, no_cluster, entity_of}
 use Rattle.layout.specs.declared.Entity.{Entity}
-use Rattle.layout.specs.LayoutLaws.{Told, told}
+use Rattle.layout.specs.LayoutLaws.{Told}
+use Rattle.layout.proofs.LayoutLemmas.{told}
 use Rattle.layout.specs.LayoutLaws as laid
+use Rattle.layout.proofs.LayoutLemmas as laid_laws
 use Rattle.edition.specs.Edition.{own_id, DistinctIds}
 use Rattle.edition.specs.Audio.{audio}
 use Rattle.entities.specs.declared.Run.{Run}

@@ -24,7 +24,8 @@ use Rattle.ground.specs.Rows.{FirstBroken}
 use Rattle.graph.specs.Members.{◌∈◌}
 use Rattle.scan.specs.Search.{searched}
 use Rattle.scan.specs.Cutting.{end_by, rest_from_by, rest_by, Cutting, Rule3, Misfit}
-use Rattle.scan.specs.CuttingLaws.{cutting_one, cutting_exists, cutting_misfit}
+use Rattle.scan.specs.CuttingLaws.{cutting_one}
+use Rattle.scan.proofs.CuttingLemmas.{cutting_exists, cutting_misfit}
 use Rattle.search.specs.Want.{Audio, is_interface, is_audio, wants, found_from}
 use Rattle.opening.specs.Rules1and2.{Rule1, Rule2}
 use Rattle.interfaces.specs.Rule4.{second_control, Rule4, Broken4, wrong, missing}

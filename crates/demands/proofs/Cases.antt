@@ -45,7 +45,7 @@ use Rattle.masks.specs.Masks.{bit_carries, bit_set, bit_controls, bits_from, mas
 use Rattle.controls.specs.Controls.{entity_controls, controls_to, controls_of_run, breach15}
 use Rattle.controls.specs.Growth.{table_of}
 use Rattle.records.specs.Records.{head_of, record_of, records_to, room_for, shown_in}
-use Rattle.setting.specs.Cases.{cases_hold}
+use Rattle.setting.proofs.CasesLemmas.{cases_hold}
 use Rattle.topology.specs.Reading.{rest_judged, survey_judged, judged_then, room_judged, verdict_of, refused_reading, taken_reading, reading_of, sheet_of}
 use Rattle.demands.specs.Cases.{case_a, Configurations, Together, PrintedA, case_b, AnswerB}
 

@@ -17,7 +17,7 @@ use Rattle.ground.specs.Rows.{Rows, row, FirstBroken, Numbered, Answers, answers
 use Rattle.graph.specs.Members.{◌∈◌}
 use Rattle.scan.specs.Cutting.{Descriptor, Rule3}
 use Rattle.edition.specs.Audio.{audio}
-use Rattle.layout.specs.Withdrawn.{layout_or}
+use Rattle.layout.proofs.WithdrawnLemmas.{layout_or}
 use Rattle.cutting.specs.Rules1to9.{Opening, header_place, Rule8, WrongLayout, Recognised, NoneWithdrawn, laid_out, BrokenAt}
 use Rattle.ids.specs.Rule10.{WrongId}
 use Rattle.sources.specs.Rule11.{WrongSources}

@@ -26,8 +26,9 @@ use Rattle.layout.specs.Layouts as kind
 use Rattle.layout.specs.Layouts.{format_of, most_pins}
 use Rattle.layout.specs.Fields.{Fields, input, output, mixer, selector, feature, bytes_of, LaidOut}
 use Rattle.layout.specs.Fields as fields
-use Rattle.layout.specs.FieldsLaws.{none_some, read_back, laid_only, laid_whole}
-use Rattle.layout.specs.Withdrawn.{printed_unlaid, layout_or}
+use Rattle.layout.specs.FieldsLaws.{none_some}
+use Rattle.layout.proofs.FieldsLemmas.{read_back, laid_only, laid_whole}
+use Rattle.layout.proofs.WithdrawnLemmas.{printed_unlaid, layout_or}
 use Rattle.edition.specs.Audio.{audio}
 use Rattle.interfaces.specs.InterfaceLaws.{nine}
 use Rattle.groups.specs.Rules5and6.{Header, listed_of, Rule5, Rule6}
@@ -35,7 +36,7 @@ use Rattle.cutting.specs.Rules1to9.{Opened, header_place, Kept, Rule9, NoneWithd
 use Rattle.cutting.specs.Context.{cut_told, header_is, run_one}
 use Rattle.entities.specs.Run.{most_entities, run_in}
 use Rattle.entities.specs.Represents.{Represents}
-use Rattle.entities.specs.RepresentsLaws.{run_represents}
+use Rattle.entities.proofs.RepresentsLemmas.{run_represents}
 use Rattle.clusters.specs.Rule13.{Connected}
 use Rattle.clusters.specs.Topology.{connected_parts}
 use Rattle.reader.specs.Configuration.{run_of, place_of_run, Configuration}

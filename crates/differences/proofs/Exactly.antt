@@ -15,7 +15,8 @@ use Rattle.graph.specs.Members.{◌∈◌, along}
 use Rattle.legal.specs.Sheet.{records_in, id_of, Sheet}
 use Rattle.ground.specs.Rising.{rising_one}
 use Rattle.differences.specs.InTurn.{in_turn_lem, of_turn, turn_rising}
-use Rattle.differences.specs.Mended.{compared_same, mended, mended_byte, mended_id}
+use Rattle.differences.specs.Mended.{compared_same, mended}
+use Rattle.differences.proofs.MendedLemmas.{mended_byte, mended_id}
 use Rattle.differences.specs.Lines.{Line, line_id, last_id, record_bearing, differing, changed_line, line_of, line_at, lines_of}
 use Rattle.differences.specs.Lines.Line.{left_only, right_only, changed}
 use Rattle.differences.specs.LinesLaws.{line_own, line_few}

@@ -1,3 +1,4 @@
+pub mod MendedLemmas
 pub mod Records
 pub mod Exactly
 pub mod Calls

@@ -29,7 +29,8 @@ use Rattle.legal.specs.SheetLaws.{record_id, in_records, records_long}
 use Rattle.ground.specs.Rising.{Rising}
 use Rattle.differences.specs.InTurn.{in_turn, in_turn_lem, of_turn, AtMostOne, turn_rising}
 use Rattle.differences.specs.InTurn.AtMostOne.{nothing, one}
-use Rattle.differences.specs.Mended.{SameByte, same_compared, compared_as, reads_same_byte, mended, mended_long, mended_byte}
+use Rattle.differences.specs.Mended.{SameByte, same_compared, compared_as, reads_same_byte, mended}
+use Rattle.differences.proofs.MendedLemmas.{mended_long, mended_byte}
 use Rattle.differences.specs.Lines.{last_id, record_bearing, differs, differing}
 use Rattle.differences.specs.LinesLaws.{record_first}
 

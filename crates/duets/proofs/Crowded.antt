@@ -65,7 +65,7 @@ use Rattle.sides.specs.declared.Side.TheVariants.{Left, Right}
 use Rattle.sides.specs.Sides.{most_together}
 use Rattle.duet.specs.declared.Duet.{Duet}
 use Rattle.duet.specs.Box.{empty_socket, empty_duet, controls_on}
-use Rattle.admission.specs.PluggingLaws.{plug_cases}
+use Rattle.admission.proofs.PluggingLemmas.{plug_cases}
 use Rattle.admission.specs.Plugging.{Plugging, plug_of, duet_after}
 use Rattle.admission.specs.Plugging.Plugging.{refused, let_in}
 use Rattle.duets.specs.Steps.{Step, Seen, seen_plug, box_next, seen_by, steps_of, sent_by}

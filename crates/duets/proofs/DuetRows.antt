@@ -18,6 +18,7 @@ use Rattle.sound.specs.Meaning.{Sound, sound_reads}
 use Rattle.setup.specs.declared.Asked.{Asked}
 use Rattle.setup.specs.Setup.{WellAsked, asked_of}
 use Rattle.setup.specs.Asking as asking
+use Rattle.setup.proofs.AskingLemmas as asking_laws
 use Rattle.setup.specs.Asking.{Asking}
 use Rattle.topology.specs.Reading.{reading_of}
 use Rattle.deed.specs.Reply.{laid}
@@ -36,7 +37,7 @@ use Rattle.duet.specs.declared.Socket.{Socket}
 use Rattle.duet.specs.declared.Duet.{Duet}
 use Rattle.duet.specs.Box.{other_side, socket_of, with_socket, empty_socket, controls_on, together, sound_socket, sound_duet}
 use Rattle.duet.specs.BoxLaws.{kept_socket}
-use Rattle.admission.specs.PluggingLaws.{plug_cases}
+use Rattle.admission.proofs.PluggingLemmas.{plug_cases}
 use Rattle.duet.specs.Coming.{refusal, unplug_answer}
 use Rattle.admission.specs.Plugging.{Plugging, plug_of, duet_after}
 use Rattle.admission.specs.Plugging.Plugging.{refused, let_in}
@@ -161,7 +162,7 @@ side_request_rows_lem b s d room = go (sound_duet b) (reads_box b)
   where
     go : (x : Bool) → Reads x (SoundBox b) → side_request_rows b s d room (number_of (pick x (asked_on b (addressee_of (asked_of s)) s d room) (refuses 30)))
     go false f = given (f.denies refl) refl
-    go true f = passed (λ n. n (f.says refl)) (asked_rows_lem b s d room (asking.asking s))
+    go true f = passed (λ n. n (f.says refl)) (asked_rows_lem b s d room (asking_laws.asking s))
 
 -- the rows say one number
 row_one : {n : ℕ} {When : Type 0} {rest : ℕ → Type 0} → ((i j : ℕ) → rest i → rest j → i ≡ j) → (i j : ℕ) → Row n When rest i → Row n When rest j → i ≡ j

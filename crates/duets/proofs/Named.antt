@@ -13,6 +13,7 @@ use Rattle.ground.specs.Numbers.{byte}
 use Rattle.setup.specs.declared.Asked.{Asked}
 use Rattle.setup.specs.Setup.{WellAsked, asked_of}
 use Rattle.setup.specs.Asking as asking
+use Rattle.setup.proofs.AskingLemmas as asking_laws
 use Rattle.setup.specs.Asking.{Asking}
 use Rattle.sides.specs.declared.Side.{Side}
 use Rattle.sides.specs.declared.Side.TheVariants.{Left, Right}
@@ -41,7 +42,7 @@ asked_side s k (asking.sets l a) = reads_same (reads_number (byte s 4) k) (λ e.
 asked_side s k (asking.gets part l a c) = reads_same (reads_number (byte s 4) k) (λ e. ((l, inr a), e)) (λ h. h.1)
 
 pub reads_side : (s : List ℕ) (k : Side) → Reads (is_for k (addressee_of (asked_of s))) (WellAsked s × (byte s 4 ≡ presented_for k))
-reads_side s k = asked_side s k (asking.asking s)
+reads_side s k = asked_side s k (asking_laws.asking s)
 
 pub is_at : (k : Side) (a : Addressee) → is_for k a ≡ true → a ≡ At k
 is_at k (Nobody n) e = absurd (true≠false (sym e))

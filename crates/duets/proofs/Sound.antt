@@ -43,7 +43,7 @@ use Rattle.duet.specs.declared.Socket.{Socket}
 use Rattle.duet.specs.declared.Duet.{Duet}
 use Rattle.duet.specs.Box.{other_side, socket_of, with_socket, empty_socket, empty_duet, controls_on, sound_socket, sound_beside, sound_duet}
 use Rattle.duet.specs.BoxLaws.{sound_split, kept_socket}
-use Rattle.admission.specs.PluggingLaws.{plug_cases}
+use Rattle.admission.proofs.PluggingLemmas.{plug_cases}
 use Rattle.duet.specs.Coming.{refusal, unplug_answer}
 use Rattle.admission.specs.Plugging.{Plugging, plug_of, duet_after}
 use Rattle.admission.specs.Plugging.Plugging.{refused, let_in}

@@ -111,18 +111,16 @@ keeps (Mixer i p c) l cs = mixer_kept p c l cs
 keeps (Selector i p) l cs = alike cs
 keeps (Feature i s n) l cs = feature_kept n l cs
 
-reads_alike : (cs : List Cluster) → Reads (alike cs) (Alike cs)
-unfolding alike
-reads_alike cs = reads_and _ _ (reads_all_same (channels_each cs)) (reads_all_same (locations_each cs))
-
-pub reads_keeps : (e : Entity) (l : ℕ) (cs : List Cluster) → Reads (keeps e l cs) (Keeps e l cs)
-unfolding keeps Keeps mixer_kept feature_kept
-reads_keeps Unknown l cs = record { says = λ e. tt; denies = λ e. absurd (true≠false e) }
-reads_keeps (Input i t c) l cs = reads_cluster c
-reads_keeps (Output i t s) l cs = record { says = λ e. tt; denies = λ e. absurd (true≠false e) }
-reads_keeps (Mixer i p c) l cs = reads_and _ _ (reads_cluster c) (reads_eq l (mixer_length p c.channels (channels_in cs)))
-reads_keeps (Selector i p) l cs = reads_alike cs
-reads_keeps (Feature i s n) l cs = reads_eq l (feature_length (first_of cs).channels n)
+-- .. from a test of whether the clusters that enter a Selector are alike: `audio` gives it
+pub reads_kept : ((cs : List Cluster) → Reads (all_same (channels_each cs) && all_same (locations_each cs)) (Alike cs))
+    → (e : Entity) (l : ℕ) (cs : List Cluster) → Reads (keeps e l cs) (Keeps e l cs)
+unfolding keeps Keeps alike mixer_kept feature_kept
+reads_kept both Unknown l cs = record { says = λ e. tt; denies = λ e. absurd (true≠false e) }
+reads_kept both (Input i t c) l cs = reads_cluster c
+reads_kept both (Output i t s) l cs = record { says = λ e. tt; denies = λ e. absurd (true≠false e) }
+reads_kept both (Mixer i p c) l cs = reads_and _ _ (reads_cluster c) (reads_eq l (mixer_length p c.channels (channels_in cs)))
+reads_kept both (Selector i p) l cs = both cs
+reads_kept both (Feature i s n) l cs = reads_eq l (feature_length (first_of cs).channels n)
 
 abbrev pub audio : Edition
 audio = record {
@@ -137,5 +135,5 @@ audio = record {
   gives_out = λ d cs. give_out (entity_of d) cs;
   Keeps = λ d cs. Keeps (entity_of d) (length d) cs;
   keeps = λ d cs. keeps (entity_of d) (length d) cs;
-  reads = λ d cs. reads_keeps (entity_of d) (length d) cs;
+  reads = λ d cs. reads_kept (λ cs. reads_and _ _ (reads_all_same (channels_each cs)) (reads_all_same (locations_each cs))) (entity_of d) (length d) cs;
 }

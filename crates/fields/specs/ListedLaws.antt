@@ -28,6 +28,7 @@ use Rattle.layout.specs.Layouts as kind
 use Rattle.layout.specs.Layouts.{Kind, format_of}
 use Rattle.layout.specs.Layout.{entity_of, entity_in}
 use Rattle.layout.specs.LayoutLaws as entity
+use Rattle.layout.proofs.LayoutLemmas as entity_laws
 use Rattle.layout.specs.LayoutLaws.{Told}
 use Rattle.layout.specs.Fields as fields
 use Rattle.layout.specs.Fields.{Fields, layout_by, fields_at, fields_of}
@@ -261,7 +262,7 @@ module _ (d : List ℕ) (b : Bytes d) where
   readable {e} q (entity.feature k p m) = (_, found_feature d e q _ _ _ _ refl (feature_found d (byte d 3) (byte d 4) (byte d 5) (byte d (length d - 1)) refl refl refl refl))
 
   pub read_some : (r : Item) × ReadAs d r
-  read_some = readable refl (entity.told d)
+  read_some = readable refl (entity_laws.told d)
 
 -- ---- its parts end inside it
 

@@ -3,11 +3,8 @@
 -- along it.
 --   with o i             ==  o, with i at its end; length_with, with_cases, with_last: its length and its members
 --   MayJoin ids sources o i  ==  the ID of i is not borne in o, and each of its source IDs is
---   reads_joins          ==  .. which is what the test of a pass decides
 --   borne_more, borne_last, borne_cases  ==  the IDs borne in `with o i` are those of o, and that of i
 --   Grown ids sources n o    ==  o came about so
---   step_grown, pass_from_grown, passes_grown  ==  what steps and passes make of a grown order is grown
---   order_grown          ==  .. so the order is
 --   grown_take           ==  the first k indices of a grown order are one
 --   grown_at             ==  each index of it is below n, and might join those that stand before it
 --   grown_below          ==  each index of it is below n
@@ -56,38 +53,9 @@ module _ (ids : ℕ → ℕ) (sources : ℕ → List ℕ) where
   abbrev pub MayJoin : List ℕ → ℕ → Type 0
   MayJoin o i = (ids i ∈ borne ids o → ⊥) × ((x : ℕ) → x ∈ sources i → x ∈ borne ids o)
 
-  pub reads_joins : (o : List ℕ) (i : ℕ) → Reads (joins ids sources o i) (MayJoin o i)
-  unfolding joins
-  reads_joins o i =
-      reads_and (not (mem (ids i) (borne ids o))) (all (λ x. mem x (borne ids o)) (sources i))
-      (reads_not (mem (ids i) (borne ids o)) (reads_mem (ids i) (borne ids o)))
-      (reads_all (λ x. mem x (borne ids o)) (λ x. x ∈ borne ids o) (sources i) (λ x m. reads_mem x (borne ids o)))
-
   pub data Grown (n : ℕ) : List ℕ → Type 0 where
     none : Grown n []
     more : {o : List ℕ} {i : ℕ} → Grown n o → i < n → MayJoin o i → Grown n (o ++ (i ∷ []))
-
-module _ {ids : ℕ → ℕ} {sources : ℕ → List ℕ} {n : ℕ} where
-  pub step_grown : {o : List ℕ} {i : ℕ} → Grown ids sources n o → i < n → Grown ids sources n (step ids sources o i)
-  unfolding step
-  step_grown {o} {i} g l = go (joins ids sources o i) refl
-    where
-      go : (b : Bool) → joins ids sources o i ≡ b → Grown ids sources n (pick b (with o i) o)
-      go true e = more g l ((reads_joins ids sources o i).says e)
-      go false e = g
-
-  pub pass_from_grown : (k i : ℕ) {o : List ℕ} → i + k ≤ n → Grown ids sources n o → Grown ids sources n (pass_from ids sources k i o)
-  unfolding pass_from
-  pass_from_grown zero i l g = g
-  pass_from_grown (suc k) i l g = pass_from_grown k (suc i) (omega arith) (step_grown g (omega arith))
-
-pub passes_grown : (ids : ℕ → ℕ) (sources : ℕ → List ℕ) (n k : ℕ) → Grown ids sources n (passes ids sources n k)
-unfolding passes
-passes_grown ids sources n zero = none
-passes_grown ids sources n (suc k) = pass_from_grown n 0 (omega arith) (passes_grown ids sources n k)
-
-pub order_grown : (ids : ℕ → ℕ) (sources : ℕ → List ℕ) (n : ℕ) → Grown ids sources n (order_of ids sources n)
-order_grown ids sources n = passes_grown ids sources n _
 
 -- the numbers from a on; one of them stands there once, and a lesser one not at all
 abbrev from : ℕ → ℕ → List ℕ

@@ -35,16 +35,17 @@ use Rattle.scan.specs.Cutting.{Descriptor, rest}
 use Rattle.scan.specs.CuttingLaws.{cutting_rest}
 use Rattle.scan.specs.Search.{searched}
 use Rattle.layout.specs.Layout.{entity_of, is_unknown}
-use Rattle.layout.specs.Withdrawn.{is_wrong, is_printed, reads_printed, reads_wrong, layout_or, Printed}
+use Rattle.layout.specs.Withdrawn.{is_wrong, is_printed, reads_printed, Printed}
+use Rattle.layout.proofs.WithdrawnLemmas.{reads_wrong, layout_or}
 use Rattle.edition.specs.Audio.{audio}
 use Rattle.entities.specs.declared.Node.{Node}
 use Rattle.entities.specs.declared.Run.{Run}
 use Rattle.entities.specs.Run.{most_entities, held, place_at, node_of, run_in, walk_of}
 use Rattle.entities.specs.Represents.{Represents}
-use Rattle.entities.specs.RepresentsLaws.{run_at, run_represents}
+use Rattle.entities.proofs.RepresentsLemmas.{run_at, run_represents}
 use Rattle.cutting.specs.Rules1to9.{WrongLayout, NoneWithdrawn, laid_out}
 use Rattle.cutting.specs.Survey.{unlaid_refused}
-use Rattle.cutting.specs.Verdict.{unlaid_judged}
+use Rattle.cutting.proofs.VerdictLemmas.{unlaid_judged}
 use Rattle.ids.specs.Rule10.{WrongId, Rule10}
 use Rattle.ids.specs.Breach.{breach10}
 use Rattle.sources.specs.Rule11.{WrongSources, Rule11}

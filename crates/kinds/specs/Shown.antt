@@ -12,7 +12,8 @@ use Rattle.layout.specs.declared.Entity.TheVariants.{Unknown, Input, Output, Mix
 use Rattle.layout.specs.Layouts as kind
 use Rattle.layout.specs.Layouts.{Kind, number_of}
 use Rattle.layout.specs.Layout.{LaidOut, entity_of}
-use Rattle.layout.specs.LayoutLaws.{Told, told, unknown, input, output, mixer, selector, feature}
+use Rattle.layout.specs.LayoutLaws.{Told, unknown, input, output, mixer, selector, feature}
+use Rattle.layout.proofs.LayoutLemmas.{told}
 
 abbrev pub layout_of : Entity → Option Kind
 layout_of Unknown = none

@@ -16,9 +16,10 @@ use Rattle.layout.specs.FormatLaws.{stretch_length}
 use Rattle.layout.specs.Layouts.{most_pins}
 use Rattle.layout.specs.Fields as fields
 use Rattle.layout.specs.Fields.{Fields, fields_of, fed_by, fed_from}
-use Rattle.layout.specs.FieldsLaws.{fed_standing}
+use Rattle.layout.proofs.FieldsLemmas.{fed_standing}
 use Rattle.layout.specs.Layout.{entity_of, entity_in}
-use Rattle.layout.specs.LayoutLaws.{Told, told, unknown, input, output, mixer, selector, feature}
+use Rattle.layout.specs.LayoutLaws.{Told, unknown, input, output, mixer, selector, feature}
+use Rattle.layout.proofs.LayoutLemmas.{told}
 use Rattle.kinds.specs.Sources.{pins_of, sources_from, source_ids}
 
 pub sources_from_low : (e : Entity) → sources_from e ≤ 7

@@ -5,5 +5,4 @@ pub mod Fields
 pub mod FieldsLaws
 pub mod Layout
 pub mod LayoutLaws
-pub mod Examples
 pub mod Withdrawn

@@ -1,13 +1,9 @@
 -- The printed Selector (source document 004, tables C-11 to C-13), which is withdrawn: a Selector of length 7+p with a byte 0 in front of its sources.
 -- "The reader no longer accepts it. .. Refusals: 17, at the first such entity, after 9 and before 10" (document 02, No. 6).
 --   Printed d        ==  d is one; is_printed d: the test; reads_printed: it decides
---   printed_unlaid   ==  what is one has none of the five layouts
 --   layout_number e d ==  the refusal that the layout of d asks for, which was read as e: 9, 17 for the printed Selector; 0 where it has one of the five
 --   is_wrong d        ==  that refusal is 9: the layout of d is wrong
 --   wrong_tests      ==  so it is by two tests: none of the five was read, nor is it this one
---   reads_wrong      ==  that test decides
---   layout_number_lem    ==  the number is by the tests of 9 and 17, in this order
---   layout_or        ==  what is neither wrong nor one has one of the five layouts
 use Rattle.std.specs.Prelude.{ℕ, ◌+◌, ◌≡◌, refl, Bool, true, false, not, ◌&&◌, ◌⊎◌, List, eqb, length}
 use Rattle.std.proofs.Common.{inl, inr, ⊎_elim, arith}
 use Rattle.ground.specs.Numbers.{byte}
@@ -16,7 +12,7 @@ use Rattle.layout.specs.declared.Entity.{Entity}
 use Rattle.layout.specs.declared.Entity.TheVariants.{Unknown, Input, Output, Mixer, Selector, Feature}
 use Rattle.layout.specs.Layouts.{most_pins, Pins}
 use Rattle.layout.specs.Layout.{LaidOut, entity_of, is_unknown}
-use Rattle.layout.specs.LayoutLaws.{Told, told, unknown, input, output, mixer, selector, feature, reads_unknown, laid_out}
+use Rattle.layout.specs.LayoutLaws.{Told, unknown, input, output, mixer, selector, feature}
 
 pub record Printed (d : List ℕ) : Type 0 where
   pub kind : byte d 2 ≡ 5
@@ -34,17 +30,6 @@ reads_printed d =
     (reads_and _ _ (reads_eq (byte d 2) 5) (reads_and _ _ (reads_within 1 (byte d 4) most_pins) (reads_and _ _ (reads_eq (length d) (7 + byte d 4)) (reads_eq (byte d 5) 0))))
     (λ h. record { kind = h.0; pins = h.1.0; long = h.1.1.0; pad = h.1.1.1 })
     (λ h. (h.kind, (h.pins, (h.long, h.pad))))
-
-pub printed_unlaid : (d : List ℕ) → Printed d → LaidOut d → ⊥
-printed_unlaid d h o = of (told d)
-  where
-    of : {e : Entity} → Told d e → ⊥
-    of (unknown n) = n o
-    of (input k l) = let q = h.kind in omega arith
-    of (output k l) = let q = h.kind in omega arith
-    of (mixer k q l) = let r = h.kind in omega arith
-    of (selector k q l) = let r = h.long in omega arith
-    of (feature k q l) = let r = h.kind in omega arith
 
 unfoldable pub layout_number : Entity → List ℕ → ℕ
 layout_number Unknown d = pick (is_printed d) 17 9
@@ -69,31 +54,3 @@ wrong_tests (Output i t s) d = refl
 wrong_tests (Mixer i p c) d = refl
 wrong_tests (Selector i p) d = refl
 wrong_tests (Feature i s n) d = refl
-
-pub reads_wrong : (d : List ℕ) → Reads (is_wrong d) ((LaidOut d → ⊥) × (Printed d → ⊥))
-unfolding is_wrong
-reads_wrong d = rw (wrong_tests (entity_of d) d) (reads_and _ _ (reads_unknown d) (reads_not _ (reads_printed d)))
-
-pub layout_or : (d : List ℕ) → ((LaidOut d → ⊥) × (Printed d → ⊥) → ⊥) → LaidOut d ⊎ Printed d
-layout_or d f = ⊎_elim inl (λ n. ⊎_elim inr (λ m. absurd (f (n, m))) (decided (is_printed d) (reads_printed d))) (laid_out d)
-
-pub layout_number_lem : (d : List ℕ) → layout_number (entity_of d) d ≡ pick (is_wrong d) 9 (pick (is_printed d) 17 0)
-unfolding is_wrong layout_number is_unknown
-layout_number_lem d = rw (wrong_tests (entity_of d) d) (go (entity_of d) (reads_unknown d))
-  where
-    known : (b : Bool) → Reads b (Printed d) → ((LaidOut d → ⊥) → ⊥) → ◌≡◌ {A = ℕ} 0 (pick b 17 0)
-    known true r n = absurd (n (printed_unlaid d (r.says refl)))
-    known false r n = refl
-
-    none_read : (b : Bool) → ◌≡◌ {A = ℕ} (pick b 17 9) (pick (not b) 9 (pick b 17 0))
-    none_read true = refl
-    none_read false = refl
-
-    go : (e : Entity) → Reads (is_unknown e) (LaidOut d → ⊥)
-        → layout_number e d ≡ pick (is_unknown e && not (is_printed d)) 9 (pick (is_printed d) 17 0)
-    go Unknown u = none_read (is_printed d)
-    go (Input i t c) u = known (is_printed d) (reads_printed d) (u.denies refl)
-    go (Output i t s) u = known (is_printed d) (reads_printed d) (u.denies refl)
-    go (Mixer i p c) u = known (is_printed d) (reads_printed d) (u.denies refl)
-    go (Selector i p) u = known (is_printed d) (reads_printed d) (u.denies refl)
-    go (Feature i s n) u = known (is_printed d) (reads_printed d) (u.denies refl)

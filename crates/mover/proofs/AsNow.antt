@@ -20,7 +20,7 @@ use Rattle.legal.specs.SheetLaws.{record_id}
 use Rattle.mover.specs.Moving.JudgedMove.{moved}
 use Rattle.mover.specs.Moving.{other_of, more_bytes, as_new, record_to, moved_to, move_number}
 use Rattle.mover.specs.Laid.{Each, joined_long, record_in_lem, records_joined}
-use Rattle.mover.specs.MovingLaws.{judged_move}
+use Rattle.mover.proofs.MovingLemmas.{judged_move}
 use Rattle.mover.specs.Before.{old_pins, old_record_in, old_records_of, OldRun}
 use Rattle.mover.specs.MovedBack.{Lent, AsNow}
 use Rattle.mover.proofs.Trips.{given_moved}

@@ -1,3 +1,4 @@
+pub mod MovingLemmas
 pub mod Trips
 pub mod AsNow
 pub mod MovedBack

@@ -19,7 +19,8 @@ use Rattle.legal.specs.SheetLaws.{record_long, in_records, records_long}
 use Rattle.records.specs.Records.{record_size}
 use Rattle.mover.specs.Moving.JudgedMove.{by_more, moved}
 use Rattle.mover.specs.Moving.{other_of, record_to, moved_to, LosesMore, move_number, written_by, room_after}
-use Rattle.mover.specs.MovingLaws.{moved_long, reads_loses, move_judged, judged_move}
+use Rattle.mover.specs.MovingLaws.{reads_loses}
+use Rattle.mover.proofs.MovingLemmas.{moved_long, move_judged, judged_move}
 use Rattle.mover.specs.MovedBack.{Lent, ThereAndBack, NotMoved, MovedBack}
 use Rattle.mover.proofs.Trips.{moved_count, moved_at, trip, old_kept, old_fits, new_kept}
 use Rattle.mover.proofs.AsNow.{as_now}

@@ -25,7 +25,7 @@ use Rattle.legal.specs.SheetLaws.{record_long, record_id, records_long}
 use Rattle.mover.specs.Moving.{other_of, more_bytes, as_new, as_old, record_to, moved_to, HasMore, LosesTo, move_number, written_by, room_after}
 use Rattle.mover.specs.Moving.JudgedMove.{moved}
 use Rattle.mover.specs.Laid.{Each, record_in_lem, records_joined, joined_records}
-use Rattle.mover.specs.MovingLaws.{record_padded, moved_long, judged_move}
+use Rattle.mover.proofs.MovingLemmas.{record_padded, moved_long, judged_move}
 use Rattle.mover.specs.MovedBack.{Lent, bytes_moved, ThereAndBack}
 
 pub other_twice : (f : Form) → other_of (other_of f) ≡ f

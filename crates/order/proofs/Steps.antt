@@ -28,7 +28,7 @@ use Rattle.setup.specs.declared.Asked.TheVariants as asks
 use Rattle.setup.specs.Setup.{code_of, target_of, asked_by}
 use Rattle.setup.specs.Asking.{set_no_get}
 use Rattle.answers.specs.Answers.{all_set, cut_to}
-use Rattle.answers.specs.AnswersLaws.{sets_long}
+use Rattle.answers.proofs.AnswersLemmas.{sets_long}
 use Rattle.loads.specs.Load.{loaded_with}
 use Rattle.address.specs.AddressedLaws.{found_stands, stands_one}
 use Rattle.request.specs.declared.State.{State}

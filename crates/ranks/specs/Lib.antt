@@ -5,4 +5,3 @@ pub mod Spare
 pub mod OrderLaws
 pub mod Marks
 pub mod Ordering
-pub mod Rule12Laws

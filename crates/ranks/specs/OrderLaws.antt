@@ -10,7 +10,8 @@ use Rattle.std.proofs.Math.Nat.{min-le_right, min-eq_left}
 use Rattle.ground.specs.Lists.{pad_at}
 use Rattle.graph.specs.Tables.{below, tabulate_same, tabulate_get_d, map_tabulate}
 use Rattle.graph.specs.Passes.{borne}
-use Rattle.graph.specs.Grown.{order_grown, grown_length}
+use Rattle.graph.specs.Grown.{grown_length}
+use Rattle.graph.proofs.GrownLemmas.{order_grown}
 use Rattle.entities.specs.declared.Run.{Run}
 use Rattle.entities.specs.Run.{most_entities, blank_node, held, node_at, id_at, sources_at}
 use Rattle.ranks.specs.Order.{order_in, ordered}

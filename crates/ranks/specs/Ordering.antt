@@ -19,8 +19,10 @@ use Rattle.std.proofs.Math.ListN.{length}
 use Rattle.ground.specs.Lists.{pad, pad_blank, pad_set}
 use Rattle.ground.specs.Pick.{decided, reads_le}
 use Rattle.graph.specs.Passes.{joins, step, pass_from, passes, order_of}
-use Rattle.graph.specs.Grown.{with, length_with, reads_joins, Grown, none, more, grown_length, pass_from_grown}
-use Rattle.graph.specs.Quiet.{Quiet, step_joined, step_left, pass_from_more, pass_same, pass_quiet, passes_stay, full_quiet, order_quiet}
+use Rattle.graph.specs.Grown.{with, length_with, Grown, none, more, grown_length}
+use Rattle.graph.proofs.GrownLemmas.{reads_joins, pass_from_grown}
+use Rattle.graph.specs.Quiet.{Quiet}
+use Rattle.graph.proofs.QuietLemmas.{step_joined, step_left, pass_from_more, pass_same, pass_quiet, passes_stay, full_quiet, order_quiet}
 use Rattle.entities.specs.declared.Node.{Node}
 use Rattle.entities.specs.declared.Run.{Run}
 use Rattle.entities.specs.Run.{most_entities, blank_node, held, node_at, id_at, sources_at}

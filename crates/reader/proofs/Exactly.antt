@@ -16,15 +16,17 @@ use Rattle.edition.specs.Edition.{own_id}
 use Rattle.edition.specs.Audio.{audio}
 use Rattle.cutting.specs.Rules1to9.{header_place, Kept, BrokenAt}
 use Rattle.cutting.specs.Survey.{survey_of}
-use Rattle.cutting.specs.Exact.{cutting_answers, cutting_numbered, all_nine, nine_kept}
+use Rattle.cutting.proofs.ExactLemmas.{cutting_answers, cutting_numbered, all_nine, nine_kept}
 use Rattle.ids.specs.OwnIds.{own_ids, distinct_ids}
 use Rattle.clusters.specs.Rule13.{Connected}
-use Rattle.clusters.specs.Topology.{connected_parts, clusters_shown}
+use Rattle.clusters.specs.Topology.{connected_parts}
+use Rattle.clusters.proofs.TopologyLemmas.{clusters_shown}
 use Rattle.connections.specs.JudgementLaws.{judged_answers}
 use Rattle.streaming.specs.Rule14.{Breaks14}
 use Rattle.terminals.specs.Terminals.{terminals_of}
 use Rattle.streaming.specs.Tests.{breach14}
-use Rattle.terminals.specs.Standing.{terminals_are, one_each}
+use Rattle.terminals.specs.Standing.{one_each}
+use Rattle.terminals.proofs.StandingLemmas.{terminals_are}
 use Rattle.streaming.specs.Breaches.{rule14_kept, rule14_broken}
 use Rattle.controls.specs.Controls.{controls_of, controls_of_run, breach15}
 use Rattle.controls.specs.Rule15.{rule15_kept, rule15_broken}

@@ -25,7 +25,8 @@ use Rattle.graph.specs.Members.{◌∈◌, along}
 use Rattle.layout.specs.declared.Cluster.{Cluster}
 use Rattle.layout.specs.declared.Entity.{Entity}
 use Rattle.layout.specs.Layout.{Pins, LaidOut, entity_of, is_unknown}
-use Rattle.layout.specs.LayoutLaws.{Told, told, unknown, input, output, mixer, selector, feature, entity_input, entity_output, entity_mixer, entity_selector, entity_feature, reads_unknown, laid_out}
+use Rattle.layout.specs.LayoutLaws.{Told, unknown, input, output, mixer, selector, feature}
+use Rattle.layout.proofs.LayoutLemmas.{told, entity_input, entity_output, entity_mixer, entity_selector, entity_feature, reads_unknown, laid_out}
 use Rattle.kinds.specs.Sources.{pins_of, sources_from, feeds_of}
 use Rattle.pins.specs.Same.{AllSame, reads_all_same}
 use Rattle.channels.specs.DeclaredChannels.{ClusterKept}

@@ -30,7 +30,7 @@ use Rattle.cutting.specs.declared.Survey.{Survey}
 use Rattle.cutting.specs.Survey.{survey_of}
 use Rattle.cutting.specs.Context.{opened_one, run_one}
 use Rattle.ids.specs.OwnIds.{distinct_ids}
-use Rattle.clusters.specs.Topology.{clusters_one}
+use Rattle.clusters.proofs.TopologyLemmas.{clusters_one}
 use Rattle.table.specs.declared.Control.{Control}
 use Rattle.table.specs.Controls.{at}
 use Rattle.table.specs.Keys.{InTable}

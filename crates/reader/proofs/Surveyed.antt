@@ -21,14 +21,14 @@ use Rattle.entities.specs.declared.Run.{Run}
 use Rattle.edition.specs.Audio.{audio}
 use Rattle.entities.specs.Run.{run_in}
 use Rattle.entities.specs.Represents.{Represents}
-use Rattle.entities.specs.RepresentsLaws.{run_represents}
+use Rattle.entities.proofs.RepresentsLemmas.{run_represents}
 use Rattle.groups.specs.Reading.{frame_of}
 use Rattle.cutting.specs.declared.Survey.{Survey}
 use Rattle.cutting.specs.Rules1to9.{header_place, Kept}
 use Rattle.cutting.specs.Survey.{run_found, surveyed, survey_of}
 use Rattle.cutting.specs.Context.{control_byte, header_place_lem, run_place, run_is}
 use Rattle.cutting.specs.Context as context
-use Rattle.cutting.specs.Exact.{verdict_kept}
+use Rattle.cutting.proofs.ExactLemmas.{verdict_kept}
 use Rattle.reader.specs.Configuration.{place_of_run}
 
 abbrev pub entities_of : {s : List ℕ} → Kept s → Run

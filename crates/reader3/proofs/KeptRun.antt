@@ -11,7 +11,7 @@ use Rattle.edition3.specs.Third.{third}
 use Rattle.entities.specs.declared.Run.{Run}
 use Rattle.entities.specs.Run.{run_in}
 use Rattle.entities.specs.Represents.{Represents}
-use Rattle.entities.specs.RepresentsLaws.{run_represents}
+use Rattle.entities.proofs.RepresentsLemmas.{run_represents}
 use Rattle.run3.specs.AnyBuffer.{run_any}
 use Rattle.groups.specs.Reading.{frame_of}
 use Rattle.cutting.specs.Survey.{run_found}

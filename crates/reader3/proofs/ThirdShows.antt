@@ -32,7 +32,7 @@ use Rattle.entities.specs.Run.{run_in}
 use Rattle.entities.specs.Represents.{Represents}
 use Rattle.cutting.specs.Context.{opened_one, run_one}
 use Rattle.clusters.specs.Rule13.{Connected}
-use Rattle.clusters.specs.Topology.{clusters_one}
+use Rattle.clusters.proofs.TopologyLemmas.{clusters_one}
 use Rattle.clusters3.specs.Shown.{shown_cluster}
 use Rattle.clusters3.specs.Rule13Laws.{third_shown}
 use Rattle.clusters3.specs.InBuffer.{cluster_in_buffer}

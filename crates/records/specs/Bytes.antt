@@ -18,8 +18,10 @@ use Rattle.layout.specs.declared.Cluster.{Cluster}
 use Rattle.layout.specs.Layouts.{most_pins}
 use Rattle.layout.specs.declared.Entity.{Entity}
 use Rattle.layout.specs.Layout.{LaidOut, entity_of}
-use Rattle.layout.specs.LayoutLaws.{Told, told}
+use Rattle.layout.specs.LayoutLaws.{Told}
+use Rattle.layout.proofs.LayoutLemmas.{told}
 use Rattle.layout.specs.LayoutLaws as laid
+use Rattle.layout.proofs.LayoutLemmas as laid_laws
 use Rattle.kinds.specs.Shown.{kind_told, kind_range}
 use Rattle.kinds.specs.Sources.{pins_of, sources_from}
 use Rattle.kinds.specs.SourcesLaws.{ids_length, id_at, pins_few}

@@ -30,7 +30,8 @@ use Rattle.answers.specs.declared.SetAsks.{SetAsks}
 use Rattle.answers.specs.declared.GetAsks.{GetAsks}
 use Rattle.answers.specs.Held.{lacking, part_of, unready}
 use Rattle.answers.specs.Answers.{held_by, size_in, sizes_of, set_asks, set_to, get_asks, all_take, all_set, block_of, cut_to, set_number, get_number, set_of, get_of}
-use Rattle.answers.specs.AnswersLaws.{size_most, sizes_most, sizes_snoc, takes_snoc, sets_snoc, sets_long, block_long, block_snoc, cut_long, set_by_number, get_by_number, set_silent}
+use Rattle.answers.specs.AnswersLaws.{size_most, block_snoc}
+use Rattle.answers.proofs.AnswersLemmas.{sizes_most, sizes_snoc, takes_snoc, sets_snoc, sets_long, block_long, cut_long, set_by_number, get_by_number, set_silent}
 use Rattle.request.proofs.Storing.{refuses, stored_more, stored_other}
 use borrow.Author.Tests.{eq-eqb, ne_eqb, ltb-false}
 use lib.Dec.{eqb, ltb}

@@ -17,7 +17,7 @@ use Rattle.sound.specs.Sound.{sound_of}
 use Rattle.sound.specs.Meaning.{sound_reads}
 use Rattle.address.specs.declared.Sought.{Sought}
 use Rattle.address.specs.Addressed.{most_addressed, addressed_in, unit_in}
-use Rattle.address.specs.AddressedLaws.{addressed_named, addressed_few, addressed_rising}
+use Rattle.address.proofs.AddressedLemmas.{addressed_named, addressed_few, addressed_rising}
 use Rattle.address.specs.Sought.{missing_by, none_sought, sought_for, sought_in}
 use Rattle.request.specs.Stored.{indices_in, rising_all_apart, Seated}
 

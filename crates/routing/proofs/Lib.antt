@@ -1,1 +1,3 @@
+pub mod WaysLemmas
+pub mod RoutesLemmas
 pub mod WhichWay

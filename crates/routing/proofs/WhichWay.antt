@@ -16,7 +16,7 @@ use Rattle.ground.specs.declared.Place.TheVariants.{Nowhere, At}
 use Rattle.ground.specs.Refuse.{none, refuse}
 use Rattle.ground.specs.Lists.{member_index}
 use Rattle.graph.specs.Members.{◌∈◌}
-use Rattle.graph.specs.Ranked.{ranks_all, order_short}
+use Rattle.graph.proofs.RankedLemmas.{ranks_all, order_short}
 use Rattle.edition.specs.Edition.{own_id}
 use Rattle.edition.specs.Audio.{audio}
 use Rattle.entities.specs.declared.Run.{Run}
@@ -24,7 +24,7 @@ use Rattle.entities.specs.Run.{most_entities, held, id_at, sources_at}
 use Rattle.ids.specs.Rule10Laws.{distinct_run}
 use Rattle.sources.specs.GraphLaws.{known_run}
 use Rattle.ranks.specs.Rule12.{Upstream}
-use Rattle.ranks.specs.Rule12Laws.{chains, ranking_run}
+use Rattle.ranks.proofs.Rule12Laws.{chains, ranking_run}
 use Rattle.clusters.specs.Topology.{source_of}
 use Rattle.records.specs.Sheet.{whole_sheet}
 use Rattle.cutting.specs.declared.Survey.{Survey}
@@ -41,8 +41,8 @@ use Rattle.upstream.specs.Ways.{Way, written}
 use Rattle.upstream.specs.Telling.{most_depth, most_routes}
 use Rattle.upstream.specs.Listing.{refused_with, listed, ways_listing, ways_list}
 use Rattle.routing.specs.Routes.{OutputOf, Route, EachOnce}
-use Rattle.routing.specs.WaysLaws.{ways_rise}
-use Rattle.routing.specs.RoutesLaws.{ways_only, ways_each, listed_one, route_upstream}
+use Rattle.routing.proofs.WaysLemmas.{ways_rise}
+use Rattle.routing.proofs.RoutesLemmas.{ways_only, ways_each, listed_one, route_upstream}
 use Rattle.routing.specs.Listing.{named_in, is_output, ways_for, listing_in, list_in, listing_of, list_after}
 use Rattle.routing.specs.ListingLaws.{named_own, reads_output}
 use Rattle.routing.specs.WhichWay.{FromOutput, RightListing, WhichWay}

@@ -18,7 +18,8 @@ use Rattle.table.specs.declared.Table.{Table}
 use Rattle.table.specs.Controls.{at}
 use Rattle.sound.specs.Meaning.{Sound, sound_counted}
 use Rattle.address.specs.Addressed.{wants_channel}
-use Rattle.address.specs.AddressedLaws.{Named, addressed_named, named_addressed, addressed_rising}
+use Rattle.address.specs.AddressedLaws.{Named}
+use Rattle.address.proofs.AddressedLemmas.{addressed_named, named_addressed, addressed_rising}
 use Rattle.runs.specs.Runs.{named_by, addressed_by}
 use Rattle.runs.specs.RequestRows.{Names, Addressed}
 use Rattle.runs.proofs.Taken.{addressed_at}

@@ -22,7 +22,7 @@ use Rattle.ground.specs.Lists.{any}
 use Rattle.graph.specs.Members.{◌∈◌}
 use Rattle.setting.specs.Setting.{closest_to}
 use Rattle.setting.specs.Legal.{fits_reads, legal_means}
-use Rattle.setting.specs.Closest.{closest_self, closest_only}
+use Rattle.setting.proofs.ClosestLemmas.{closest_self, closest_only}
 use Rattle.setting.specs.declared.Sort.{Sort}
 use Rattle.setting.specs.declared.Range.{Range}
 use Rattle.table.specs.declared.Control.{Control}

@@ -31,13 +31,14 @@ use Rattle.setup.specs.declared.Target.{Target}
 use Rattle.setup.specs.declared.Asked.{Asked}
 use Rattle.setup.specs.declared.Asked.TheVariants as asks
 use Rattle.setup.specs.Setup.{AsksSet, AsksGet, WellAsked, code_of, target_of, get_asked, asked_by, asked_of}
-use Rattle.setup.specs.Asking.{Asking, none, sets, gets, asking, set_no_get}
+use Rattle.setup.specs.Asking.{Asking, none, sets, gets, set_no_get}
+use Rattle.setup.proofs.AskingLemmas.{asking}
 use Rattle.deed.specs.Doing.{Doing}
 use Rattle.deed.specs.Reply.{low_first, low_first_long}
 use Rattle.deed.specs.Doing.Doing.{denied, given, changed}
 use Rattle.answers.specs.Held.{lacking, part_of, unready, takes, stored_for, with_cur}
 use Rattle.answers.specs.Answers.{held_by, size_in, sizes_of, sent_to, rest_of, all_take, all_set, block_of, misfits, cut_to, set_of, get_of}
-use Rattle.answers.specs.AnswersLaws.{cut_long}
+use Rattle.answers.proofs.AnswersLemmas.{cut_long}
 use Rattle.request.specs.declared.State.{State}
 use Rattle.request.specs.Outcome.{Outcome, bytes_of, state_after}
 use Rattle.request.specs.Outcome.Outcome.{refused, got, done}

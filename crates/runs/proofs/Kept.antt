@@ -14,7 +14,7 @@ use Rattle.ground.specs.Numbers.{Bytes}
 use Rattle.ground.specs.Pick.{shows, reads_and, reads_le}
 use Rattle.setting.specs.Setting.{fits_of, legal_of, closest_to}
 use Rattle.setting.specs.Legal.{fits_reads, legal_means}
-use Rattle.setting.specs.Closest.{closest_fits, closest_means, closest_available}
+use Rattle.setting.proofs.ClosestLemmas.{closest_fits, closest_means, closest_available}
 use Rattle.setting.specs.declared.Sort.{Sort}
 use Rattle.setting.specs.declared.Sort.TheVariants.{Volume, Tone, Delay}
 use Rattle.setting.specs.declared.Range.{Range}

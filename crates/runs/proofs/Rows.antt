@@ -36,12 +36,13 @@ use Rattle.setup.specs.declared.Part.TheVariants.{Cur, Min, Max, Res}
 use Rattle.setup.specs.declared.Asked.{Asked}
 use Rattle.setup.specs.declared.Asked.TheVariants as asks
 use Rattle.setup.specs.Setup.{AsksSet, AsksGet, code_of, target_of, asked_of}
-use Rattle.setup.specs.Asking.{Asking, none, sets, gets, asking, set_no_get}
+use Rattle.setup.specs.Asking.{Asking, none, sets, gets, set_no_get}
+use Rattle.setup.proofs.AskingLemmas.{asking}
 use Rattle.deed.specs.Doing.{Doing}
 use Rattle.deed.specs.Doing.Doing.{denied, given, changed}
 use Rattle.answers.specs.Held.{is_ranged, of_range, lacking, unready, takes}
 use Rattle.answers.specs.Answers.{held_by, sizes_of, sent_to, rest_of, all_take, cut_to, set_of, get_of}
-use Rattle.answers.specs.AnswersLaws.{cut_long}
+use Rattle.answers.proofs.AnswersLemmas.{cut_long}
 use Rattle.loads.specs.Load.{load_range, load_by, load_on}
 use Rattle.request.specs.declared.State.{State}
 use Rattle.request.specs.Outcome.{Outcome, number_of}

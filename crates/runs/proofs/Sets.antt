@@ -17,7 +17,7 @@ use Rattle.single.specs.Meaning.{SoundAs}
 use Rattle.sound.specs.Meaning.{Sound}
 use Rattle.answers.specs.Held.{value_in, stored_for, with_cur}
 use Rattle.answers.specs.Answers.{held_by, all_set}
-use Rattle.answers.specs.AnswersLaws.{sets_long}
+use Rattle.answers.proofs.AnswersLemmas.{sets_long}
 use Rattle.runs.specs.Runs.{addressed_by}
 use Rattle.runs.proofs.Stored.{Pair, pair_in, stored_count, stored_room, stored_here, stored_other, stored_same, stored_pins, stored_sound}
 use Rattle.runs.proofs.Shares.{Sent, sent_to_lem}

@@ -33,7 +33,8 @@ use Rattle.setup.specs.declared.Part.{Part}
 use Rattle.setup.specs.declared.Asked.{Asked}
 use Rattle.setup.specs.declared.Asked.TheVariants as asks
 use Rattle.setup.specs.Setup.{AsksSet, AsksGet, code_of, asked_of}
-use Rattle.setup.specs.Asking.{Asking, none, sets, gets, asking}
+use Rattle.setup.specs.Asking.{Asking, none, sets, gets}
+use Rattle.setup.proofs.AskingLemmas.{asking}
 use Rattle.deed.specs.Doing.{Doing}
 use Rattle.deed.specs.Doing.Doing.{denied, given, changed}
 use Rattle.answers.specs.Held.{lacking, unready}

@@ -7,8 +7,6 @@
 --   standing         ==  so stands the rest
 --   cutting_rest     ==  a cutting is what stands from the first byte on
 --   cutting_one      ==  THE CUTTING THEOREM: there is one cutting at most
---   cutting_exists   ==  .. the scan answers nowhere exactly where there is one
---   cutting_misfit   ==  .. and a place exactly where that is the first at which no descriptor stands
 --   byte_inside      ==  a byte that is not 0 stands within the bytes
 use Rattle.std.specs.Prelude.{ℕ, ◌+◌, ◌≤◌, ◌<◌, ◌≡◌, refl, Bool, true, false, ◌↔◌, length, drop, ltb}
 use mathlib.Core.List.{List, [], ◌∷◌, ◌++◌, flatten, Memᴰ}
@@ -57,12 +55,6 @@ module _ (s : List ℕ) where
 
   pub cutting_one : (ds es : List (List ℕ)) → Cutting s ds → Cutting s es → ds ≡ es
   cutting_one = pieces.cut_one one_byte s
-
-  pub cutting_exists : (breach3 s ≡ Nowhere) ↔ Rule3 s
-  cutting_exists = pieces.cut_exists one_byte s
-
-  pub cutting_misfit : (p : ℕ) → (breach3 s ≡ At p) ↔ Misfit s p
-  cutting_misfit = pieces.cut_misfit one_byte s
 
 pub byte_inside : (s : List ℕ) (at : ℕ) → 0 < byte s at → at < length s
 byte_inside s at h = go (ltb at (length s)) refl

@@ -1,1 +1,3 @@
+pub mod CasesLemmas
+pub mod ClosestLemmas
 pub mod Exits

@@ -6,7 +6,6 @@
 --   volume x       ==  "Volume −5120..0 by 256": x is wanted
 --   bass x         ==  "Bass −10..9 by 4": x is wanted
 --   cases          ==  the document's five
---   cases_hold     ==  in each case what is found is what the document says
 use Rattle.std.specs.Prelude.{ℕ, ◌≡◌, refl, List, [], ◌∷◌, map, ℤ, pos, neg_ℤ, nat_abs}
 use Rattle.std.specs.Int.{w8, w16}
 use Rattle.std.proofs.Common.{of_z}
@@ -46,7 +45,3 @@ bass wanted = record { sort = Tone; min = minus 10; max = pos 9; res = pos 4; wa
 -- "Volume −5120..0 by 256: −300 gives −256, −384 gives −512, 500 gives 0, −32768 stays. Bass −10..9 by 4: 9 gives 6."
 abbrev pub cases : List Case
 cases = volume (minus 300) ∷ volume (minus 384) ∷ volume (pos 500) ∷ volume (minus 32768) ∷ bass (pos 9) ∷ []
-
-pub cases_hold : map found cases ≡ minus 256 ∷ minus 512 ∷ pos 0 ∷ minus 32768 ∷ pos 6 ∷ []
-unfolding found fits_of legal_of whole_steps nearer closest_height closest_setting closest_to
-cases_hold = refl

@@ -1,5 +1,4 @@
 -- Which Terminals the reader has, where its run stands for descriptors: those that the descriptors say, with no search among them.
---   terminals_are    ==  the Terminals that the reader has of a run are the run's: each Input and each Output Terminal, and no other
 --   one_each         ==  where the descriptors have distinct IDs, an ID is borne by one Terminal at most
 use Prim.Native.Nat.{ℕ, zero, suc, ◌+◌, ◌≤◌, ◌<◌}
 use Rattle.std.specs.Prelude.{◌≡◌, refl, ◌⊎◌, List, [], ◌∷◌, get_or, drop, take}
@@ -15,8 +14,10 @@ use Rattle.graph.specs.Members.{◌∈◌, along}
 use Rattle.layout.specs.declared.Cluster.{Cluster}
 use Rattle.layout.specs.declared.Entity.{Entity}
 use Rattle.layout.specs.Layout.{LaidOut, entity_of, no_cluster}
-use Rattle.layout.specs.LayoutLaws.{Told, told}
+use Rattle.layout.specs.LayoutLaws.{Told}
+use Rattle.layout.proofs.LayoutLemmas.{told}
 use Rattle.layout.specs.LayoutLaws as laid
+use Rattle.layout.proofs.LayoutLemmas as laid_laws
 use Rattle.edition.specs.Edition.{own_id}
 use Rattle.edition.specs.Audio.{audio}
 use Rattle.entities.specs.declared.Run.{Run}
@@ -27,7 +28,7 @@ use Rattle.terminals.specs.Said.{SaysTerminal, IsTerminal, AreAll}
 
 -- what an entity's layout lists: a Terminal with its own ID, at most one
 module _ (d : List ℕ) (c : ℕ) where
-  abbrev heard : Terminal
+  abbrev pub heard : Terminal
   heard = record { id = own_id d; kind = word d 4; channels = c }
 
   listed_heard : {e : Entity} → Told d e → (t : Terminal) → t ∈ terminal_of e c → t ≡ heard
@@ -38,40 +39,6 @@ module _ (d : List ℕ) (c : ℕ) where
   listed_heard (laid.mixer k q l) t m = absurd (Memᴰ.not-nil m)
   listed_heard (laid.selector k q l) t m = absurd (Memᴰ.not-nil m)
   listed_heard (laid.feature k q l) t m = absurd (Memᴰ.not-nil m)
-
-module _ (cluster : ℕ → Cluster) (d : List ℕ) where
-  abbrev own : ℕ
-  own = (cluster (own_id d)).channels
-
-  heard_says : (byte d 2 ≡ 2) ⊎ (byte d 2 ≡ 3) → (t : Terminal) → t ≡ heard d own → SaysTerminal cluster t d
-  heard_says h t e = rw e (record { either = h; id = refl; kind = refl; channels = refl })
-
-  says_of : {e : Entity} → Told d e → (t : Terminal) → t ∈ terminal_of e own → SaysTerminal cluster t d
-  unfolding terminal_of
-  says_of (laid.unknown n) t m = absurd (Memᴰ.not-nil m)
-  says_of (laid.input k l) t m = heard_says (inl k) t (Memᴰ.eq_of_singleton m)
-  says_of (laid.output k l) t m = heard_says (inr k) t (Memᴰ.eq_of_singleton m)
-  says_of (laid.mixer k q l) t m = absurd (Memᴰ.not-nil m)
-  says_of (laid.selector k q l) t m = absurd (Memᴰ.not-nil m)
-  says_of (laid.feature k q l) t m = absurd (Memᴰ.not-nil m)
-
-  says_heard : (t : Terminal) → SaysTerminal cluster t d → t ≡ heard d own
-  says_heard t h =
-      ap (λ (i : ℕ). record { id = i; kind = t.kind; channels = t.channels }) h.id
-      ∙ ap (λ (k : ℕ). record { id = own_id d; kind = k; channels = t.channels }) h.kind
-      ∙ ap (λ (c : ℕ). record { id = own_id d; kind = word d 4; channels = c }) h.channels
-
-  another : {n : ℕ} → byte d 2 ≡ n → (n ≡ 2 → ⊥) → (n ≡ 3 → ⊥) → (byte d 2 ≡ 2) ⊎ (byte d 2 ≡ 3) → ⊥
-  another e a b = ⊎_elim (λ h. a (sym e ∙ h)) (λ h. b (sym e ∙ h))
-
-  of_says : {e : Entity} → Told d e → LaidOut d → (t : Terminal) → SaysTerminal cluster t d → t ∈ terminal_of e own
-  unfolding terminal_of
-  of_says (laid.unknown n) o t h = absurd (n o)
-  of_says (laid.input k l) o t h = Memᴰ.head (says_heard t h)
-  of_says (laid.output k l) o t h = Memᴰ.head (says_heard t h)
-  of_says (laid.mixer k q l) o t h = absurd (another k (λ e. omega arith) (λ e. omega arith) h.either)
-  of_says (laid.selector k q l) o t h = absurd (another k (λ e. omega arith) (λ e. omega arith) h.either)
-  of_says (laid.feature k q l) o t h = absurd (another k (λ e. omega arith) (λ e. omega arith) h.either)
 
 -- the Terminals of a stretch of indices are those at its indices
 module _ (s : List ℕ) (r : Run) (cs : List Cluster) (t : Terminal) where
@@ -86,29 +53,20 @@ module _ (s : List ℕ) (r : Run) (cs : List Cluster) (t : Terminal) where
       go (inl h) ih = (i, omega arith, h)
       go (inr h) ih = let a = ih h in let l = a.1 in (a.0, omega arith, a.2)
 
-  of_index : (k i j : ℕ) → i ≤ j → j < i + k → t ∈ terminal_at s r cs j → t ∈ terminals_from k i s r cs
-  unfolding terminals_from
-  of_index zero i j l h m = absurd (omega arith)
-  of_index (suc k) i j l h m =
-      ⊎_elim
-      (λ (e : i ≡ j). Memᴰ.append_left _ (rw (← e) at m))
-      (λ (n : suc i ≤ j). Memᴰ.append_right (terminal_at s r cs i) (of_index k (suc i) j n (omega arith) m))
-      (eq-or-lt_of_le l)
-
 -- the Terminal that the j-th of the descriptors ds is, with the j-th of the clusters cs
-abbrev terminal_in : List (List ℕ) → List Cluster → ℕ → List Terminal
+abbrev pub terminal_in : List (List ℕ) → List Cluster → ℕ → List Terminal
 terminal_in ds cs j = terminal_of (entity_of (get_or ds j [])) (get_or cs j no_cluster).channels
 
-record Stands (ds : List (List ℕ)) (cs : List Cluster) (t : Terminal) : Type 0 where
-  index : ℕ
-  below : index < length ds
-  is : t ∈ terminal_in ds cs index
+pub record Stands (ds : List (List ℕ)) (cs : List Cluster) (t : Terminal) : Type 0 where
+  pub index : ℕ
+  pub below : index < length ds
+  pub is : t ∈ terminal_in ds cs index
 
 module _ {s : List ℕ} {p : ℕ} {ds : List (List ℕ)} {r : Run} (rep : Represents audio s p ds r) (cs : List Cluster) (t : Terminal) where
-  same_at : (j : ℕ) → j < length ds → terminal_at s r cs j ≡ terminal_in ds cs j
+  pub same_at : (j : ℕ) → j < length ds → terminal_at s r cs j ≡ terminal_in ds cs j
   same_at j h = ap (λ (d : List ℕ). terminal_of (entity_of d) (get_or cs j no_cluster).channels) (rep.bytes j h)
 
-  terminal_stands : t ∈ terminals_of s r cs → Stands ds cs t
+  pub terminal_stands : t ∈ terminals_of s r cs → Stands ds cs t
   unfolding terminals_of
   terminal_stands m =
       let k = index_of s r cs t (held r) 0 m in
@@ -117,43 +75,8 @@ module _ {s : List ℕ} {p : ℕ} {ds : List (List ℕ)} {r : Run} (rep : Repres
       let h : k.0 < length ds = omega arith in
       record { index = k.0; below = h; is = along (same_at k.0 h) k.2 }
 
-  stands_terminal : Stands ds cs t → t ∈ terminals_of s r cs
-  unfolding terminals_of
-  stands_terminal k =
-      let n = rep.counted in
-      let l = k.below in
-      of_index s r cs t (held r) 0 k.index (omega arith) (omega arith) (along (sym (same_at k.index k.below)) k.is)
-
 -- THE LAW, where each descriptor has its layout (rule 9) and each index of the array has the cluster on its descriptor's ID
 module _ {s : List ℕ} {p : ℕ} {ds : List (List ℕ)} {r : Run} (rep : Represents audio s p ds r) where
-  pub terminals_are : ((d : List ℕ) → d ∈ ds → LaidOut d)
-      → (cluster : ℕ → Cluster) (cs : List Cluster) → ((i : ℕ) → i < length ds → get_or cs i no_cluster ≡ cluster (own_id (get_or ds i [])))
-      → AreAll ds cluster (terminals_of s r cs)
-  terminals_are laid_out cluster cs on t = (of, to)
-    where
-      at_id : (i : ℕ) → i < length ds → terminal_in ds cs i ≡ terminal_of (entity_of (get_or ds i [])) (cluster (own_id (get_or ds i []))).channels
-      at_id i h = ap (λ (c : Cluster). terminal_of (entity_of (get_or ds i [])) c.channels) (on i h)
-
-      of : t ∈ terminals_of s r cs → IsTerminal ds cluster t
-      of m =
-          let k = terminal_stands rep cs t m in
-          let d = get_or ds k.index [] in
-          record {
-            one = d;
-            among = along (sym (split_at ds k.index [] k.below)) (of_split (take k.index ds) d (drop (suc k.index) ds));
-            has = says_of cluster d (told d) t (along (at_id k.index k.below) k.is);
-          }
-
-      to : IsTerminal ds cluster t → t ∈ terminals_of s r cs
-      to k =
-          let q = split_of k.among in
-          let i = length q.0 in
-          let l : i < length ds = omega (arith, ap length q.2 ∙ length-append q.0 (k.one ∷ q.1)) in
-          let e : get_or ds i [] ≡ k.one = ap (λ (x : List (List ℕ)). get_or x i []) q.2 ∙ get_or-append_seam q.0 k.one q.1 [] in
-          let o = laid_out k.one k.among in
-          let m : t ∈ terminal_of (entity_of k.one) (cluster (own_id k.one)).channels = of_says cluster k.one (told k.one) o t k.has in
-          stands_terminal rep cs t (record { index = i; below = l; is = along (sym (at_id i l)) (rw e m) })
-
   pub one_each : (cs : List Cluster)
       → ((i j : ℕ) → i < length ds → j < length ds → own_id (get_or ds i []) ≡ own_id (get_or ds j []) → i ≡ j)
       → OneEach (terminals_of s r cs)

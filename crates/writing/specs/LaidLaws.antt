@@ -20,7 +20,8 @@ use Rattle.ground.specs.declared.Place.TheVariants.{Nowhere, At}
 use Rattle.ground.specs.Pick.{pick, Reads, shows, refutes, reads_same, reads_or, reads_lt, reads_and, reads_le}
 use Rattle.ground.specs.Lists.{part, pad, pad_length, pad_at, total, total_one, flatten_append}
 use Rattle.ground.specs.Places.{Come, come_none, come_over, come_here, come_more}
-use Rattle.layout.specs.Withdrawn.{layout_number, is_wrong, is_printed, reads_wrong}
+use Rattle.layout.specs.Withdrawn.{layout_number, is_wrong, is_printed}
+use Rattle.layout.proofs.WithdrawnLemmas.{reads_wrong}
 use Rattle.layout.specs.Layout.{entity_of}
 use Rattle.fields.specs.Listed.{wrong, written_as, listed_with, blank_item}
 use Rattle.laying.specs.Paste.{pasted, pasted_length}

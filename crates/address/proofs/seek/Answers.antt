@@ -33,5 +33,5 @@ pub returns-then-not-sound_any_order : goal.returns-then-not-sound_any_order
 returns-then-not-sound_any_order c = search behind
 
 pub returns : goal.returns
-returns c = 
+returns c =
     elim c.else-not-rising.branch [ else-not-rising-via-then-not-rising+else-not-sound_any_order w ↦ search behind | else-not-rising-via-else-not-rising w ↦ search behind ]

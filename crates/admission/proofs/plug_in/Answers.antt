@@ -1,6 +1,6 @@
 -- The ways of a plug-in.
 use borrow.Author.Rules.{rules}
-use Rattle.admission.specs.PluggingLaws.{plug_barred, plug_turned, plug_let_in}
+use Rattle.admission.proofs.PluggingLemmas.{plug_barred, plug_turned, plug_let_in}
 use Rattle.admission.proofs.plug_in.Goals as goal
 
 ruleset laws = (plug_barred, plug_turned, plug_let_in, rules)

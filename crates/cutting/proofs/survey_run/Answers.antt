@@ -20,7 +20,8 @@ use Rattle.entities.specs.Run.{run_in, walk_of}
 use Rattle.groups.specs.declared.Frame.{Frame}
 use Rattle.cutting.specs.declared.Survey.{Survey}
 use Rattle.ground.specs.Refuse.{chain_none}
-use Rattle.cutting.specs.Verdict.{run_chain, unlaid_judged}
+use Rattle.cutting.specs.Verdict.{run_chain}
+use Rattle.cutting.proofs.VerdictLemmas.{unlaid_judged}
 use Rattle.cutting.specs.Survey.{run_found, breach8, breach9, breach17, run_judged, refused_survey, surveyed, run_refused, run_survey}
 use Rattle.cutting.proofs.survey_run.Goals as goal
 

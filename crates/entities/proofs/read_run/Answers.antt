@@ -25,7 +25,7 @@ use Rattle.layout.specs.Layout.{entity_of, is_unknown}
 use Rattle.edition.specs.Audio.{audio}
 use Rattle.entities.specs.declared.Node.{Node}
 use Rattle.entities.specs.Run.{most_entities, node_of, nodes_from, blank_node, run_in, earlier, unlaid_at, walk_of}
-use Rattle.entities.specs.RepresentsLaws.{nodes_length, nodes_more}
+use Rattle.entities.proofs.RepresentsLemmas.{nodes_length, nodes_more}
 use Rattle.entities.proofs.read_run.Invariants.{is_unlaid, Walked}
 use Rattle.entities.proofs.read_run.Goals as goal
 use Rattle.entities.proofs.read_run.Goals.{then-count-lt-MOST_ENTITIES, else-count-lt-MOST_ENTITIES}

@@ -8,7 +8,7 @@ use native.Mathlib.Omega.{arith}
 use Rattle.ground.specs.Numbers.{byte}
 use Rattle.layout.specs.declared.Entity.TheVariants.{Unknown, Feature}
 use Rattle.layout.specs.Layout.{feature_of}
-use Rattle.layout.specs.LayoutLaws.{feature_right, feature_wrong}
+use Rattle.layout.proofs.LayoutLemmas.{feature_right, feature_wrong}
 use Rattle.layout.proofs.read_feature.Goals as goal
 
 module _ (d : List ℕ) (n : ℕ) (e : n ≡ byte d 5) where

@@ -8,7 +8,7 @@ use Rattle.ground.specs.Numbers.{byte, word}
 use Rattle.layout.specs.declared.Cluster.{Cluster}
 use Rattle.layout.specs.declared.Entity.TheVariants.{Unknown, Input}
 use Rattle.layout.specs.Layout.{input_of, cluster_at}
-use Rattle.layout.specs.LayoutLaws.{input_right, input_wrong}
+use Rattle.layout.proofs.LayoutLemmas.{input_right, input_wrong}
 use Rattle.layout.proofs.read_input.Goals as goal
 
 wrong : (d : List ℕ) → (length d ≡ 12 → ⊥) → Unknown ≡ input_of d

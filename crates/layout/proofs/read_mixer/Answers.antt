@@ -12,7 +12,7 @@ use Rattle.ground.specs.Pick.{within, reads_within}
 use Rattle.layout.specs.declared.Cluster.{Cluster}
 use Rattle.layout.specs.declared.Entity.TheVariants.{Unknown, Mixer}
 use Rattle.layout.specs.Layout.{Pins, mixer_of, cluster_at, most_pins}
-use Rattle.layout.specs.LayoutLaws.{mixer_right, mixer_wrong}
+use Rattle.layout.proofs.LayoutLemmas.{mixer_right, mixer_wrong}
 use Rattle.layout.proofs.read_mixer.Goals as goal
 
 module _ (d : List ℕ) (p : ℕ) (e : p ≡ byte d 4) (b : Bool) (t : b ≡ within 1 p most_pins) where

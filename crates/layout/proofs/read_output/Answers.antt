@@ -7,7 +7,7 @@ use lib.ListN.{length}
 use Rattle.ground.specs.Numbers.{byte, word}
 use Rattle.layout.specs.declared.Entity.TheVariants.{Unknown, Output}
 use Rattle.layout.specs.Layout.{output_of}
-use Rattle.layout.specs.LayoutLaws.{output_right, output_wrong}
+use Rattle.layout.proofs.LayoutLemmas.{output_right, output_wrong}
 use Rattle.layout.proofs.read_output.Goals as goal
 
 wrong : (d : List ℕ) → (length d ≡ 9 → ⊥) → Unknown ≡ output_of d

@@ -10,7 +10,7 @@ use Rattle.ground.specs.Numbers.{byte}
 use Rattle.ground.specs.Pick.{within, reads_within}
 use Rattle.layout.specs.declared.Entity.TheVariants.{Unknown, Selector}
 use Rattle.layout.specs.Layout.{Pins, selector_of, most_pins}
-use Rattle.layout.specs.LayoutLaws.{selector_right, selector_wrong}
+use Rattle.layout.proofs.LayoutLemmas.{selector_right, selector_wrong}
 use Rattle.layout.proofs.read_selector.Goals as goal
 
 module _ (d : List ℕ) (p : ℕ) (e : p ≡ byte d 4) (b : Bool) (t : b ≡ within 1 p most_pins) where

@@ -13,7 +13,7 @@ use Rattle.legal.specs.Forms.{record_size_of}
 use Rattle.legal.specs.Sheet.{most_sheet, count_by}
 use Rattle.mover.specs.Moving.{other_of, moved_to, move_number, written_by, room_after, Move}
 use Rattle.mover.specs.Laid.{Room, resized}
-use Rattle.mover.specs.MovingLaws.{moved_resized, moved_long, unrefused_short, unrefused_room}
+use Rattle.mover.proofs.MovingLemmas.{moved_resized, moved_long, unrefused_short, unrefused_room}
 use Rattle.mover.proofs.move_to.Goals as goal
 
 module _ (f : Form) (s d : List ℕ) (x : ℕ) (e : x ≡ move_number f s (length d)) where

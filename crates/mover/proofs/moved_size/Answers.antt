@@ -13,7 +13,7 @@ use Rattle.legal.specs.declared.Form.{Form}
 use Rattle.legal.specs.Forms.{record_size_of, record_size_most}
 use Rattle.legal.specs.Sheet.{most_sheet, count_by}
 use Rattle.mover.specs.Moving.{other_of, moved_to}
-use Rattle.mover.specs.MovingLaws.{moved_long}
+use Rattle.mover.proofs.MovingLemmas.{moved_long}
 use Rattle.mover.proofs.moved_size.Goals as goal
 
 module _ (f : Form) (s : List ℕ) (g : Form) (q : g ≡ other_of f) (n m : ℕ) (e : n ≡ count_by (record_size_of g) s) (h : m ≡ record_size_of f) where

@@ -18,7 +18,7 @@ use Rattle.edition3.specs.Third.{third}
 use Rattle.edition.specs.Edition.{Edition}
 use Rattle.entities.specs.declared.Node.{Node}
 use Rattle.entities.specs.Run.{most_entities, node_of, nodes_from, blank_node, run_in}
-use Rattle.entities.specs.RepresentsLaws.{nodes_length, nodes_more}
+use Rattle.entities.proofs.RepresentsLemmas.{nodes_length, nodes_more}
 use Rattle.run3.proofs.read_run.Invariants.{ed, Walked}
 use Rattle.run3.proofs.read_run.Goals as goal
 use Rattle.run3.proofs.read_run.Goals.{then-count-lt-MOST_ENTITIES, else-count-lt-MOST_ENTITIES}

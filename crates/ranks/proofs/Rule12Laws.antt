@@ -19,9 +19,12 @@ use Rattle.ground.specs.Lists.{member_at, member_index}
 use Rattle.ground.specs.First.{Breaks}
 use Rattle.ground.specs.Places.{breach_nowhere, breach_at}
 use Rattle.graph.specs.Members.{◌∈◌, along, mem, reads_mem, mem_in, mem_out}
-use Rattle.graph.specs.Grown.{order_grown, grown_below}
-use Rattle.graph.specs.Ranked.{Distinct, Known, AllIn, Chain, Longer, ends, up, left_longer, in_longer, all_ranks, ranks_all}
+use Rattle.graph.specs.Grown.{grown_below}
+use Rattle.graph.proofs.GrownLemmas.{order_grown}
+use Rattle.graph.specs.Ranked.{Distinct, Known, AllIn, Chain, Longer, ends, up}
+use Rattle.graph.proofs.RankedLemmas.{left_longer, in_longer, all_ranks, ranks_all}
 use Rattle.graph.specs.Ranked as ranked
+use Rattle.graph.proofs.RankedLemmas as ranked_laws
 use Rattle.edition.specs.Edition.{Edition, own_id, sources}
 use Rattle.entities.specs.declared.Run.{Run}
 use Rattle.entities.specs.Run.{most_entities, held, id_at, place_at, sources_at}

@@ -1,0 +1,2 @@
+pub mod TopologyLemmas
+pub mod CollectionLemmas

@@ -1,0 +1,2 @@
+pub mod VerdictLemmas
+pub mod ExactLemmas

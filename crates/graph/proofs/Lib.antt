@@ -1,0 +1,4 @@
+pub mod GrownLemmas
+pub mod QuietLemmas
+pub mod RankedLemmas
+pub mod AlongLemmas

@@ -1,0 +1,4 @@
+pub mod FieldsLemmas
+pub mod LayoutLemmas
+pub mod Examples
+pub mod WithdrawnLemmas
