@@ -12,9 +12,9 @@ ROOT = pathlib.Path(__file__).resolve().parent.parent
 class Function(NamedTuple):
     path: str  # the modules and the type that it stands in, then its name, as Cursor::step
     public: bool
-    requires: list  # the text of each clause
+    requires: list  # the text of each clause, with "* " in front of one that speaks of memory (`ensures*`)
     ensures: list
-    lent: list  # the names of its parameters that are a &mut
+    lent: list  # the names of its parameters that are a &mut of a value
     answers: bool  # whether it has a result
     line: int
     spans: list  # where the text of its clauses stands
@@ -90,6 +90,8 @@ def folded(text):
 def clauses_from(text, at):
     """From behind a function's parameters: its result's type, the places of its clauses, and its body's, or None."""
     found, start, result = {"requires": [], "ensures": []}, at, None
+    # a kind, a star where it speaks of memory, a name where there are several; or a ghost value, its name and its type
+    opened = re.compile(r"\b(requires|ensures|ghost)\b(\*?)\s*(?:\w+\s*:?\s*)?$")
     while True:
         stop = re.compile(r"[\[({;]").search(text, at)
         if stop is None or stop.group() == ";":
@@ -97,19 +99,42 @@ def clauses_from(text, at):
         if stop.group() in "[(":
             at = behind(text, stop.start())
             continue
-        clause = re.search(r"\b(requires|ensures)\b\s*[^\s{}]*\s*$", text[start:stop.start()])
+        clause = opened.search(text[start:stop.start()])
         if result is None:
             result = text[start:start + clause.start()] if clause else text[start:stop.start()]
         if clause is None:
             return folded(result), found, stop.start()
         at = start = behind(text, stop.start())
-        found[clause.group(1)].append((stop.start() + 1, at - 1))
+        if clause.group(1) != "ghost":
+            found[clause.group(1)].append((stop.start() + 1, at - 1, clause.group(2)))
 
 
 HEAD = re.compile(
-    r"(?P<close>\})|\b(?P<holds>mod|impl|extern)\b(?P<what>[^;{}()]*)\{"
+    r"(?P<close>\})|\b(?P<holds>mod|impl|trait|extern)\b(?P<what>[^;{}()]*)\{"
     r"|(?P<public>\bpub\b\s*(?:\([^)]*\)\s*)?)?(?:\b(?:const|unsafe|extern)\b\s*)*\bfn\s+(?P<name>\w+)|(?P<open>\{)"
 )
+
+
+def holder(kind, what):
+    """The name that the prover has for what holds functions: of a trait's impl the type's, and the trait's behind it."""
+    names = re.findall(r"\w+", re.sub(r"<[^>]*>", "", what.split(" where ")[0]))
+    if kind == "impl" and "for" in names:
+        at = names.index("for")
+        return names[-1] + names[at - 1]
+    return (names[0] if kind == "trait" else names[-1]) if names else ""
+
+
+def behind_generics(text, at):
+    """Behind a function's type parameters, if it has some."""
+    opened = re.compile(r"\s*<").match(text, at)
+    if opened is None:
+        return at
+    depth, at = 0, opened.end() - 1
+    while True:
+        depth += (text[at] == "<") - (text[at] == ">" and text[at - 1] not in "-=")
+        at += 1
+        if depth == 0:
+            return at
 
 
 def functions(text):
@@ -123,10 +148,9 @@ def functions(text):
         elif head["open"]:
             at = behind(text, head.start())
         elif head["holds"]:
-            names = re.findall(r"\w+", re.sub(r"<[^>]*>", "", head["what"]))
-            inside.append(names[-1] if names else "")
+            inside.append(holder(head["holds"], head["what"]))
         else:
-            params = text.index("(", at)
+            params = text.index("(", behind_generics(text, at))
             at = behind(text, params)
             result, clauses, body = clauses_from(text, at)
             if body is None:
@@ -138,10 +162,11 @@ def functions(text):
 
 
 def function_at(text, head, path, params, result, clauses):
-    said = {kind: [folded(text[start:end]) for start, end in places] for kind, places in clauses.items()}
-    lent = re.findall(r"(\w+)\s*:\s*&\s*(?:'\w+\s+)?mut\b", params)
+    said = {kind: [f"{star} {folded(text[a:z])}".strip() for a, z, star in places] for kind, places in clauses.items()}
+    # a reader or a writer is lent too, but what comes of it stands in no contract
+    lent = re.findall(r"(\w+)\s*:\s*&\s*(?:'\w+\s+)?mut\b(?!\s+(?:impl|dyn)\b)", params)
     line = text.count("\n", 0, head.start()) + 1
-    spans = clauses["requires"] + clauses["ensures"]
+    spans = [place[:2] for places in clauses.values() for place in places]
     public, answers = bool(head["public"]), result.startswith("->")
     return Function(path, public, said["requires"], said["ensures"], lent, answers, line, spans)
 
@@ -151,6 +176,16 @@ def module_of(crate, file):
     parts = file.relative_to(ROOT / "crates" / crate / "src").with_suffix("").parts
     names = [name for name in parts if name != "mod"]
     return "" if names in (["lib"], ["main"]) else "".join(name + "::" for name in names)
+
+
+def derived(crate):
+    """The beginnings of the names of what derives make: of Debug on a type Known, "Known" and "Debug" in one."""
+    found = set()
+    for file in code_files(crate):
+        text = bare_code(file.read_text())
+        for traits, name in re.findall(r"#\[derive\(([^)]*)\)\]\s*(?:#\[[^]]*\]\s*)*(?:pub\s+)?(?:struct|enum)\s+(\w+)", text):
+            found.update(module_of(crate, file) + name + trait + "::" for trait in re.findall(r"\w+", traits))
+    return found
 
 
 def crate_functions(crate):

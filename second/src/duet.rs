@@ -3,8 +3,7 @@
 //! program.
 
 use crate::cut::two_bytes;
-use crate::lend;
-use crate::numbers::{CONTROLS, LENT, MARK, SHEET};
+use crate::numbers::{CONTROLS, SHEET};
 use crate::relay::{
     self, each_step, over_body, plain, read_load, refused, take, BadStep, Printed, PUT_CONTROL,
 };
@@ -26,8 +25,6 @@ pub const PUT: u8 = 5;
 pub const UNPLUG: u8 = 6;
 /// 07: side, ID, two bytes a, a bytes of the left configuration, the right one.
 pub const STRETCH: u8 = 7;
-/// 08: side, two bytes m, a configuration.
-pub const PLUG_IN_SHOWN: u8 = 8;
 
 /// Runs a whole script.
 pub fn program(script: &[u8]) -> String {
@@ -52,7 +49,6 @@ pub fn step(duet: &mut Duet, kind: u8, body: &[u8]) -> Result<Printed, BadStep> 
         }),
         UNPLUG => unplug(duet, body),
         STRETCH => stretch(body),
-        PLUG_IN_SHOWN => plug_in_shown(duet, body),
         _ => Err(BadStep),
     }
 }
@@ -81,27 +77,10 @@ fn done(word: &str, outcome: Result<(), Way>) -> Printed {
 
 fn plug_in(duet: &mut Duet, body: &[u8]) -> Result<Printed, BadStep> {
     let (side, config) = sided(body)?;
-    Ok(plugged_in(duet, side, config, &mut [0; SHEET]))
-}
-
-/// The line of a plug-in with this sheet lent.
-fn plugged_in(duet: &mut Duet, side: Side, config: &[u8], sheet: &mut [u8]) -> Printed {
-    match duet.plug_in(side, config, sheet) {
+    Ok(match duet.plug_in(side, config, &mut [0; SHEET]) {
         Ok(answer) => plain(answer.line()),
         Err(refusal) => told(refusal),
-    }
-}
-
-/// A plug-in with m bytes lent, at most 2,048, each of them AA: its line, then these bytes as `lend`
-/// shows them.
-fn plug_in_shown(duet: &mut Duet, body: &[u8]) -> Result<Printed, BadStep> {
-    let (side, rest) = sided(body)?;
-    if rest.len() < 2 || two_bytes(rest, 0) > LENT {
-        return Err(BadStep);
-    }
-    let mut lent = vec![MARK; two_bytes(rest, 0)];
-    let Printed { lines, way } = plugged_in(duet, side, &rest[2..], &mut lent);
-    Ok(Printed { lines: lines + &lend::shown(&lent), way })
+    })
 }
 
 fn load(duet: &mut Duet, body: &[u8]) -> Result<Printed, BadStep> {
@@ -204,29 +183,6 @@ mod tests {
              2 0 1 0 0 0 0 0 0\n2 1 2 0 0 0 0 0 0\n{right}unplugged\nleft\nempty\n{right}"
         );
         assert_eq!(program(&script.concat()), printed);
-    }
-
-    #[test]
-    fn a_plug_in_shows_its_sheet() {
-        let shown = |side: u8, m: u16| {
-            step_bytes(PLUG_IN_SHOWN, &[&[side][..], &m.to_le_bytes(), &case_a()].concat())
-        };
-        let records = lend::step(96, &case_a()).lines.replace("rest 0\n", "");
-        assert_eq!(records.lines().count(), 7);
-        assert_eq!(program(&shown(1, 95)), "refused 16 at 18\nrest 95\n");
-        assert_eq!(program(&shown(0, 96)), format!("{records}rest 0\n"));
-        let long = format!("{records}rest 1952\n");
-        assert_eq!(program(&shown(1, 2048)), long);
-        let twice = [shown(1, 2048), shown(1, 97), shown(0, 0), shown(0, 96)].concat();
-        let printed =
-            format!("{long}refused 61\nrest 97\nrefused 16 at 18\nrest 0\n{records}rest 0\n");
-        assert_eq!(program(&twice), printed);
-        let spoilt = [step_bytes(PUT, &[0, 1, 9, 129, 0, 0, 0]), shown(0, 96)].concat();
-        assert_eq!(program(&spoilt), "put\nrefused 30\nrest 96\n");
-        assert_eq!(program(&shown(0, 2049)), "bad step\n");
-        assert_eq!(program(&shown(2, 96)), "bad step\n");
-        assert_eq!(program(&step_bytes(PLUG_IN_SHOWN, &[0, 1])), "bad step\n");
-        assert_eq!(program(&step_bytes(PLUG_IN_SHOWN, &[0, 1, 0])), "refused 1 at 0\nrest 1\n");
     }
 
     #[test]

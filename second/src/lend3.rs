@@ -12,7 +12,6 @@ use std::path::Path;
 
 use crate::cut::two_bytes;
 use crate::edition3;
-use crate::input::over;
 use crate::lend;
 use crate::numbers::{LENT, MARK, RECORD, SHEET, STEP};
 use crate::relay::{each_step, BadStep, Printed};
@@ -59,11 +58,11 @@ const UNREAD: &str = "cannot read clusters\n";
 
 /// The program `sheet3`: standard input is a configuration, the file `clusters` of the folder the
 /// cluster buffer; it prints as `sheet` does. A file that cannot be opened or read, or that has more
-/// than 8,192 bytes, is told, and nothing else; so is standard input.
-pub fn told<E>(folder: &Path, input: impl FnOnce() -> Result<Vec<u8>, E>) -> Vec<u8> {
+/// than 8,192 bytes, is told, and nothing else.
+pub fn told<E>(folder: &Path, input: impl FnOnce() -> Result<Vec<u8>, E>) -> Result<String, E> {
     match buffer(&folder.join("clusters")) {
-        Ok(file) if file.len() <= STEP => over(input, |config| printed(config, &file).into()),
-        _ => UNREAD.into(),
+        Ok(clusters) => Ok(printed(&input()?, &clusters)),
+        Err(_) => Ok(UNREAD.to_string()),
     }
 }
 
@@ -146,6 +145,6 @@ mod tests {
     fn a_file_that_is_not_there() {
         let unread = || -> Result<Vec<u8>, ()> { unreachable!("nothing is read") };
         let told = told(Path::new("/nowhere/at/all"), unread);
-        assert_eq!(told, b"cannot read clusters\n");
+        assert_eq!(told, Ok("cannot read clusters\n".to_string()));
     }
 }

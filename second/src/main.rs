@@ -11,7 +11,7 @@
 //! [`generator`].
 //!
 //! `second sheet`, `second lend`, `second relay`, `second sheets`, `second routes`, `second writer`,
-//! `second duet`, `second lend3`: the programs, from standard input ([`input`]) to standard output.
+//! `second duet`, `second lend3`: the programs, from standard input to standard output.
 //! `second sheet3`: the program `sheet3`, with the file `clusters` of the folder.
 //! `second differ`: the program `compare`, over the files `left` and `right` of the folder.
 //! `second move new|old`: the program `move`.
@@ -33,7 +33,6 @@ mod edition3;
 mod entity;
 mod forms;
 mod generator;
-mod input;
 mod lend;
 mod lend3;
 mod mover;
@@ -51,12 +50,11 @@ mod topology;
 mod ways;
 mod writer;
 
-use std::io::{self, Write};
+use std::io::{self, Read, Write};
 use std::path::Path;
 use std::process::ExitCode;
 
 use generator::{compare, vectors};
-use numbers::{CONFIGURATION_MOST, SHEET};
 
 const USAGE: &str = "usage: second sheet | lend | relay | sheets | differ | move new|old \
                      | routes | way ID | writer | duet | lend3 | sheet3 | vectors DIR [--report] \
@@ -81,17 +79,17 @@ fn main() -> ExitCode {
 /// What a subcommand prints, or why it fails.
 fn run(words: &[&str]) -> Result<Vec<u8>, String> {
     match words {
-        ["sheet"] => Ok(input::over(config, |config| sheet::program(config).into())),
-        ["lend"] => Ok(lend::program(&input::script()).into_bytes()),
-        ["lend3"] => Ok(lend3::program(&input::script()).into_bytes()),
-        ["sheet3"] => Ok(lend3::told(Path::new("."), config)),
-        ["relay"] => Ok(relay::program(&input::script()).into_bytes()),
-        ["duet"] => Ok(duet::program(&input::script()).into_bytes()),
-        ["sheets"] => Ok(sheets::program(&input::script()).into_bytes()),
-        ["move", words @ ..] => Ok(mover::program(words, || input::whole(SHEET))),
-        ["routes"] => Ok(routes::program(&input::script()).into_bytes()),
-        ["way", words @ ..] => Ok(routes::way(words, config)),
-        ["writer"] => Ok(writer::program(&input::script()).into_bytes()),
+        ["sheet"] => Ok(sheet::program(&input()?).into_bytes()),
+        ["lend"] => Ok(lend::program(&input()?).into_bytes()),
+        ["lend3"] => Ok(lend3::program(&input()?).into_bytes()),
+        ["sheet3"] => lend3::told(Path::new("."), input).map(String::into_bytes),
+        ["relay"] => Ok(relay::program(&input()?).into_bytes()),
+        ["duet"] => Ok(duet::program(&input()?).into_bytes()),
+        ["sheets"] => Ok(sheets::program(&input()?).into_bytes()),
+        ["move", words @ ..] => mover::program(words, input),
+        ["routes"] => Ok(routes::program(&input()?).into_bytes()),
+        ["way", words @ ..] => routes::way(words, input),
+        ["writer"] => Ok(writer::program(&input()?).into_bytes()),
         ["differ"] => Ok(sheets::compare(Path::new(".")).into_bytes()),
         ["vectors", dir] => write_vectors(dir, false),
         ["vectors", dir, "--report"] => write_vectors(dir, true),
@@ -120,9 +118,10 @@ fn run(words: &[&str]) -> Result<Vec<u8>, String> {
     }
 }
 
-/// The configuration on standard input.
-fn config() -> io::Result<Vec<u8>> {
-    input::whole(CONFIGURATION_MOST)
+fn input() -> Result<Vec<u8>, String> {
+    let mut bytes = Vec::new();
+    io::stdin().read_to_end(&mut bytes).map_err(|error| error.to_string())?;
+    Ok(bytes)
 }
 
 fn number(word: &str) -> Result<u64, String> {

@@ -2,7 +2,6 @@
 //! program `move`.
 
 use crate::forms::{NEW, OLD};
-use crate::input::over;
 use crate::numbers::{OLD_RECORD, RECORD, SHEET};
 use crate::ways::Way;
 
@@ -50,13 +49,15 @@ fn narrowed(sheet: &[u8]) -> Result<Vec<u8>, Way> {
 }
 
 /// The program `move`: its one word is the form wanted, standard input the sheet. It prints the moved
-/// sheet's bytes, or `refused N`; `cannot read` where its input cannot be read. Without that one word it
-/// prints how it is used, and reads nothing.
-pub fn program<E>(words: &[&str], input: impl FnOnce() -> Result<Vec<u8>, E>) -> Vec<u8> {
+/// sheet's bytes, or `refused N`. Without that one word it prints how it is used, and reads nothing.
+pub fn program<E>(
+    words: &[&str],
+    input: impl FnOnce() -> Result<Vec<u8>, E>,
+) -> Result<Vec<u8>, E> {
     match words {
-        ["new"] => over(input, |sheet| printed(Wanted::New, sheet)),
-        ["old"] => over(input, |sheet| printed(Wanted::Old, sheet)),
-        _ => USAGE.into(),
+        ["new"] => Ok(printed(Wanted::New, &input()?)),
+        ["old"] => Ok(printed(Wanted::Old, &input()?)),
+        _ => Ok(USAGE.into()),
     }
 }
 
@@ -120,14 +121,11 @@ mod tests {
     #[test]
     fn one_word_of_two() {
         let sheet = || Ok::<_, ()>(old(&[5]));
-        assert_eq!(program(&["new"], sheet).len(), 32);
-        assert_eq!(program(&["old"], sheet), b"refused 41\n");
-        for word in ["new", "old"] {
-            assert_eq!(program(&[word], || Err(())), b"cannot read\n");
-        }
+        assert_eq!(program(&["new"], sheet).unwrap().len(), 32);
+        assert_eq!(program(&["old"], sheet), Ok(b"refused 41\n".to_vec()));
         for words in [&[][..], &["New"], &["ne"], &["newer"], &["new", "old"], &["new", "new"]] {
             let unread = || -> Result<Vec<u8>, ()> { unreachable!("nothing is read") };
-            assert_eq!(program(words, unread), b"usage: move new|old\n");
+            assert_eq!(program(words, unread), Ok(b"usage: move new|old\n".to_vec()));
         }
     }
 }

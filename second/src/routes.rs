@@ -7,7 +7,6 @@
 
 use crate::cut::two_bytes;
 use crate::entity::Kind;
-use crate::input::over;
 use crate::lend;
 use crate::numbers::{LIST, MARK, ROUTES, STEP, WAY};
 use crate::reader;
@@ -142,15 +141,15 @@ pub fn step(id: u8, m: usize, config: &[u8]) -> Printed {
 }
 
 /// The program `way`: its one word is the ID of an Output Terminal, two hex digits; standard input a
-/// configuration. It prints a route a line, or the refusal; `cannot read` where its input cannot be read.
-/// Without that one word it prints how it is used, and reads nothing.
-pub fn way<E>(words: &[&str], input: impl FnOnce() -> Result<Vec<u8>, E>) -> Vec<u8> {
+/// configuration. It prints a route a line, or the refusal. Without that one word it prints how it is
+/// used, and reads nothing.
+pub fn way<E>(words: &[&str], input: impl FnOnce() -> Result<Vec<u8>, E>) -> Result<Vec<u8>, E> {
     match words {
         [word] if word.len() == 2 && word.bytes().all(|digit| digit.is_ascii_hexdigit()) => {
             let id = u8::from_str_radix(word, 16).expect("two hex digits");
-            over(input, |config| lines(id, config).into())
+            Ok(lines(id, &input()?).into())
         }
-        _ => USAGE.into(),
+        _ => Ok(USAGE.into()),
     }
 }
 
@@ -272,7 +271,7 @@ mod tests {
     #[test]
     fn one_word_of_two_hex_digits() {
         let printed = |words: &[&str], config: Vec<u8>| {
-            String::from_utf8(way(words, || Ok::<_, ()>(config))).expect("text")
+            String::from_utf8(way(words, || Ok::<_, ()>(config)).expect("read")).expect("text")
         };
         let tables = telephone(Telephone::Tables, 2, 0x61);
         assert_eq!(printed(&["04"], tables.clone()), "04 07 02\n04 07 03\n");
@@ -286,11 +285,10 @@ mod tests {
         assert_eq!(printed(&["03"], case_a()[1..].to_vec()), "refused 2 at 0\n");
         assert_eq!(printed(&["64"], diamond(8, 2)).lines().count(), 256);
         assert_eq!(printed(&["64"], diamond(9, 2)), "refused 46\n");
-        assert_eq!(way(&["03"], || Err(())), b"cannot read\n");
         let wrong = [&[][..], &["3"], &["003"], &["+3"], &["0x"], &["0g"], &[""], &["03", "03"]];
         for words in wrong {
             let unread = || -> Result<Vec<u8>, ()> { unreachable!("nothing is read") };
-            assert_eq!(way(words, unread), b"usage: way ID\n");
+            assert_eq!(way(words, unread), Ok(b"usage: way ID\n".to_vec()));
         }
     }
 }

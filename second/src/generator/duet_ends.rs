@@ -2,7 +2,7 @@
 
 use super::script::step_bytes;
 use super::vectors::{bad_runs, Run};
-use crate::duet::{self, LOAD, PLUG_IN, PLUG_IN_SHOWN, PUT, REQUEST, SHOW, STRETCH, UNPLUG};
+use crate::duet::{self, LOAD, PLUG_IN, PUT, REQUEST, SHOW, STRETCH, UNPLUG};
 use crate::numbers::{CONTROLS, STEP};
 use crate::relay::PUT_CONTROL;
 
@@ -57,7 +57,6 @@ fn kept() -> Vec<Run> {
         ("room", REQUEST, [&[255, 255, 8, 0xA1, 0x81][..], &[2; 6]].concat(), "refused 32\n"),
         ("put_128", PUT, [put_zeros(CONTROLS), put_zeros(CONTROLS)].concat(), "put\n"),
         ("stretch", STRETCH, vec![1, 0, 0, 0], "refused 1 at 0\n"),
-        ("shown", PLUG_IN_SHOWN, vec![1, 0, 8], "refused 1 at 0\nrest 2048\n"),
     ];
     let one = |(name, kind, body, answer): (&str, u8, Vec<u8>, &str)| {
         let stdin = [emptied(), step_bytes(kind, &body), emptied()].concat();
@@ -71,7 +70,7 @@ fn bad() -> Vec<Run> {
     let zeros = |kind, length| step_bytes(kind, &vec![0; length]);
     let mut ends = vec![
         ("kind_0", zeros(0, 0)),
-        ("kind_9", zeros(9, 0)),
+        ("kind_8", zeros(8, 0)),
         ("kind_255", zeros(255, 4)),
         ("long", zeros(PLUG_IN, STEP + 1)),
         ("plug_in_0", zeros(PLUG_IN, 0)),
@@ -89,11 +88,6 @@ fn bad() -> Vec<Run> {
         ("stretch_left", step_bytes(STRETCH, &[0, 1, 2, 0, 9])),
         ("stretch_longest_left", step_bytes(STRETCH, &[1, 1, 255, 255, 9])),
         ("stretch_side", step_bytes(STRETCH, &[2, 1, 0, 0])),
-        ("shown_0", zeros(PLUG_IN_SHOWN, 0)),
-        ("shown_2", zeros(PLUG_IN_SHOWN, 2)),
-        ("shown_side", step_bytes(PLUG_IN_SHOWN, &[2, 0, 0])),
-        ("shown_long", step_bytes(PLUG_IN_SHOWN, &[0, 1, 8])),
-        ("shown_longest", step_bytes(PLUG_IN_SHOWN, &[1, 255, 255])),
         ("ends_in_kind", vec![SHOW]),
         ("ends_in_length", vec![SHOW, 0]),
         ("ends_in_body", zeros(LOAD, 12)[..14].to_vec()),

@@ -2,12 +2,11 @@
 
 use super::build::Plan;
 use super::configs::{feature_of, input, selector};
-use super::duets::{shown_body, sided, stretch_body, Duets};
-use super::lent;
+use super::duets::{sided, stretch_body, Duets};
 use super::orders::{Apart, Step};
 use super::random;
 use super::rng::Rng;
-use crate::duet::{LOAD, PLUG_IN, PLUG_IN_SHOWN, PUT, SHOW, STRETCH, UNPLUG};
+use crate::duet::{LOAD, PLUG_IN, PUT, SHOW, STRETCH, UNPLUG};
 use crate::numbers::{CONTROLS, DUET_CONTROLS};
 use crate::relay::{self, PUT_CONTROL, PUT_OPENING};
 use crate::requests::{State, NUMBER_AT};
@@ -44,7 +43,7 @@ fn some_side_that(rng: &mut Rng, duet: &Duet, plugged: bool, but: usize) -> Side
 
 /// A configuration for a plug-in on this side: with few controls, with many, with as many as there just
 /// is room for or one more or less, or any.
-fn plugged(rng: &mut Rng, duet: &Duet, side: Side) -> Vec<u8> {
+pub fn plugged(rng: &mut Rng, duet: &Duet, side: Side) -> Vec<u8> {
     match rng.below(7) {
         0..=1 => random::with_controls(rng),
         2..=3 => {
@@ -58,17 +57,6 @@ fn plugged(rng: &mut Rng, duet: &Duet, side: Side) -> Vec<u8> {
         }
         _ => random::configuration(rng),
     }
-}
-
-/// A plug-in on this side, which shows its sheet more often than not: of a length near what its records
-/// need, or any.
-pub fn plug_in(rng: &mut Rng, duet: &Duet, side: Side) -> Step {
-    let config = plugged(rng, duet, side);
-    if rng.one_in(3) {
-        return (PLUG_IN, sided(side, &config));
-    }
-    let m = lent::near(rng, lent::entities(&config));
-    (PLUG_IN_SHOWN, shown_body(side, m, &config))
 }
 
 /// A load or a request for this side; a request now and then for what is no side.
@@ -132,7 +120,7 @@ pub fn step(rng: &mut Rng, duets: &mut Duets) {
     let taken = some_side_that(rng, &duets.duet, true, 12);
     let shown = Side::BOTH.iter().all(|&side| duets.duet.controls(side) <= SHOWN);
     let (kind, body) = match rng.below(100) {
-        0..=7 => plug_in(rng, &duets.duet, empty),
+        0..=7 => (PLUG_IN, sided(empty, &plugged(rng, &duets.duet, empty))),
         8..=10 => (UNPLUG, vec![taken.number()]),
         11..=12 => (PUT, put(rng, &duets.duet)),
         13..=14 if shown => (SHOW, vec![]),
@@ -167,10 +155,8 @@ mod tests {
             step(&mut rng, &mut duets);
         }
         assert_eq!(duet::program(&duets.tape.bytes), duets.tape.printed);
-        let met = |way: &Way| duets.reach.ways.contains_key(way);
         for way in [Way::SideTaken, Way::SidesFull, Way::RequestEmpty, Way::PresentedNumber] {
-            assert!(met(&way), "{way:?}");
+            assert!(duets.reach.ways.contains_key(&way), "{way:?}");
         }
-        assert!(met(&Way::SheetShort), "no plug-in shows its sheet");
     }
 }

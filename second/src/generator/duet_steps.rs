@@ -37,7 +37,7 @@ pub fn all(duets: &mut Duets) {
 }
 
 /// A microphone with this AudioControl number and so many controls.
-pub fn with_controls(number: u8, count: usize) -> Vec<u8> {
+fn with_controls(number: u8, count: usize) -> Vec<u8> {
     let mut plan = Plan::new(vec![input(1, (16, 0, 0)), feature_of(2, count)], vec![]);
     plan.control[2] = number;
     plan.bytes()
@@ -135,7 +135,7 @@ fn taken(duets: &mut Duets) {
 }
 
 /// The first configuration of each clause of the reader, with its answer.
-pub fn refused_configs() -> Vec<(Vec<u8>, Way, String)> {
+fn refused_configs() -> Vec<(Vec<u8>, Way, String)> {
     let mut seen = BTreeSet::new();
     let mut all = Vec::new();
     for case in configs::all() {
@@ -289,7 +289,7 @@ fn tables() -> Vec<(u16, Vec<Control>)> {
 }
 
 /// A put with this on one side and that on the other.
-pub fn put(duets: &mut Duets, side: Side, one: &[u8], other: &[u8]) {
+fn put(duets: &mut Duets, side: Side, one: &[u8], other: &[u8]) {
     let body = match side {
         Left => [one, other].concat(),
         Right => [other, one].concat(),
@@ -340,8 +340,8 @@ fn spoilt(duets: &mut Duets) {
     duets.clear();
 }
 
-/// One side of a put: so many controls that are ones.
-pub fn many(count: usize) -> Vec<u8> {
+/// So many controls that are ones.
+fn many(count: usize) -> Vec<u8> {
     let state = reader::read(&with_controls(0, count), &mut [0; SHEET]).state;
     put_side(5, count as u16, state.table.controls().expect("at most 128"))
 }
@@ -517,13 +517,11 @@ fn refused_stretches(duets: &mut Duets) {
 mod tests {
     use super::*;
     use crate::duet;
-    use crate::generator::duet_sheets;
 
     #[test]
     fn every_refusal_comes_on_both_sides() {
         let mut duets = Duets::new();
         all(&mut duets);
-        duet_sheets::all(&mut duets);
         assert_eq!(duets.missing(), Vec::<String>::new());
         assert_eq!(duet::program(&duets.tape.bytes), duets.tape.printed);
     }

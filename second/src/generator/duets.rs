@@ -5,7 +5,7 @@ use std::collections::BTreeSet;
 use super::script::{put_body, step_bytes, Reach};
 use super::tape::Tape;
 use crate::controls::Control;
-use crate::duet::{self, LOAD, PLUG_IN, PLUG_IN_SHOWN, PUT, REQUEST, STRETCH, UNPLUG};
+use crate::duet::{self, LOAD, PLUG_IN, PUT, REQUEST, STRETCH, UNPLUG};
 use crate::relay::Printed;
 use crate::requests::State;
 use crate::sides::{Duet, Side};
@@ -17,11 +17,6 @@ const NO_SIDE: u8 = 2;
 /// The body of a step that opens with a side.
 pub fn sided(side: Side, rest: &[u8]) -> Vec<u8> {
     [&[side.number()][..], rest].concat()
-}
-
-/// The body of a plug-in that shows its sheet of m bytes.
-pub fn shown_body(side: Side, m: usize, config: &[u8]) -> Vec<u8> {
-    [&[side.number()][..], &(m as u16).to_le_bytes(), config].concat()
 }
 
 /// One side of a put: a number, a count and the places given.
@@ -105,7 +100,6 @@ impl Duets {
         let reader = || (1..=15).chain([17]);
         let all = [
             (PLUG_IN, "plug-in", reader().chain([30, 61, 62]).collect::<Vec<u16>>()),
-            (PLUG_IN_SHOWN, "plug-in that shows its sheet", (1..=17).chain([30, 61, 62]).collect()),
             (LOAD, "load", vec![20, 21, 30, 63]),
             (REQUEST, "request", vec![30, 31, 33, 34, 35, 36, 37, 38, 39, 63]),
             (UNPLUG, "unplugging", vec![30, 63]),

@@ -3,7 +3,7 @@
 //! count of right-hand controls, give the left the same answers, and so with the sides exchanged"
 //! (document 02, No. 11).
 
-use super::duet_random::{exactly, load_or_request, plug_in, some_side};
+use super::duet_random::{exactly, load_or_request, plugged, some_side};
 use super::duets::{sided, Duets};
 use super::orders::Step;
 use super::rng::Rng;
@@ -41,7 +41,8 @@ fn make(rng: &mut Rng, duets: &mut Duets, watched: Side) -> (Vec<Episode>, Vec<S
         let room = DUET_CONTROLS - duets.duet.controls(watched);
         let met = (*rng.pick(&[0, 3, 64, 100, 128])).min(room);
         meet(rng, duets, watched.other(), met);
-        let mut steps = vec![plug_in(rng, &duets.duet, watched)];
+        let config = plugged(rng, &duets.duet, watched);
+        let mut steps = vec![(PLUG_IN, sided(watched, &config))];
         answers.push(duets.step(steps[0].0, &steps[0].1).lines);
         for _ in 0..STEPS {
             other_steps(rng, duets, watched.other());
@@ -111,8 +112,8 @@ fn other_steps(rng: &mut Rng, duets: &mut Duets, other: Side) {
         match rng.below(6) {
             0 => drop(duets.step(UNPLUG, &[other.number()])),
             1 => {
-                let step = plug_in(rng, &duets.duet, other);
-                duets.step(step.0, &step.1);
+                let config = plugged(rng, &duets.duet, other);
+                duets.step(PLUG_IN, &sided(other, &config));
             }
             _ => {
                 let step = load_or_request(rng, &duets.duet, other);
@@ -136,9 +137,7 @@ mod tests {
         for _ in 0..300 {
             two_runs(&mut rng, &mut duets);
         }
-        for way in
-            [Way::SidesFull, Way::SideTaken, Way::RequestEmpty, Way::ReplyShort, Way::SheetShort]
-        {
+        for way in [Way::SidesFull, Way::SideTaken, Way::RequestEmpty, Way::ReplyShort] {
             assert!(duets.reach.ways.contains_key(&way), "{way:?}");
         }
     }

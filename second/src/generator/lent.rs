@@ -137,7 +137,7 @@ impl Lent {
 }
 
 /// How many entities an acceptable configuration has.
-pub fn entities(config: &[u8]) -> Option<usize> {
+fn entities(config: &[u8]) -> Option<usize> {
     let answer = reader::read(config, &mut [0; LENT]);
     answer.refusal.is_none().then_some(answer.entities)
 }

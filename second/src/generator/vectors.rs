@@ -1,5 +1,4 @@
 //! The vectors: for each run of a program a folder with its `stdin`, its files and its `stdout`.
-//! A `stdin` that is a folder itself cannot be read; such runs stand in `unread`.
 //! Those of `duet` that are short stand in `duet_ends`, those of `lend3` and all of `sheet3` in
 //! `lent3_ends`.
 
@@ -10,7 +9,6 @@ use super::build::{case_a, microphone, telephone, Telephone};
 use super::configs::{self, desk};
 use super::duet_ends;
 use super::duet_random;
-use super::duet_sheets;
 use super::duet_steps;
 use super::duets::Duets;
 use super::headsets;
@@ -26,7 +24,6 @@ use super::rng::Rng;
 use super::routes::{self as ways, route_bytes, Routes};
 use super::script::{step_bytes, Reach, Script};
 use super::steps;
-use super::unread;
 use crate::duet;
 use crate::lend;
 use crate::lend3;
@@ -63,8 +60,6 @@ pub struct Run {
     pub words: Vec<&'static str>,
     /// What the program reads.
     pub stdin: Vec<u8>,
-    /// Whether a folder stands in its place.
-    pub unread: bool,
     /// The files of the folder that it runs in.
     pub files: Vec<(&'static str, Vec<u8>)>,
     /// What it has to print.
@@ -74,8 +69,7 @@ pub struct Run {
 impl Run {
     /// A run that reads standard input.
     pub fn new(name: impl Into<String>, stdin: Vec<u8>, stdout: impl Into<Vec<u8>>) -> Run {
-        let (name, stdout) = (name.into(), stdout.into());
-        Run { name, words: vec![], stdin, unread: false, files: vec![], stdout }
+        Run { name: name.into(), words: vec![], stdin, files: vec![], stdout: stdout.into() }
     }
 }
 
@@ -150,7 +144,6 @@ pub fn make() -> Vectors {
     }
     let mut duets = Duets::new();
     duet_steps::all(&mut duets);
-    duet_sheets::all(&mut duets);
     named.add(&duets.reach);
     for (name, script) in [("duet_steps", &duets), ("duet_random", &random_duets())] {
         assert_eq!(duet::program(&script.tape.bytes), script.tape.printed, "{name}");
@@ -176,7 +169,6 @@ pub fn make() -> Vectors {
     runs.extend(told_ways());
     runs.push(longest_list());
     runs.extend(bad_lists());
-    runs.extend(unread::all());
     Vectors { runs, reach, named, lent, pairs, moves, routes, lists, duets, thirds }
 }
 
@@ -444,7 +436,7 @@ fn compared_files() -> Vec<Run> {
 
 /// A run of `move` with these words over this sheet.
 fn moved(name: &str, words: &[&'static str], sheet: &[u8]) -> Run {
-    let stdout = mover::program(words, || Ok::<_, ()>(sheet.to_vec()));
+    let stdout = mover::program(words, || Ok::<_, ()>(sheet.to_vec())).expect("a sheet");
     Run { words: words.to_vec(), ..Run::new(name, sheet.to_vec(), stdout) }
 }
 
@@ -524,7 +516,7 @@ fn bad_route_steps() -> Vec<Run> {
 /// Runs of `way`.
 fn told_ways() -> Vec<Run> {
     let run = |(name, words, config): ways::WayRun| {
-        let stdout = routes::way(&words, || Ok::<_, ()>(config.clone()));
+        let stdout = routes::way(&words, || Ok::<_, ()>(config.clone())).expect("a configuration");
         Run { words, ..Run::new(format!("way{name}"), config, stdout) }
     };
     ways::way_runs().into_iter().map(run).collect()
@@ -652,11 +644,7 @@ impl Vectors {
         for run in &self.runs {
             let folder = dir.join(&run.name);
             fs::create_dir_all(&folder)?;
-            if run.unread {
-                fs::create_dir_all(folder.join("stdin"))?;
-            } else {
-                fs::write(folder.join("stdin"), &run.stdin)?;
-            }
+            fs::write(folder.join("stdin"), &run.stdin)?;
             fs::write(folder.join("stdout"), &run.stdout)?;
             if !run.words.is_empty() {
                 let lines: String = run.words.iter().map(|word| format!("{word}\n")).collect();
