@@ -1,7 +1,7 @@
 -- Writing fields and reading them are each other's inverse. Each law holds for all layouts at once, from the laws of formats; a layout adds
 -- a line that is refl. Nothing is asked of bytes 0 and 1 until the end, where they are the length and the type.
 --   FoundBy, found_by ==  the fields of d were found by a layout whose number is byte 2, and d has that layout
---   read-back      ==  the fields of the descriptor of f are f
+--   read_back      ==  the fields of the descriptor of f are f
 --   Standing, fed_standing  ==  the sources are a part of d, from the first source's offset on, and end inside d
 --   none_some, some_one  ==  none is not some; some of one thing
 use Rattle.std.specs.Prelude.{ℕ, suc, ◌+◌, ◌-◌, ◌≤◌, ◌<◌, ◌≡◌, refl, Bool, true, false, List, [], ◌∷◌, length, take, drop, eqb}
