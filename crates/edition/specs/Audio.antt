@@ -16,6 +16,7 @@
 --   Keeps e l cs     ==  e, whose descriptor is l long, keeps its kind's rule where cs enter; keeps e l cs: what the reader computes;
 --                        reads_keeps: these agree
 --   audio            ==  the edition
+--   reads_kept       ==  keeps e l cs decides Keeps e l cs, given a test of whether the clusters that enter a Selector are alike
 use Rattle.std.specs.Prelude.{ℕ, ◌+◌, ◌*◌, ◌/◌, ◌≤◌, ◌<◌, ◌≡◌, Bool, true, ◌&&◌, List, [], ◌∷◌, map, eqb, length, get_or}
 use Rattle.std.proofs.Common.{div-mul-le_self, arith, lit<}
 use Rattle.std.proofs.Math.Nat.{lt-div-mul-add}

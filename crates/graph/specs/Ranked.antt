@@ -14,6 +14,7 @@
 --   rank_by ids o x              ==  the index at which the ID x is borne first in o
 --   grown_ranked                ==  .. which is a rank, of what is in a grown order
 --   in_short, order_short       ==  an index in a grown order of m has none of m steps or more; so one in the order none of n
+--   borne_in                    ==  an index whose ID a grown order bears is in it
 use Rattle.std.specs.Prelude.{ℕ, zero, suc, ◌≤◌, ◌<◌, ◌≡◌, List, [], ◌∷◌, ◌++◌, ◌⊎◌, ◌↔◌, Bool, ◌&&◌, eqb, length}
 use Rattle.std.proofs.Common.{zero-le, sym, ap, ◌∙◌, inl, inr, ⊎_elim, arith, le_refl, eq-eqb, ne_eqb}
 use Rattle.std.proofs.Math.Path.{refl}

@@ -1,6 +1,7 @@
 -- What a move is, exactly: how long the moved sheet is, and each number where the paper gives it.
 --   reads_more, reads_loses  ==  what the tests of 43 decide
 --   moved_short     ==  what is refused by neither 41 nor 42 is no longer than a sheet of the new form
+--   short, moved_sheet  ==  a sheet of the new form is no longer than the longest; what 41 does not refuse is a sheet of it
 use Rattle.std.specs.Prelude.{ℕ, ◌+◌, ◌*◌, ◌≤◌, ◌<◌, ◌≡◌, Bool, not, replicate, eqb, ltb}
 use Rattle.std.proofs.Math.Path.{refl, ap}
 use Rattle.std.proofs.Common.{sym, ◌∙◌, arith, take_all, eq-eqb, ne_eqb}

@@ -10,6 +10,7 @@
 --   standing         ==  so stands the rest
 --   cut_rest         ==  a cutting is what stands from the first byte on
 --   cut_one          ==  THE CUTTING THEOREM: there is one cutting at most
+--   Ends m s at e    ==  e is where the piece at a place ends: the place itself where none stands
 use Prim.Native.Nat.{ℕ, zero, suc, ◌+◌, ◌-◌, ◌≤◌, ◌<◌}
 use Rattle.std.specs.Prelude.{◌≡◌, Bool, ◌↔◌, take, eqb}
 use Rattle.std.proofs.Math.Path.{refl, sym, ap}

@@ -1,5 +1,8 @@
 -- Which Terminals the reader has, where its run stands for descriptors: those that the descriptors say, with no search among them.
 --   one_each         ==  where the descriptors have distinct IDs, an ID is borne by one Terminal at most
+--   heard            ==  the Terminal that a descriptor with that ID and type is, with so many channels
+--   terminal_in ds cs j  ==  the Terminal that the j-th of the descriptors is, with the j-th of the clusters
+--   Stands ds cs t   ==  the Terminal t is one of those; same_at, terminal_stands: those that the reader has are
 use Prim.Native.Nat.{ℕ, zero, suc, ◌+◌, ◌≤◌, ◌<◌}
 use Rattle.std.specs.Prelude.{◌≡◌, refl, ◌⊎◌, List, [], ◌∷◌, get_or, drop, take}
 use Rattle.std.proofs.Common.{sym, ap, ◌∙◌, inl, inr, length-append, eq-or-lt_of_le}
