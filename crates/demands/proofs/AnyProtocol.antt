@@ -35,7 +35,7 @@ use Rattle.cutting.specs.Context.{frame_told, control_nine}
 use Rattle.controls.specs.Growth.{table_of}
 use Rattle.records.specs.Sheet.{whole_sheet, Rule16}
 use Rattle.topology.specs.Reading.{verdict_of, refused_reading, reading_of, sheet_of}
-use Rattle.reader.specs.Configuration.{run_of, Configuration}
+use Rattle.reader.specs.Configuration.{run_of, place_of_run, Configuration}
 use Rattle.reader.specs.Refusals.{kept_rows, Refused}
 use Rattle.reader.proofs.Exactly.{refused_exactly}
 use Rattle.reader.proofs.Shows.{number_told, answer_shows, sheet_shows, run, controls}
@@ -263,6 +263,18 @@ module _ (s : List ℕ) (o : Opened s) (x : ℕ) where
 
   begin : (i : ℕ) → i < 4 → byte s i ≡ byte (set s (protocol_place o) x) i
   begin i n = sym (get_or-set_other s (protocol_place o) i x 0 (λ e. omega arith))
+
+-- what is accepted with another byte there: the same run at the same place
+pub record Alike (s s' : List ℕ) (c : Configuration s) : Type 0 where
+  pub other : Configuration s'
+  pub run : run_of other.kept ≡ run_of c.kept
+  pub place : place_of_run other.kept ≡ place_of_run c.kept
+
+pub alike : (s : List ℕ) (o : Opened s) (x : ℕ) (c : Configuration s) → Alike s (set s (protocol_place o) x) c
+alike s o x c =
+    let p = c.kept.opened in
+    let t = twins_of s _ _ (whole s o x) (begin s o x) o (twins s o x) (p.descriptors, p.rule3) in
+    record { other = configured s _ _ (whole s o x) (begin s o x) c t; run = refl; place = refl }
 
 pub any_protocol : AnyProtocol
 any_protocol = record {

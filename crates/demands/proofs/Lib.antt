@@ -7,3 +7,4 @@ pub mod Shuffled
 pub mod AnyOrder
 pub mod Twins
 pub mod AnyProtocol
+pub mod CallsTold

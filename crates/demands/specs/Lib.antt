@@ -5,3 +5,4 @@ pub mod Cases
 pub mod TurnedAway
 pub mod AnyOrder
 pub mod AnyProtocol
+pub mod CallsTold

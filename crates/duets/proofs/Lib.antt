@@ -6,3 +6,4 @@ pub mod Crowded
 pub mod Stretches
 pub mod DuetRows
 pub mod StepsTold
+pub mod DuetAnyProtocol

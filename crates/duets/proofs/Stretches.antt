@@ -114,7 +114,7 @@ module _ (s : List ℕ) where
     unfolding finding_with
     run_is = ap (λ (f : Finding). f.run) (finding_taken s found refl kept) ∙ ap (λ (v : Survey). v.run) (survey_kept s t.kept)
 
-    located_in_lem : (x : ℕ) → located_in s x ≡ known (entity_place run x)
+    pub located_in_lem : (x : ℕ) → located_in s x ≡ known (entity_place run x)
     unfolding located_by
     located_in_lem x = yes _ _ (eq-eqb _ _ kept) ∙ ap (λ (v : Run). known (entity_place v x)) run_is
 

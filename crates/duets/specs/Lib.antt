@@ -5,3 +5,4 @@ pub mod Crowded
 pub mod Stretches
 pub mod DuetRows
 pub mod StepsTold
+pub mod DuetAnyProtocol
