@@ -1,8 +1,10 @@
 #![tactic(auto)]
-// The program `compare` (document 02, No. 4): reads two sheets from the files `left` and `right` in the folder that it runs in and prints their
-// differences by rising ID, or `refused N`. A file that cannot be read is `cannot read left` or `cannot read right`, and nothing else.
+// The program `compare` (document 02, No. 4): reads two sheets from the files `left` and `right` in the folder that it
+// runs in and prints their differences by rising ID, or `refused N`. A file that cannot be read is `cannot read left`
+// or `cannot read right`, and nothing else.
 ghost use Rattle.std.specs.Prelude.{◌≤◌, length};
 
+use std::io::Read;
 use std::rt::Files;
 use std::{fs, io};
 
@@ -16,6 +18,15 @@ struct Content {
     count: usize,
 }
 
+// Whether nothing is left to read. Where a read before this one failed, this one fails too, or brings what was left.
+fn is_over(input: &mut impl Read) -> bool {
+    let mut more = [0u8; 1];
+    match input.read(&mut more) {
+        Ok(n) => n == 0,
+        Err(_) => false,
+    }
+}
+
 // The bytes of a file, as many of them as there is room for.
 fn read_file(files: &impl Files, name: &str, room: &mut [u8]) -> Content
     ensures { result.count ≤ length room.new }
@@ -27,7 +38,7 @@ fn read_file(files: &impl Files, name: &str, room: &mut [u8]) -> Content
         };
     };
     let count = fill::read_full(&mut file, room);
-    let good = count == room.len() || fill::is_over(&mut file);
+    let good = count == room.len() || is_over(&mut file);
     Content { good, count }
 }
 

@@ -1,6 +1,7 @@
 #![tactic(auto)]
-// The program `duet`: the duet box over a script of steps from standard input, each a kind byte, a two-byte length n, low byte first, and n bytes. Each
-// step prints its answer; a step that is none prints `bad step`, and the program ends.
+// The program `duet`: the duet box over a script of steps from standard input, each a kind byte, a two-byte length n,
+// low byte first, and n bytes. Each step prints its answer; a step that is none prints `bad step`, and the program
+// ends.
 ghost use Rattle.std.specs.Prelude.{◌≤◌, ◌≡◌, length};
 
 use duet::{Duet, Socket};

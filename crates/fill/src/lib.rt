@@ -28,12 +28,3 @@ pub fn read_full(input: &mut impl Read, buffer: &mut [u8]) -> usize
     }
     done
 }
-
-// Whether nothing is left to read. Where a read before this one failed, this one fails too, or brings what was left.
-pub fn is_over(input: &mut impl Read) -> bool {
-    let mut more = [0u8; 1];
-    match input.read(&mut more) {
-        Ok(n) => n == 0,
-        Err(_) => false,
-    }
-}

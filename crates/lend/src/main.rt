@@ -1,7 +1,8 @@
 #![tactic(auto)]
-// The program `lend`: the reader with a sheet of another length at each step. A step from standard input is two bytes m, two bytes n, low
-// byte first, and n bytes: a configuration, read with m bytes lent, each of them AA. It prints the answer, then the lent bytes, sixteen to
-// a line, up to the last that is not AA, then how many stand behind it. A step that is none prints `bad step`, and the program ends.
+// The program `lend`: the reader with a sheet of another length at each step. A step from standard input is two bytes
+// m, two bytes n, low byte first, and n bytes: a configuration, read with m bytes lent, each of them AA. It prints the
+// answer, then the lent bytes, sixteen to a line, up to the last that is not AA, then how many stand behind it. A step
+// that is none prints `bad step`, and the program ends.
 ghost use Rattle.std.specs.Prelude.{◌≡◌, length};
 
 use std::io;
@@ -77,7 +78,8 @@ fn read_step(input: &mut impl Read, out: &impl Print, m: usize, n: usize) -> io:
     step(out, m, &body[..n])
 }
 
-// One step from standard input: whether another may follow. The input's end before a step begins is no step, and nothing is said.
+// One step from standard input: whether another may follow. The input's end before a step begins is no step, and
+// nothing is said.
 fn turn(input: &mut impl Read, out: &impl Print) -> io::Result<bool> {
     let mut opening = [0u8; 4];
     let got = fill::read_full(input, &mut opening);

@@ -1,8 +1,9 @@
 #![tactic(auto)]
-// The program `lend3` (document 02, No. 12): the reader of both editions, with a cluster buffer and a sheet of another length at each step. A step from standard
-// input is two bytes m, two bytes n and two bytes k, low byte first, n bytes: a configuration, and k bytes: the cluster buffer. It is read with m bytes lent, each of
-// them AA. It prints `accepted`, how many entities there are, or `refused N at P`, then the lent bytes as `lend` shows them. A step that is none prints `bad step`,
-// and the program ends.
+// The program `lend3` (document 02, No. 12): the reader of both editions, with a cluster buffer and a sheet of another
+// length at each step. A step from standard input is two bytes m, two bytes n and two bytes k, low byte first, n bytes:
+// a configuration, and k bytes: the cluster buffer. It is read with m bytes lent, each of them AA. It prints
+// `accepted`, how many entities there are, or `refused N at P`, then the lent bytes as `lend` shows them. A step that
+// is none prints `bad step`, and the program ends.
 ghost use Rattle.std.specs.Prelude.{◌≡◌, length};
 
 use std::io;
@@ -102,7 +103,8 @@ fn read_step(
     read_clusters(input, out, m, k, &body[..n])
 }
 
-// One step from standard input: whether another may follow. The input's end before a step begins is no step, and nothing is said.
+// One step from standard input: whether another may follow. The input's end before a step begins is no step, and
+// nothing is said.
 fn turn(input: &mut impl Read, out: &impl Print) -> io::Result<bool> {
     let mut opening = [0u8; 6];
     let got = fill::read_full(input, &mut opening);

@@ -1,6 +1,7 @@
 #![tactic(auto)]
-// The program `move` (document 02, No. 7): its one argument is the form wanted, `new` or `old`. It reads a sheet of the other form from standard
-// input and prints the moved sheet's bytes, or `refused N`. Anything but that one argument prints how it is used, and nothing is read.
+// The program `move` (document 02, No. 7): its one argument is the form wanted, `new` or `old`. It reads a sheet of the
+// other form from standard input and prints the moved sheet's bytes, or `refused N`. Anything but that one argument
+// prints how it is used, and nothing is read.
 ghost use Rattle.std.specs.Prelude.{◌≤◌, length};
 
 use legal::Form;
@@ -30,7 +31,8 @@ fn move_input(input: &mut impl Read, out: &impl Print, form: Form) -> io::Result
     say_moved(out, moved, &room)
 }
 
-// How many bytes the one argument has; 0 where there is none, or another behind it, or more bytes than there is room for.
+// How many bytes the one argument has; 0 where there is none, or another behind it, or more bytes than there is room
+// for.
 fn only_word(words: &impl Env, word: &mut [u8]) -> usize
     ensures { result ≤ length word.new }
 {

@@ -1,6 +1,7 @@
 #![tactic(auto)]
-// The program `relay`: the box over a script of steps from standard input, each a kind byte, a two-byte length n, low byte first, and
-// n bytes. Each step prints its answer on a line of its own; a step that is none prints `bad step`, and the program ends.
+// The program `relay`: the box over a script of steps from standard input, each a kind byte, a two-byte length n, low
+// byte first, and n bytes. Each step prints its answer on a line of its own; a step that is none prints `bad step`, and
+// the program ends.
 ghost use Rattle.std.specs.Prelude.{◌≤◌, ◌≡◌, length};
 
 use request::State;

@@ -1,6 +1,6 @@
 #![tactic(auto)]
-// What the programs that compare two sheets print (document 02, No. 4): a line for each difference, or `refused N`. What is printed is in no
-// contract; what is answered is.
+// What the programs that compare two sheets print (document 02, No. 4): a line for each difference, or `refused N`.
+// What is printed is in no contract; what is answered is.
 ghost use Rattle.std.specs.Prelude.{◌≡◌, IfOk};
 ghost use Rattle.differences.specs.Lines.{pair_number};
 

@@ -1,7 +1,8 @@
 #![tactic(auto)]
-// The program `routes` (document 02, No. 8), over a script. A step from standard input is one byte, the ID of an Output Terminal; two bytes m and two bytes n,
-// low byte first; and n bytes, a configuration, whose routes are listed with m bytes lent, each of them AA. It prints `routes R K`, or `refused N at P` where
-// the reader refuses, or `refused N`; then the lent bytes as `lend` shows them. A step that is none prints `bad step`, and the program ends.
+// The program `routes` (document 02, No. 8), over a script. A step from standard input is one byte, the ID of an Output
+// Terminal; two bytes m and two bytes n, low byte first; and n bytes, a configuration, whose routes are listed with m
+// bytes lent, each of them AA. It prints `routes R K`, or `refused N at P` where the reader refuses, or `refused N`;
+// then the lent bytes as `lend` shows them. A step that is none prints `bad step`, and the program ends.
 ghost use Rattle.std.specs.Prelude.{◌≡◌, length};
 
 use std::io;
@@ -85,7 +86,8 @@ fn read_step(
     step(out, id, m, &body[..n])
 }
 
-// One step from standard input: whether another may follow. The input's end before a step begins is no step, and nothing is said.
+// One step from standard input: whether another may follow. The input's end before a step begins is no step, and
+// nothing is said.
 fn turn(input: &mut impl Read, out: &impl Print) -> io::Result<bool> {
     let mut opening = [0u8; 5];
     let got = fill::read_full(input, &mut opening);

@@ -1,6 +1,6 @@
 #![tactic(auto)]
-// The program `sheet` (document 01): reads a configuration from standard input, lends 1,024 bytes and prints each record as thirty-two
-// two-digit capital hex bytes with single spaces, or `refused N at P` in decimal.
+// The program `sheet` (document 01): reads a configuration from standard input, lends 1,024 bytes and prints each
+// record as thirty-two two-digit capital hex bytes with single spaces, or `refused N at P` in decimal.
 use std::io;
 use topology::Reading;
 

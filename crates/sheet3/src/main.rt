@@ -1,6 +1,7 @@
 #![tactic(auto)]
-// The program `sheet3` (document 02, No. 12), for a person: reads a configuration of either edition from standard input and its cluster buffer from the file
-// `clusters` in the folder that it runs in, lends 1,024 bytes and prints as `sheet` does. A file that cannot be read, or not whole, is `cannot read clusters`, and nothing else.
+// The program `sheet3` (document 02, No. 12), for a person: reads a configuration of either edition from standard input
+// and its cluster buffer from the file `clusters` in the folder that it runs in, lends 1,024 bytes and prints as
+// `sheet` does. A file that cannot be read, or not whole, is `cannot read clusters`, and nothing else.
 ghost use Rattle.std.specs.Prelude.{◌≤◌, length};
 
 use std::io::Read;
@@ -11,7 +12,8 @@ use topology::Reading;
 // One byte more than a configuration may have: a longer input reads as that long, and is refused for it.
 const ROOM: usize = 4097;
 
-// As many bytes as a step of `lend3` takes. No paper bounds the buffer, a program has to: a longer file is never taken for a whole one.
+// As many bytes as a step of `lend3` takes. No paper bounds the buffer, a program has to: a longer file is never taken
+// for a whole one.
 const CLUSTERS: usize = 8192;
 
 // The bytes of the lent sheet.
@@ -22,6 +24,15 @@ const SHEET: usize = 1024;
 struct Content {
     good: bool,
     count: usize,
+}
+
+// Whether nothing is left to read. Where a read before this one failed, this one fails too, or brings what was left.
+fn is_over(input: &mut impl Read) -> bool {
+    let mut more = [0u8; 1];
+    match input.read(&mut more) {
+        Ok(n) => n == 0,
+        Err(_) => false,
+    }
 }
 
 // The bytes of the file; good where there was room for all of them.
@@ -35,7 +46,7 @@ fn read_file(files: &impl Files, room: &mut [u8]) -> Content
         };
     };
     let count = fill::read_full(&mut file, room);
-    let good = fill::is_over(&mut file);
+    let good = is_over(&mut file);
     Content { good, count }
 }
 

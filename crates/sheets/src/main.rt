@@ -1,8 +1,9 @@
 #![tactic(auto)]
-// The program `sheets`: pairs of sheets, and moves, over a script from standard input. A step is a kind byte, a two-byte length n, low byte first,
-// and n bytes. Kind 01 is two bytes a, a bytes of the left sheet, and the right one: it prints what `compare` prints of the two, then `end`. Kinds
-// 02 and 03 are two bytes m and a sheet, moved to the new and to the old form into m bytes lent, each of them AA: it prints `moved K` or `refused
-// N`, then the lent bytes as `lend` shows them. A step that is none prints `bad step`, and the program ends.
+// The program `sheets`: pairs of sheets, and moves, over a script from standard input. A step is a kind byte, a
+// two-byte length n, low byte first, and n bytes. Kind 01 is two bytes a, a bytes of the left sheet, and the right one:
+// it prints what `compare` prints of the two, then `end`. Kinds 02 and 03 are two bytes m and a sheet, moved to the new
+// and to the old form into m bytes lent, each of them AA: it prints `moved K` or `refused N`, then the lent bytes as
+// `lend` shows them. A step that is none prints `bad step`, and the program ends.
 ghost use Rattle.std.specs.Prelude.{◌≡◌, length};
 
 use legal::Form;
@@ -100,7 +101,8 @@ fn read_step(input: &mut impl Read, out: &impl Print, kind: u8, n: usize) -> io:
     step(out, kind, &body[..n])
 }
 
-// One step from standard input: whether another may follow. The input's end before a step begins is no step, and nothing is said.
+// One step from standard input: whether another may follow. The input's end before a step begins is no step, and
+// nothing is said.
 fn turn(input: &mut impl Read, out: &impl Print) -> io::Result<bool> {
     let mut opening = [0u8; 3];
     let got = fill::read_full(input, &mut opening);

@@ -1,7 +1,8 @@
 #![tactic(auto)]
-// The program `way` (document 02, No. 8): its one argument is the ID of an Output Terminal as two hex digits. It reads a configuration from standard input and
-// prints every route, a line each, the IDs from the output to the input as two capital hex digits with single spaces; or `refused N at P` where the reader
-// refuses, or `refused N`. Anything but that one argument prints how it is used, and nothing is read.
+// The program `way` (document 02, No. 8): its one argument is the ID of an Output Terminal as two hex digits. It reads
+// a configuration from standard input and prints every route, a line each, the IDs from the output to the input as two
+// capital hex digits with single spaces; or `refused N at P` where the reader refuses, or `refused N`. Anything but
+// that one argument prints how it is used, and nothing is read.
 ghost use Rattle.std.specs.Prelude.{◌≤◌, length};
 
 use std::env::{Env, FillError};
@@ -97,7 +98,8 @@ fn list_from(input: &mut impl Read, out: &impl Print, high: u16, low: u16) -> io
     Ok(true)
 }
 
-// How many bytes the one argument has; 0 where there is none, or another behind it, or more bytes than there is room for.
+// How many bytes the one argument has; 0 where there is none, or another behind it, or more bytes than there is room
+// for.
 fn only_word(words: &impl Env, word: &mut [u8]) -> usize
     ensures { result ≤ length word.new }
 {

@@ -1,9 +1,10 @@
 #![tactic(auto)]
-// The program `writer`: lists of entities written as header and run, over a script from standard input. A step is two bytes m, the bytes of room
-// (at most 9,000); two bytes k (at most 600) and k numbers, the collection list; one byte e and e entities. An entity is two bytes q (at most 600)
-// and q bytes: its kind, its ID and its fields in the order of the descriptor; kind 15 hex is a printed Selector with a Selector's fields. The m
-// bytes lent are each AA. It prints `wrote K` or `refused N at P`, then the lent bytes as `lend` shows them. Numbers of two bytes have the low
-// byte first. A step that is none prints `bad step`, and the program ends.
+// The program `writer`: lists of entities written as header and run, over a script from standard input. A step is two
+// bytes m, the bytes of room (at most 9,000); two bytes k (at most 600) and k numbers, the collection list; one byte e
+// and e entities. An entity is two bytes q (at most 600) and q bytes: its kind, its ID and its fields in the order of
+// the descriptor; kind 15 hex is a printed Selector with a Selector's fields. The m bytes lent are each AA. It prints
+// `wrote K` or `refused N at P`, then the lent bytes as `lend` shows them. Numbers of two bytes have the low byte
+// first. A step that is none prints `bad step`, and the program ends.
 ghost use Rattle.std.specs.Prelude.{◌≡◌, ◌≤◌, length};
 
 use fields::{Item, Numbers, Span};
@@ -261,7 +262,8 @@ fn read_step(input: &mut impl Read, out: &impl Print, m: usize) -> io::Result<bo
     )
 }
 
-// One step from standard input: whether another may follow. The input's end before a step begins is no step, and nothing is said.
+// One step from standard input: whether another may follow. The input's end before a step begins is no step, and
+// nothing is said.
 fn turn(input: &mut impl Read, out: &impl Print) -> io::Result<bool> {
     let mut opening = [0u8; 2];
     let got = fill::read_full(input, &mut opening);
