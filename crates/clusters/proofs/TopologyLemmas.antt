@@ -1,4 +1,6 @@
 -- Laws of what stands beside it in specs.
+--   given_one        ==  where there are ranks, clusters that are given out by the rules are the same on each entity
+--   entering_one     ==  .. and the same enter each
 --   fits_alike       ==  .. so that one of them keeps an entity's rule where another does
 --   broken_by, rule13_by  ==  so any one of them tells who breaks rule 13, and whether it is kept
 --   clusters_one     ==  so the clusters of demand 3 are one, whoever reads the same descriptors
@@ -44,14 +46,33 @@ use Rattle.clusters.specs.AlongOrder.{swept_by, swept_made}
 use Rattle.sweep.specs.Sweep.{given_in, clusters_of}
 use Rattle.keeping.specs.Keeping.{keeps_by}
 use Rattle.clusters.specs.Breach.{given_for, breach13}
-use Rattle.clusters.specs.Topology.{given_one, entering_one, ranks_kept, swept_each}
+use Rattle.clusters.specs.Topology.{source_of, ranks_kept, swept_each}
 
 -- any edition, of the descriptors alone
 module _ {ed : Edition} {ds : List (List ℕ)} where
   module _ (r : Rule11 ed ds) {rank : ℕ → ℕ} (ranked : Ranking ed ds rank)
       (f g : ℕ → ed.Cluster) (made : GivenOut ed ds f) (made' : GivenOut ed ds g) where
+    one_below : (n : ℕ) (d : List ℕ) → d ∈ ds → rank (own_id d) < n → f (own_id d) ≡ g (own_id d)
+    one_below zero d m l = absurd (omega arith)
+    one_below (suc n) d m l =
+        made d m ∙ ap (ed.gives_out d) (map_same f g (sources ed d) (source (λ e a h. one_below n e a h))) ∙ sym (made' d m)
+      where
+        source : ((e : List ℕ) → e ∈ ds → rank (own_id e) < n → f (own_id e) ≡ g (own_id e)) → (x : ℕ) → x ∈ sources ed d → f x ≡ g x
+        source before x a =
+            let b = source_of r d m x a in
+            let low : rank x < rank (own_id d) = ranked d m x a in
+            let q : own_id b.one ≡ x = b.has in
+            let h : rank (own_id b.one) < n = rw q (omega arith) in
+            rw q at (before b.one b.among h)
+
+    pub given_one : (d : List ℕ) → d ∈ ds → f (own_id d) ≡ g (own_id d)
+    given_one d m = one_below (suc (rank (own_id d))) d m (omega arith)
+
+    pub entering_one : (d : List ℕ) → d ∈ ds → entering ed f d ≡ entering ed g d
+    entering_one d m = map_same f g (sources ed d) (λ x a. let b = source_of r d m x a in rw b.has at (given_one b.one b.among))
+
     pub fits_alike : (d : List ℕ) → d ∈ ds → Fits ed f d → Fits ed g d
-    fits_alike d m = subst (λ (cs : List ed.Cluster). ed.Keeps d cs) ((entering_one r ranked f g made made') d m)
+    fits_alike d m = subst (λ (cs : List ed.Cluster). ed.Keeps d cs) (entering_one d m)
 
   -- clusters that are given out by the rules decide the rule
   module _ (r : Rule11 ed ds) {rank : ℕ → ℕ} (ranked : Ranking ed ds rank) (f : ℕ → ed.Cluster) (made : GivenOut ed ds f) where

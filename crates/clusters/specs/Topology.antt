@@ -2,8 +2,6 @@
 -- of the run's descriptors. Where there are ranks, clusters that are given out by the rules are one, whatever edition's rules they
 -- are; the sweep finds them. All of it is said of any edition; the audio edition's laws are instances.
 --   source_of        ==  a source ID is borne by an entity of the run
---   given_one        ==  where there are ranks, clusters that are given out by the rules are the same on each entity
---   entering_one     ==  .. and the same enter each
 --   ranks_kept       ==  ranks exist exactly where rule 12 is kept
 --   connected_parts  ==  demand 3's topology is the rules 12 and 13, where 10 and 11 are kept
 --   swept_each       ==  a sweep along the order of the run makes what each entity gives out, by its rule, of what enters it
@@ -50,27 +48,6 @@ module _ {ed : Edition} {ds : List (List ℕ)} where
       ⊎_elim (λ b. b)
       (λ f. absurd (r d m (record { one = x; among = a; has = unknown (λ e b q. f (record { one = e; among = b; has = q })) })))
       (decided (any (λ e. eqb (own_id e) x) ds) (reads_any (λ e. eqb (own_id e) x) (λ e. own_id e ≡ x) (λ e. reads_eq (own_id e) x) ds))
-
-  module _ (r : Rule11 ed ds) {rank : ℕ → ℕ} (ranked : Ranking ed ds rank)
-      (f g : ℕ → ed.Cluster) (made : GivenOut ed ds f) (made' : GivenOut ed ds g) where
-    one_below : (n : ℕ) (d : List ℕ) → d ∈ ds → rank (own_id d) < n → f (own_id d) ≡ g (own_id d)
-    one_below zero d m l = absurd (omega arith)
-    one_below (suc n) d m l =
-        made d m ∙ ap (ed.gives_out d) (map_same f g (sources ed d) (source (λ e a h. one_below n e a h))) ∙ sym (made' d m)
-      where
-        source : ((e : List ℕ) → e ∈ ds → rank (own_id e) < n → f (own_id e) ≡ g (own_id e)) → (x : ℕ) → x ∈ sources ed d → f x ≡ g x
-        source before x a =
-            let b = source_of r d m x a in
-            let low : rank x < rank (own_id d) = ranked d m x a in
-            let q : own_id b.one ≡ x = b.has in
-            let h : rank (own_id b.one) < n = rw q (omega arith) in
-            rw q at (before b.one b.among h)
-
-    pub given_one : (d : List ℕ) → d ∈ ds → f (own_id d) ≡ g (own_id d)
-    given_one d m = one_below (suc (rank (own_id d))) d m (omega arith)
-
-    pub entering_one : (d : List ℕ) → d ∈ ds → entering ed f d ≡ entering ed g d
-    entering_one d m = map_same f g (sources ed d) (λ x a. let b = source_of r d m x a in rw b.has at (given_one b.one b.among))
 
 -- any edition, of a run that stands for descriptors
 module _ {ed : Edition} {s : List ℕ} {p : ℕ} {ds : List (List ℕ)} {run : Run} (k : Represents ed s p ds run) where

@@ -26,7 +26,7 @@ use Rattle.sources.specs.Rule11.{Rule11}
 use Rattle.ranks.specs.Rule12.{Upstream, ends, up, Rule12}
 use Rattle.clusters.specs.Rule13.{Rule13, Connected}
 use Rattle.clusters.specs.Collection.{SameMembers, rule11_members}
-use Rattle.clusters.specs.Topology.{given_one}
+use Rattle.clusters.proofs.TopologyLemmas.{given_one}
 use Rattle.terminals.specs.Terminals.{Terminal}
 use Rattle.terminals.specs.Said.{IsTerminal}
 use Rattle.table.specs.declared.Control.{Control}

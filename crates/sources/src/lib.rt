@@ -28,7 +28,8 @@ fn directory(run: Run) -> [u8; 256]
     while i < n {
         let bearer = run.nodes[i];
         let id = index_of(bearer.id);
-        if marks[id] == 0 {
+        let unmarked = marks[id] == 0;
+        if unmarked {
             marks[id] = mark_of(bearer.feeds);
         }
         i += 1;

@@ -17,7 +17,7 @@ use Rattle.sources.specs.Lookup.{lookup_below, lookup, mark_of, directory_of}
 use Rattle.sources.specs.LookupLaws.{lookup_none, lookup_other, lookup_new, lookup_old, mark_nothing}
 use Rattle.sources.proofs.directory.Invariants.{Marked, start, over, own, other, kept, marked}
 use Rattle.sources.proofs.directory.Goals as goal
-use Rattle.sources.proofs.directory.Goals.{then-marks-id-eq0, else-marks-id-eq0}
+use Rattle.sources.proofs.directory.Goals.{then-unmarked, else-unmarked}
 
 ruleset laws = (start, over, marked, rules)
 
@@ -26,7 +26,7 @@ loop-i-init c = search laws
 
 pub loop-i-preserved : goal.loop-i-preserved
 unfolding blank_node
-loop-i-preserved c = elim c.if-marks-id-eq0.branch [ then-marks-id-eq0 w ↦ search laws | else-marks-id-eq0 w ↦ kept _ _ _ (search laws) _ (search laws) w.if-marks-id-eq0.false _ w.marks-is (search laws) ]
+loop-i-preserved c = elim c.if-unmarked.branch [ then-unmarked w ↦ search laws | else-unmarked w ↦ kept _ _ _ (search laws) _ (search laws) w.if-unmarked.false _ w.marks-is (search laws) ]
 
 pub returns : goal.returns
 returns c = search laws
