@@ -10,23 +10,21 @@
 --   first_before       ==  the first of x then y that passes stands before y exactly where one of x passes
 --   sound_each         ==  where what is wrong does not hang on what stands before: nothing is wrong exactly where no descriptor is
 --   sound_none, first_none_any, first_at_any  ==  the same for a test, by whether any descriptor passes it
-use Rattle.std.specs.Prelude.{ℕ, ◌+◌, ◌≤◌, ◌<◌, ◌≡◌, Bool, true, false, ◌||◌, ◌↔◌, ltb}
+use Rattle.std.specs.Prelude.{ℕ, ◌+◌, ◌≤◌, ◌<◌, ◌≡◌, Bool, true, false, ◌||◌, ◌↔◌, ltb, Option, Some, None}
 use Rattle.std.proofs.Math.Path.{refl, ap}
 use Rattle.std.proofs.Common.{sym, ◌∙◌, le-ltb, lt-ltb, arith, add-zero, add_assoc}
 use mathlib.Core.List.{List, [], ◌∷◌, ◌++◌, append-nil, Memᴰ, head-eq_of_cons-eq, tail-eq_of_cons-eq, nil≢cons}
 use Rattle.std.proofs.Math.ListN.{length}
 use Rattle.std.proofs.Math.Seq.{append_snoc}
-use Rattle.ground.specs.declared.Place.{Place}
-use Rattle.ground.specs.declared.Place.TheVariants.{Nowhere, At}
 use Rattle.ground.specs.Pick.{pick, yes, no, Reads, reads_true, shows, refutes}
 use Rattle.ground.specs.Lists.{total, any, reads_any, split_of, of_split}
 
-unfoldable pub first_from : (List (List ℕ) → List ℕ → Bool) → ℕ → List (List ℕ) → List (List ℕ) → Place
-first_from t p b [] = Nowhere
-first_from t p b (d ∷ ds) = pick (t b d) (At p) (first_from t (p + length d) (b ++ d ∷ []) ds)
+unfoldable pub first_from : (List (List ℕ) → List ℕ → Bool) → ℕ → List (List ℕ) → List (List ℕ) → Option ℕ
+first_from t p b [] = None
+first_from t p b (d ∷ ds) = pick (t b d) (Some p) (first_from t (p + length d) (b ++ d ∷ []) ds)
 
 pub first_here : (t : List (List ℕ) → List ℕ → Bool) (p : ℕ) (b : List (List ℕ)) (d : List ℕ) (ds : List (List ℕ)) → t b d ≡ true
-    → first_from t p b (d ∷ ds) ≡ At p
+    → first_from t p b (d ∷ ds) ≡ Some p
 unfolding first_from
 first_here t p b d ds e = yes _ _ e
 
@@ -35,7 +33,7 @@ pub first_on : (t : List (List ℕ) → List ℕ → Bool) (p : ℕ) (b : List (
 unfolding first_from
 first_on t p b d ds e = no _ _ e
 
-pub first_end : (t : List (List ℕ) → List ℕ → Bool) (p : ℕ) (b : List (List ℕ)) → first_from t p b [] ≡ Nowhere
+pub first_end : (t : List (List ℕ) → List ℕ → Bool) (p : ℕ) (b : List (List ℕ)) → first_from t p b [] ≡ None
 unfolding first_from
 first_end t p b = refl
 
@@ -61,7 +59,7 @@ module _ (t : List (List ℕ) → List ℕ → Bool) (Wrong : List (List ℕ) �
   abbrev Behind : List (List ℕ) → List (List ℕ) → List ℕ → Type 0
   Behind b x d = Wrong (b ++ x) d
 
-  at_nowhere : (p : ℕ) (b : List (List ℕ)) (ds : List (List ℕ)) → Sound (Behind b) ds → first_from t p b ds ≡ Nowhere
+  at_nowhere : (p : ℕ) (b : List (List ℕ)) (ds : List (List ℕ)) → Sound (Behind b) ds → first_from t p b ds ≡ None
   unfolding Sound
   at_nowhere p b [] h = first_end t p b
   at_nowhere p b (d ∷ ds) h =
@@ -69,18 +67,18 @@ module _ (t : List (List ℕ) → List ℕ → Bool) (Wrong : List (List ℕ) �
       ∙ at_nowhere (p + length d) (b ++ d ∷ []) ds (λ x e y q v. h (d ∷ x) e y (ap (λ (l : List (List ℕ)). d ∷ l) q) (rw append_snoc at v))
 
   at_place : (p : ℕ) (b : List (List ℕ)) (x : List (List ℕ)) (d : List ℕ) (y : List (List ℕ)) → Behind b x d → Sound (Behind b) x
-      → first_from t p b (x ++ d ∷ y) ≡ At (p + total x)
+      → first_from t p b (x ++ d ∷ y) ≡ Some (p + total x)
   unfolding Sound total
-  at_place p b [] d y w h = first_here t p b d y (shows (reads b d) (rw append-nil at w)) ∙ ap At (sym (add-zero p))
+  at_place p b [] d y w h = first_here t p b d y (shows (reads b d) (rw append-nil at w)) ∙ ap Some (sym (add-zero p))
   at_place p b (e ∷ x) d y w h =
       first_on t p b e (x ++ d ∷ y) (refutes (reads b e) (λ v. h [] e x refl (rw append-nil v)))
       ∙ at_place (p + length e) (b ++ e ∷ []) x d y (rw append_snoc w) (λ x' e' y' q v. h (e ∷ x') e' y' (ap (λ (l : List (List ℕ)). e ∷ l) q) (rw append_snoc at v))
-      ∙ ap At (add_assoc p (length e) (total x))
+      ∙ ap Some (add_assoc p (length e) (total x))
 
   -- what the search finds is the first offender; where it finds nothing there is none
-  data Told (p : ℕ) (b ds : List (List ℕ)) : Place → Type 0 where
-    nothing : Sound (Behind b) ds → Told p b ds Nowhere
-    found : {q : ℕ} → Breaks (Behind b) p ds q → Told p b ds (At q)
+  data Told (p : ℕ) (b ds : List (List ℕ)) : Option ℕ → Type 0 where
+    nothing : Sound (Behind b) ds → Told p b ds None
+    found : {q : ℕ} → Breaks (Behind b) p ds q → Told p b ds (Some q)
 
   told : (p : ℕ) (b : List (List ℕ)) (ds : List (List ℕ)) → Told p b ds (first_from t p b ds)
   unfolding Sound first_from total
@@ -91,7 +89,7 @@ module _ (t : List (List ℕ) → List ℕ → Bool) (Wrong : List (List ℕ) �
       sound_more n h [] e y q v = n (rw (head-eq_of_cons-eq q) (rw append-nil at v))
       sound_more n h (f ∷ x) e y q v = let g : d ≡ f = head-eq_of_cons-eq q in h x e y (tail-eq_of_cons-eq q) (rw append_snoc (rw g v))
 
-      later : (Wrong b d → ⊥) → {r : Place} → Told (p + length d) (b ++ d ∷ []) ds r → Told p b (d ∷ ds) r
+      later : (Wrong b d → ⊥) → {r : Option ℕ} → Told (p + length d) (b ++ d ∷ []) ds r → Told p b (d ∷ ds) r
       later n (nothing h) = nothing (sound_more n h)
       later n (found k) =
           let m = k.place in
@@ -106,7 +104,7 @@ module _ (t : List (List ℕ) → List ℕ → Bool) (Wrong : List (List ℕ) �
           })
 
       go : (c : Bool) → Reads c (Wrong b d) → Told (p + length d) (b ++ d ∷ []) ds (first_from t (p + length d) (b ++ d ∷ []) ds)
-          → Told p b (d ∷ ds) (pick c (At p) (first_from t (p + length d) (b ++ d ∷ []) ds))
+          → Told p b (d ∷ ds) (pick c (Some p) (first_from t (p + length d) (b ++ d ∷ []) ds))
       go true r k =
           found (record {
             before = [];
@@ -119,45 +117,45 @@ module _ (t : List (List ℕ) → List ℕ → Bool) (Wrong : List (List ℕ) �
           })
       go false r k = later (r.denies refl) k
 
-  pub first_nowhere : (p : ℕ) (ds : List (List ℕ)) → (first_from t p [] ds ≡ Nowhere) ↔ Sound Wrong ds
+  pub first_nowhere : (p : ℕ) (ds : List (List ℕ)) → (first_from t p [] ds ≡ None) ↔ Sound Wrong ds
   first_nowhere p ds = (λ e. of (told p [] ds) e, at_nowhere p [] ds)
     where
-      of : {r : Place} → Told p [] ds r → r ≡ Nowhere → Sound Wrong ds
+      of : {r : Option ℕ} → Told p [] ds r → r ≡ None → Sound Wrong ds
       of (nothing h) e = h
       of (found k) e = let z : ◌≡◌ {A = ℕ} 0 1 = cc in absurd (omega arith)
 
-  pub first_at : (p : ℕ) (ds : List (List ℕ)) (q : ℕ) → (first_from t p [] ds ≡ At q) ↔ Breaks Wrong p ds q
+  pub first_at : (p : ℕ) (ds : List (List ℕ)) (q : ℕ) → (first_from t p [] ds ≡ Some q) ↔ Breaks Wrong p ds q
   first_at p ds q = (λ e. of (told p [] ds) e, to)
     where
-      of : {r : Place} → Told p [] ds r → r ≡ At q → Breaks Wrong p ds q
+      of : {r : Option ℕ} → Told p [] ds r → r ≡ Some q → Breaks Wrong p ds q
       of (nothing h) e = let z : ◌≡◌ {A = ℕ} 0 1 = cc in absurd (omega arith)
       of (found {q = q'} k) e = let z : q' ≡ q = cc in rw (← z) k
 
-      to : Breaks Wrong p ds q → first_from t p [] ds ≡ At q
-      to k = rw k.split (at_place p [] k.before k.offender k.after k.wrong k.none_before ∙ ap At (sym k.place))
+      to : Breaks Wrong p ds q → first_from t p [] ds ≡ Some q
+      to k = rw k.split (at_place p [] k.before k.offender k.after k.wrong k.none_before ∙ ap Some (sym k.place))
 
 -- a search that began at p comes to no place before p
-first_not_before : (t : List (List ℕ) → List ℕ → Bool) (p : ℕ) (b ds : List (List ℕ)) (q : ℕ) → first_from t p b ds ≡ At q → p ≤ q
+first_not_before : (t : List (List ℕ) → List ℕ → Bool) (p : ℕ) (b ds : List (List ℕ)) (q : ℕ) → first_from t p b ds ≡ Some q → p ≤ q
 unfolding first_from
 first_not_before t p b [] q e = let y : ◌≡◌ {A = ℕ} 0 1 = cc in absurd (omega arith)
 first_not_before t p b (d ∷ ds) q e = go (t b d) refl (λ h. first_not_before t (p + length d) (b ++ d ∷ []) ds q h)
   where
-    go : (c : Bool) → t b d ≡ c → (first_from t (p + length d) (b ++ d ∷ []) ds ≡ At q → p + length d ≤ q) → p ≤ q
-    go true h ih = let z : At p ≡ At q = sym (first_here t p b d ds h) ∙ e in let y : p ≡ q = cc in omega arith
+    go : (c : Bool) → t b d ≡ c → (first_from t (p + length d) (b ++ d ∷ []) ds ≡ Some q → p + length d ≤ q) → p ≤ q
+    go true h ih = let z : Some p ≡ Some q = sym (first_here t p b d ds h) ∙ e in let y : p ≡ q = cc in omega arith
     go false h ih = let l = ih (sym (first_on t p b d ds h) ∙ e) in omega arith
 
-unfoldable pub is_before : Place → ℕ → Bool
-is_before Nowhere at = false
-is_before (At q) at = ltb q at
+unfoldable pub is_before : Option ℕ → ℕ → Bool
+is_before None at = false
+is_before (Some q) at = ltb q at
 
 pub first_before : (t : List ℕ → Bool) (p : ℕ) (b x y : List (List ℕ)) → ((d : List ℕ) → Memᴰ d x → 0 < length d)
     → is_before (first_from (λ b d. t d) p b (x ++ y)) (p + total x) ≡ any t x
 unfolding is_before any total
 first_before t p b [] y h = go (first_from (λ b d. t d) p b y) refl
   where
-    go : (r : Place) → first_from (λ b d. t d) p b y ≡ r → is_before r (p + 0) ≡ false
-    go Nowhere e = refl
-    go (At q) e = let l = first_not_before (λ b d. t d) p b y q e in le-ltb q (p + 0) (omega arith)
+    go : (r : Option ℕ) → first_from (λ b d. t d) p b y ≡ r → is_before r (p + 0) ≡ false
+    go None e = refl
+    go (Some q) e = let l = first_not_before (λ b d. t d) p b y q e in le-ltb q (p + 0) (omega arith)
 first_before t p b (d ∷ x) y h = go (t d) refl (first_before t (p + length d) (b ++ d ∷ []) x y (λ e m. h e (Memᴰ.tail m)))
   where
     go : (c : Bool) → t d ≡ c → is_before (first_from (λ b d. t d) (p + length d) (b ++ d ∷ []) (x ++ y)) (p + length d + total x) ≡ any t x
@@ -173,10 +171,10 @@ pub sound_none : (t : List ℕ → Bool) (ds : List (List ℕ)) → Sound (λ b 
 sound_none t ds h = refutes (reads_any t (λ d. t d ≡ true) (λ d. reads_true (t d)) ds) (λ k. (sound_each (λ d. t d ≡ true) ds).0 h k.one k.among k.has)
 
 -- a search by a test that does not look at what stands before
-pub first_none_any : (t : List ℕ → Bool) (p : ℕ) (ds : List (List ℕ)) → first_from (λ b d. t d) p [] ds ≡ Nowhere → any t ds ≡ false
+pub first_none_any : (t : List ℕ → Bool) (p : ℕ) (ds : List (List ℕ)) → first_from (λ b d. t d) p [] ds ≡ None → any t ds ≡ false
 first_none_any t p ds e = sound_none t ds ((first_nowhere (λ b d. t d) (λ b d. t d ≡ true) (λ b d. reads_true (t d)) p ds).0 e)
 
-pub first_at_any : (t : List ℕ → Bool) (p : ℕ) (ds : List (List ℕ)) (q : ℕ) → first_from (λ b d. t d) p [] ds ≡ At q → any t ds ≡ true
+pub first_at_any : (t : List ℕ → Bool) (p : ℕ) (ds : List (List ℕ)) (q : ℕ) → first_from (λ b d. t d) p [] ds ≡ Some q → any t ds ≡ true
 first_at_any t p ds q e = of ((first_at (λ b d. t d) (λ b d. t d ≡ true) (λ b d. reads_true (t d)) p ds q).0 e)
   where
     of : Breaks (λ b d. t d ≡ true) p ds q → any t ds ≡ true

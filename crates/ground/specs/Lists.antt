@@ -1,6 +1,6 @@
 -- Words and laws on lists that the kit's libraries do not have.
 --   any t l    ==  some element of l passes the test t
---   Some P l   ==  some element of l has the property P
+--   SomeOf P l   ==  some element of l has the property P
 --   total ds   ==  the lengths of the parts ds together
 --   part s a e ==  the bytes of s from place a up to place e, as many of them as there are: what a callee is handed
 --   pad b n l  ==  n places: the first n elements of l, then b in the spare ones
@@ -9,7 +9,7 @@
 --   part_length, part_none, part_join, part_drop  ==  a part's length; an empty part; a part and what stands behind it
 --   drop_take  ==  a part in the kit's form, lib.Seq's slice
 --   flatten_append, total_append, length_flatten  ==  parts laid end to end, and their length
---   reads_any  ==  any t l decides Some P l, where t decides P
+--   reads_any  ==  any t l decides SomeOf P l, where t decides P
 --   any_append, any_snoc  ==  some element of two lists in a row, of a list and one element more
 --   replicate_at  ==  what is read of a list of one value, past its end too
 --   split_of, of_split  ==  an element stands somewhere in its list, and what stands somewhere in a list is an element
@@ -81,24 +81,24 @@ unfoldable pub any : {A : Type 0} → (A → Bool) → List A → Bool
 any t [] = false
 any t (x ∷ l) = t x || any t l
 
-pub record Some {A : Type 0} (P : A → Type 0) (l : List A) : Type 0 where
+pub record SomeOf {A : Type 0} (P : A → Type 0) (l : List A) : Type 0 where
   pub one : A
   pub among : Memᴰ one l
   pub has : P one
 
-pub reads_any : {A : Type 0} (t : A → Bool) (P : A → Type 0) → ((x : A) → Reads (t x) (P x)) → (l : List A) → Reads (any t l) (Some P l)
+pub reads_any : {A : Type 0} (t : A → Bool) (P : A → Type 0) → ((x : A) → Reads (t x) (P x)) → (l : List A) → Reads (any t l) (SomeOf P l)
 unfolding any
 reads_any {A} t P r [] = record { says = λ e. absurd (true≠false (sym e)); denies = λ e h. Memᴰ.not-nil h.among }
 reads_any {A} t P r (x ∷ l) = go (t x) (r x) (reads_any t P r l)
   where
-    go : (b : Bool) → Reads b (P x) → Reads (any t l) (Some P l) → Reads (b || any t l) (Some P (x ∷ l))
+    go : (b : Bool) → Reads b (P x) → Reads (any t l) (SomeOf P l) → Reads (b || any t l) (SomeOf P (x ∷ l))
     go true q ih = record { says = λ e. record { one = x; among = Memᴰ.head refl; has = q.says refl }; denies = λ e. absurd (true≠false e) }
     go false q ih = record {
       says = λ e. let s = ih.says e in record { one = s.one; among = Memᴰ.tail s.among; has = s.has };
       denies = λ e h. split e h (Memᴰ.cases_cons h.among);
     }
       where
-        split : any t l ≡ false → (h : Some P (x ∷ l)) → (h.one ≡ x) ⊎ Memᴰ h.one l → ⊥
+        split : any t l ≡ false → (h : SomeOf P (x ∷ l)) → (h.one ≡ x) ⊎ Memᴰ h.one l → ⊥
         split e h (inl m) = q.denies refl (rw m at h.has)
         split e h (inr m) = ih.denies e (record { one = h.one; among = m; has = h.has })
 

@@ -16,7 +16,7 @@
 --   breach_nowhere, breach_at ==  the search's answer as a place is nowhere exactly where nothing is wrong, and at q exactly
 --                                 where q is the first offender's
 use Prim.Native.Nat.{ℕ, zero, suc, ◌+◌, ◌-◌, ◌≤◌, ◌<◌}
-use Rattle.std.specs.Prelude.{◌≡◌, Bool, ◌⊎◌, ◌↔◌, ltb}
+use Rattle.std.specs.Prelude.{◌≡◌, Bool, ◌⊎◌, ◌↔◌, ltb, Option, Some, None}
 use Rattle.std.proofs.Math.Path.{refl, sym, ap}
 use Rattle.std.proofs.Common.{◌∙◌, add-one, zero-add, add-zero}
 use Rattle.std.proofs.Math.Bool.{true, false, not}
@@ -24,8 +24,6 @@ use Rattle.std.proofs.Math.Logic.{⊎_elim}
 use Rattle.std.proofs.Math.Nat.{eq-or-lt_of_le}
 use native.Mathlib.Omega.{arith}
 use Rattle.std.proofs.lemmas.Bool.{not-true, not-false}
-use Rattle.ground.specs.declared.Place.{Place}
-use Rattle.ground.specs.declared.Place.TheVariants.{Nowhere, At}
 use Rattle.ground.specs.Pick.{pick, yes, no, Reads, shows, refutes, decided, reads_lt, true≠false}
 
 unfoldable pub first_in : {R : Type 0} → (ℕ → Bool) → (ℕ → R) → R → ℕ → ℕ → R
@@ -157,21 +155,21 @@ module _ (n : ℕ) (place : ℕ → ℕ) (Wrong : ℕ → Type 0) where
     pub at : q ≡ place offender
     pub none_before : (j : ℕ) → j < offender → Wrong j → ⊥
 
-  abbrev pub place_of_first : (ℕ → Bool) → Place
-  place_of_first t = first_in t (λ i. At (place i)) Nowhere 0 n
+  abbrev pub place_of_first : (ℕ → Bool) → Option ℕ
+  place_of_first t = first_in t (λ i. Some (place i)) None 0 n
 
   module _ (t : ℕ → Bool) (reads : (i : ℕ) → i < n → Reads (t i) (Wrong i)) where
-    pub breach_nowhere : (place_of_first t ≡ Nowhere) ↔ NoneWrong
-    breach_nowhere = (λ e. of (finding t (λ i. At (place i)) Nowhere n) e, λ h. first_none t (λ i. At (place i)) Nowhere n (λ j l. refutes (reads j l) (h j l)))
+    pub breach_nowhere : (place_of_first t ≡ None) ↔ NoneWrong
+    breach_nowhere = (λ e. of (finding t (λ i. Some (place i)) None n) e, λ h. first_none t (λ i. Some (place i)) None n (λ j l. refutes (reads j l) (h j l)))
       where
-        of : {r : Place} → Finding t (λ i. At (place i)) Nowhere n r → r ≡ Nowhere → NoneWrong
+        of : {r : Option ℕ} → Finding t (λ i. Some (place i)) None n r → r ≡ None → NoneWrong
         of (nothing h) e = λ i l. (reads i l).denies (h i l)
         of (first f) e = let z : ◌≡◌ {A = ℕ} 0 1 = cc in absurd (omega arith)
 
-    pub breach_at : (q : ℕ) → (place_of_first t ≡ At q) ↔ FirstPlace q
-    breach_at q = (λ e. of (finding t (λ i. At (place i)) Nowhere n) e, to)
+    pub breach_at : (q : ℕ) → (place_of_first t ≡ Some q) ↔ FirstPlace q
+    breach_at q = (λ e. of (finding t (λ i. Some (place i)) None n) e, to)
       where
-        of : {r : Place} → Finding t (λ i. At (place i)) Nowhere n r → r ≡ At q → FirstPlace q
+        of : {r : Option ℕ} → Finding t (λ i. Some (place i)) None n r → r ≡ Some q → FirstPlace q
         of (nothing h) e = let z : ◌≡◌ {A = ℕ} 0 1 = cc in absurd (omega arith)
         of (first {i} f) e =
             let z : q ≡ place i = cc in
@@ -183,11 +181,11 @@ module _ (n : ℕ) (place : ℕ → ℕ) (Wrong : ℕ → Type 0) where
               none_before = λ j l. let m = f.inside in (reads j (omega arith)).denies (f.none_before j l);
             }
 
-        to : FirstPlace q → place_of_first t ≡ At q
+        to : FirstPlace q → place_of_first t ≡ Some q
         to b =
-            first_some t (λ i. At (place i)) Nowhere n b.offender (record {
+            first_some t (λ i. Some (place i)) None n b.offender (record {
               inside = b.inside;
               passes = shows (reads b.offender b.inside) b.wrong;
               none_before = λ j l. let m = b.inside in refutes (reads j (omega arith)) (b.none_before j l);
             })
-            ∙ ap At (sym b.at)
+            ∙ ap Some (sym b.at)

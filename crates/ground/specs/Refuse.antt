@@ -10,46 +10,44 @@
 --                      else what they say, whatever comes behind
 --   chain_end, chain_more, chain_both  ==  the empty row, one refusal more in front, two rows as one
 --   chain_none     ==  a row that gives number 0 gives place 0 too
-use Rattle.std.specs.Prelude.{ℕ, ◌≡◌, refl, Bool, true, false, ◌↔◌, ◌⊎◌, eqb}
+use Rattle.std.specs.Prelude.{ℕ, ◌≡◌, refl, Bool, true, false, ◌↔◌, ◌⊎◌, eqb, Option, Some, None}
 use Rattle.std.proofs.Common.{sym, ap, ◌∙◌, inl, inr, arith}
 use Rattle.ground.specs.Pick.{pick, yes, no, Reads, reads_eq, decided, shows, refutes}
-use Rattle.ground.specs.declared.Place.{Place}
-use Rattle.ground.specs.declared.Place.TheVariants.{Nowhere, At}
 use Rattle.ground.specs.declared.Refusal.{Refusal}
 
 abbrev pub none : Refusal
 none = record { number = 0; place = 0 }
 
-unfoldable pub refuse : ℕ → Place → Refusal → Refusal
-refuse n Nowhere r = r
-refuse n (At p) r = record { number = n; place = p }
+unfoldable pub refuse : ℕ → Option ℕ → Refusal → Refusal
+refuse n None r = r
+refuse n (Some p) r = record { number = n; place = p }
 
-unfoldable pub place_or : Place → ℕ → ℕ
-place_or Nowhere e = e
-place_or (At p) e = p
+unfoldable pub place_or : Option ℕ → ℕ → ℕ
+place_or None e = e
+place_or (Some p) e = p
 
-pub refuse_at : {b : Place} (n p : ℕ) (r : Refusal) → b ≡ At p → refuse n b r ≡ record { number = n; place = p }
+pub refuse_at : {b : Option ℕ} (n p : ℕ) (r : Refusal) → b ≡ Some p → refuse n b r ≡ record { number = n; place = p }
 unfolding refuse
-refuse_at n p r e = ap (λ (b : Place). refuse n b r) e
+refuse_at n p r e = ap (λ (b : Option ℕ). refuse n b r) e
 
-pub refuse_on : {b : Place} (n : ℕ) (r : Refusal) → b ≡ Nowhere → refuse n b r ≡ r
+pub refuse_on : {b : Option ℕ} (n : ℕ) (r : Refusal) → b ≡ None → refuse n b r ≡ r
 unfolding refuse
-refuse_on n r e = ap (λ (b : Place). refuse n b r) e
+refuse_on n r e = ap (λ (b : Option ℕ). refuse n b r) e
 
-abbrev pub kept_at : Bool → ℕ → Place
-kept_at kept p = pick kept Nowhere (At p)
+abbrev pub kept_at : Bool → ℕ → Option ℕ
+kept_at kept p = pick kept None (Some p)
 
-pub kept_nowhere : {b : Bool} {P : Type 0} (p : ℕ) → Reads b P → (kept_at b p ≡ Nowhere) ↔ P
+pub kept_nowhere : {b : Bool} {P : Type 0} (p : ℕ) → Reads b P → (kept_at b p ≡ None) ↔ P
 kept_nowhere {b} {P} p r = (λ e. of b r e, λ h. yes _ _ (shows r h))
   where
-    of : (c : Bool) → Reads c P → kept_at c p ≡ Nowhere → P
+    of : (c : Bool) → Reads c P → kept_at c p ≡ None → P
     of true r e = r.says refl
     of false r e = let z : ◌≡◌ {A = ℕ} 0 1 = cc in absurd (omega arith)
 
-pub kept_at_lem : {b : Bool} {P : Type 0} (p q : ℕ) → Reads b P → (kept_at b p ≡ At q) ↔ ((q ≡ p) × (P → ⊥))
-kept_at_lem {b} {P} p q r = (λ e. of b r e, λ h. no _ _ (refutes r h.1) ∙ ap At (sym h.0))
+pub kept_at_lem : {b : Bool} {P : Type 0} (p q : ℕ) → Reads b P → (kept_at b p ≡ Some q) ↔ ((q ≡ p) × (P → ⊥))
+kept_at_lem {b} {P} p q r = (λ e. of b r e, λ h. no _ _ (refutes r h.1) ∙ ap Some (sym h.0))
   where
-    of : (c : Bool) → Reads c P → kept_at c p ≡ At q → (q ≡ p) × (P → ⊥)
+    of : (c : Bool) → Reads c P → kept_at c p ≡ Some q → (q ≡ p) × (P → ⊥)
     of true r e = let z : ◌≡◌ {A = ℕ} 0 1 = cc in absurd (omega arith)
     of false r e = (let z : p ≡ q = cc in sym z, r.denies refl)
 
@@ -60,10 +58,10 @@ pub record Chain (c : Refusal → Refusal) : Type 0 where
 pub chain_end : Chain (λ r. r)
 chain_end = record { on = λ e r. refl; stays = λ n r. absurd (n refl) }
 
-pub chain_more : (n : ℕ) → (n ≡ 0 → ⊥) → (b : Place) (c : Refusal → Refusal) → Chain c → Chain (λ r. refuse n b (c r))
+pub chain_more : (n : ℕ) → (n ≡ 0 → ⊥) → (b : Option ℕ) (c : Refusal → Refusal) → Chain c → Chain (λ r. refuse n b (c r))
 unfolding refuse
-chain_more n h Nowhere c k = record { on = k.on; stays = k.stays }
-chain_more n h (At p) c k = record { on = λ e r. absurd (h e); stays = λ e r. refl }
+chain_more n h None c k = record { on = k.on; stays = k.stays }
+chain_more n h (Some p) c k = record { on = λ e r. absurd (h e); stays = λ e r. refl }
 
 pub chain_both : (c d : Refusal → Refusal) → Chain c → Chain d → Chain (λ r. c (d r))
 chain_both c d j k = record { on = on; stays = stays }

@@ -11,10 +11,8 @@
 --   all_none          ==  where every rule is kept, r refuses nothing
 --   Numbered t        ==  no row has number 0
 --   kept_decides      ==  a rule with one place, decided by a test
-use Rattle.std.specs.Prelude.{ℕ, ◌≡◌, refl, Bool, ◌⊎◌, ◌↔◌}
+use Rattle.std.specs.Prelude.{ℕ, ◌≡◌, refl, Bool, ◌⊎◌, ◌↔◌, Option, Some, None}
 use Rattle.std.proofs.Common.{sym, ap, ◌∙◌, inl, inr}
-use Rattle.ground.specs.declared.Place.{Place}
-use Rattle.ground.specs.declared.Place.TheVariants.{Nowhere, At}
 use Rattle.ground.specs.declared.Refusal.{Refusal}
 use Rattle.ground.specs.Pick.{Reads}
 use Rattle.ground.specs.Refuse.{none, refuse, refuse_at, refuse_on, kept_at, kept_nowhere, kept_at_lem}
@@ -35,16 +33,16 @@ abbrev pub Numbered : Rows → Type 0
 Numbered end = Unit {0}
 Numbered (row n K B behind) = (n ≡ 0 → ⊥) × ((k : K) → Numbered (behind k))
 
-pub record Decides (b : Place) (K : Type 0) (B : ℕ → Type 0) : Type 0 where
-  pub kept : (b ≡ Nowhere) ↔ K
-  pub broken : (p : ℕ) → (b ≡ At p) ↔ B p
+pub record Decides (b : Option ℕ) (K : Type 0) (B : ℕ → Type 0) : Type 0 where
+  pub kept : (b ≡ None) ↔ K
+  pub broken : (p : ℕ) → (b ≡ Some p) ↔ B p
 
 pub kept_decides : {b : Bool} {P : Type 0} (p : ℕ) → Reads b P → Decides (kept_at b p) P (λ q. (q ≡ p) × (P → ⊥))
 kept_decides p r = record { kept = kept_nowhere p r; broken = λ q. kept_at_lem p q r }
 
 abbrev pub Answers : Rows → Refusal → Type 0
 Answers end r = r ≡ none
-Answers (row n K B behind) r = (b : Place) × (rest : Refusal) × (r ≡ refuse n b rest) × Decides b K B × ((k : K) → Answers (behind k) rest)
+Answers (row n K B behind) r = (b : Option ℕ) × (rest : Refusal) × (r ≡ refuse n b rest) × Decides b K B × ((k : K) → Answers (behind k) rest)
 
 refusal_number : {r s : Refusal} → r ≡ s → r.number ≡ s.number
 refusal_number e = ap (λ (x : Refusal). x.number) e
@@ -71,10 +69,10 @@ outcome (row n K B behind) r (b, rest, e, d, a) = go b d (λ k. outcome (behind 
     later k (inl ks) = inl (k, ks)
     later k (inr (m, p, f)) = inr (m, p, inr (k, f))
 
-    go : (c : Place) → Decides c K B → ((k : K) → AllKept (behind k) ⊎ ((m : ℕ) × (p : ℕ) × FirstBroken (behind k) m p))
+    go : (c : Option ℕ) → Decides c K B → ((k : K) → AllKept (behind k) ⊎ ((m : ℕ) × (p : ℕ) × FirstBroken (behind k) m p))
         → AllKept (row n K B behind) ⊎ ((m : ℕ) × (p : ℕ) × FirstBroken (row n K B behind) m p)
-    go Nowhere c f = let k = c.kept.0 refl in later k (f k)
-    go (At p) c f = inr (n, p, inl (refl, (c.broken p).0 refl))
+    go None c f = let k = c.kept.0 refl in later k (f k)
+    go (Some p) c f = inr (n, p, inl (refl, (c.broken p).0 refl))
 
 numbered : (t : Rows) (m p : ℕ) → Numbered t → FirstBroken t m p → m ≡ 0 → ⊥
 numbered end m p h f e = f
