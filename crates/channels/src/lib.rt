@@ -13,36 +13,23 @@ const MOST_CHANNELS: u8 = 16;
 const LOCATIONS: u16 = 4096;
 
 // Whether the name index goes with c channels, of which so many have a location: the others bear names, one after another from the index.
+#[tactic(auto, unfolding(crate::specs::DeclaredChannels::names_kept))]
 fn names_kept(c: u32, ones: u32, index: u32) -> bool
     requires { (c ≤ 16) × (ones ≤ c) × (index < 256) }
     ensures { result ≡ names_kept c ones index }
 {
-    if ones == c {
-        return index == 0;
-    }
-    if index == 0 {
-        return true;
-    }
-    index + c - ones - 1 <= 255
+    index == 0 || ones != c && index + c - ones - 1 <= 255
 }
 
 // Whether a declared cluster keeps the rule.
+#[tactic(auto, unfolding(crate::specs::DeclaredChannels::cluster_kept))]
 pub fn cluster_kept(cluster: Cluster) -> bool
     ensures { result ≡ cluster_kept cluster }
 {
-    if cluster.channels < 1 {
-        return false;
-    }
-    if MOST_CHANNELS < cluster.channels {
-        return false;
-    }
-    if LOCATIONS <= cluster.locations {
-        return false;
-    }
     let c = cluster.channels as u32;
-    let ones = u16::count_ones(cluster.locations);
-    if c < ones {
-        return false;
-    }
-    names_kept(c, ones, cluster.names as u32)
+    let ones = cluster.locations.count_ones();
+    (1..=MOST_CHANNELS).contains(&cluster.channels)
+        && cluster.locations < LOCATIONS
+        && ones <= c
+        && names_kept(c, ones, cluster.names as u32)
 }

@@ -6,7 +6,7 @@ use mathlib.Core.List.Memᴰ
 use mathlib.Core.List.{List, [], ◌∷◌, ◌++◌, Memᴰ, head-eq_of_cons-eq, tail-eq_of_cons-eq, nil≢cons}
 use Rattle.ground.specs.Pick.{Reads, reads_same, reads_eq, reads_and, reads_or, reads_not, true≠false}
 use Rattle.ground.specs.Numbers.{byte}
-use Rattle.ground.specs.Lists.{any, Some, reads_any}
+use Rattle.ground.specs.Lists.{any, SomeOf, reads_any}
 use Rattle.scan.specs.Cutting.{rest}
 use Rattle.search.specs.Want.{Audio, Member, is_member, reads_audio, reads_member}
 use Rattle.collection.specs.Rule7.{Rule7}
@@ -33,7 +33,7 @@ reads_distinct (n ∷ l) =
     more (a, b) [] y k q m = let e : l ≡ y = tail-eq_of_cons-eq q in let f : n ≡ k = head-eq_of_cons-eq q in a (rw (e, f) m)
     more (a, b) (j ∷ x) y k q m = b x y k (tail-eq_of_cons-eq q) m
 
-reads_known : (ds : List (List ℕ)) (l : List ℕ) → Reads (all_known ds l) ((k : ℕ) → Memᴰ k l → Some (Member k) ds)
+reads_known : (ds : List (List ℕ)) (l : List ℕ) → Reads (all_known ds l) ((k : ℕ) → Memᴰ k l → SomeOf (Member k) ds)
 unfolding all_known
 reads_known ds [] = record { says = λ e k m. absurd (Memᴰ.not-nil m); denies = λ e. absurd (true≠false e) }
 reads_known ds (n ∷ l) =

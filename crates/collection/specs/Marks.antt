@@ -11,7 +11,7 @@
 --   Members ds marks known r    ==  r tells whether some of ds is so; if none is, the known numbers are those of ds' groups
 --   all_marked marks l   ==  the test that each of l is marked
 --   listed_same, known_same  ==  by the marks the tests of rule 7 are what they are by the list and the descriptors
-use Rattle.std.specs.Prelude.{ℕ, ◌<◌, ◌≡◌, refl, Bool, true, false, not, ◌&&◌, ◌||◌, List, [], ◌∷◌, ◌++◌, ◌⊎◌, eqb, length, get_or, set, replicate}
+use Rattle.std.specs.Prelude.{ℕ, ◌<◌, ◌≡◌, refl, Bool, true, false, not, ◌&&◌, ◌||◌, List, [], ◌∷◌, ◌++◌, eqb, length, get_or, set, replicate}
 use Rattle.std.proofs.Common.{sym, ◌∙◌, ⊎_elim, arith, length-set, get_or-set_same, get_or-set_other, eq-eqb, ne_eqb, eqb-true}
 use Rattle.std.proofs.Math.Bool.{or-true, or-false}
 use Rattle.ground.specs.Pick.{decided, reads_eq, true≠false}

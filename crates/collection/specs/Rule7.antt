@@ -3,10 +3,10 @@
 use Rattle.std.specs.Prelude.{ℕ, ◌≡◌, ◌⊎◌}
 use mathlib.Core.List.{List, ◌∷◌, ◌++◌, Memᴰ}
 use Rattle.ground.specs.Numbers.{byte}
-use Rattle.ground.specs.Lists.{Some}
+use Rattle.ground.specs.Lists.{SomeOf}
 use Rattle.search.specs.Want.{Audio, Member}
 
 pub record Rule7 (ds : List (List ℕ)) (listed : List ℕ) : Type 0 where
   pub distinct : (x y : List ℕ) (k : ℕ) → listed ≡ x ++ k ∷ y → Memᴰ k y → ⊥
-  pub known : (k : ℕ) → Memᴰ k listed → Some (Member k) ds
+  pub known : (k : ℕ) → Memᴰ k listed → SomeOf (Member k) ds
   pub all_listed : (d : List ℕ) → Memᴰ d ds → Audio 2 d ⊎ Audio 3 d → Memᴰ (byte d 2) listed

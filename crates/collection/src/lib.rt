@@ -1,29 +1,29 @@
 #![tactic(auto)]
 // The collection: the numbers of streaming and MIDI groups that the header lists (document 01, rule 7). What it promises to the crate above:
 // whether they are distinct and those of the streaming and MIDI groups, all of them.
-ghost use Rattle.std.specs.Prelude.{◌≡◌, false, ◌||◌, replicate};
+ghost use Rattle.std.specs.Prelude.{◌≡◌, false, ◌||◌, get_or, replicate};
+ghost use Rattle.std.specs.List.{list_all};
 ghost use Rattle.scan.specs.Cutting.{rest};
 ghost use Rattle.search.specs.Want.{is_audio};
 ghost use Rattle.collection.specs.Reading.{collects};
-ghost use Rattle.collection.specs.Marks.{all_marked, Listed, Met, Members};
+ghost use Rattle.collection.specs.Marks.{Listed, Met, Members};
 
 use ground::index_of;
-use scan::{byte_at, end_of};
+use scan::{byte_at, descriptors_from};
 use search::is_audio;
 
 // Whether the listed numbers are distinct; where they are, they are marked.
+// Stays: a flag and the marks beside it, since Listed says both of one list.
 fn mark_listed(listed: &[u8], marks: &mut [bool; 256]) -> bool
     requires { marks.old ≡ replicate 256 false }
     ensures { Listed listed.now marks.new result }
 {
-    let mut i: usize = 0;
-    while i < listed.len() {
-        let number = index_of(listed[i]);
+    for byte in listed {
+        let number = index_of(*byte);
         if marks[number] {
             return false;
         }
         marks[number] = true;
-        i += 1;
     }
     true
 }
@@ -32,10 +32,7 @@ fn mark_listed(listed: &[u8], marks: &mut [bool; 256]) -> bool
 fn opens_member(d: &[u8]) -> bool
     ensures { result ≡ (is_audio 2 d.now || is_audio 3 d.now) }
 {
-    if is_audio(d, 2) {
-        return true;
-    }
-    is_audio(d, 3)
+    is_audio(d, 2) || is_audio(d, 3)
 }
 
 // Whether a descriptor opens a streaming or MIDI group whose number is not marked as listed. The number of such a group is marked as known.
@@ -55,31 +52,19 @@ fn any_unlisted(config: &[u8], listed: &[bool; 256], known: &mut [bool; 256]) ->
     requires { known.old ≡ replicate 256 false }
     ensures { Members (rest config.now 0) listed.now known.new result }
 {
-    let mut at: usize = 0;
-    loop {
-        let e = end_of(config, at);
-        if e == at {
-            return false;
-        }
-        if is_unlisted(&config[at..e], listed, known) {
+    for (_, d) in descriptors_from(config, 0) {
+        if is_unlisted(d, listed, known) {
             return true;
         }
-        at = e;
     }
+    false
 }
 
 // Whether each listed number is marked as known.
 fn are_known(listed: &[u8], known: &[bool; 256]) -> bool
-    ensures { result ≡ all_marked known.now listed.now }
+    ensures { result ≡ list_all (λ k. get_or known.now k false) listed.now }
 {
-    let mut i: usize = 0;
-    while i < listed.len() {
-        if !known[index_of(listed[i])] {
-            return false;
-        }
-        i += 1;
-    }
-    true
+    listed.iter().all(|number| known[index_of(*number)])
 }
 
 // Whether the collection is right.

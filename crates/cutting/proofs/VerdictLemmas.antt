@@ -1,45 +1,39 @@
 -- Laws of what stands beside it in specs.
 --   unlaid_judged    ==  the refusals 9 and 17, told apart only where some descriptor has none of the layouts
-use Rattle.std.specs.Prelude.{ℕ, ◌≡◌, Bool, ◌↔◌, List}
+use Rattle.std.specs.Prelude.{ℕ, ◌≡◌, Bool, ◌↔◌, List, Option, Some, None}
 use Rattle.std.proofs.Math.Path.{refl}
 use Rattle.std.proofs.Math.Logic.{⊎_elim}
-use Rattle.std.proofs.Common.{arith}
-use Rattle.ground.specs.declared.Place.{Place}
-use Rattle.ground.specs.declared.Place.TheVariants.{Nowhere, At}
 use Rattle.ground.specs.First.{Sound, Breaks, first_nowhere, first_at}
-use Rattle.ground.specs.Refuse.{none, refuse, Chain, chain_end, chain_more, chain_both}
+use Rattle.ground.specs.Refuse.{none, refuse}
 use Rattle.scan.specs.Cutting.{rest}
 use Rattle.scan.specs.Search.{searched}
 use Rattle.layout.specs.Layout.{LaidOut, entity_of, is_unknown}
 use Rattle.layout.proofs.LayoutLemmas.{reads_unknown}
 use Rattle.layout.specs.Withdrawn.{Printed, is_printed, reads_printed, is_wrong}
 use Rattle.layout.proofs.WithdrawnLemmas.{printed_unlaid, reads_wrong, layout_or}
-use Rattle.groups.specs.declared.Frame.{Frame}
-use Rattle.groups.specs.Reading.{frame_of, judged}
-use Rattle.groups.specs.Judged.{judged_chain}
-use Rattle.cutting.specs.Survey.{breach8, breach9, breach17, run_judged, verdict_then, unlaid_refused}
+use Rattle.cutting.specs.Survey.{unlaid_refused}
 
 -- what has none of the layouts is wrong or printed
 module _ (s : List ℕ) (p : ℕ) where
-  abbrev first : (List ℕ → Bool) → Place
+  abbrev first : (List ℕ → Bool) → Option ℕ
   first t = searched (λ b d. t d) s p
 
   abbrev unlaid : List ℕ → Bool
   unlaid d = is_unknown (entity_of d)
 
-  sound_unlaid : (first unlaid ≡ Nowhere) ↔ Sound (λ b d. LaidOut d → ⊥) (rest s p)
+  sound_unlaid : (first unlaid ≡ None) ↔ Sound (λ b d. LaidOut d → ⊥) (rest s p)
   unfolding searched
   sound_unlaid = first_nowhere (λ b d. unlaid d) (λ b d. LaidOut d → ⊥) (λ b d. reads_unknown d) p (rest s p)
 
-  sound_wrong : (first is_wrong ≡ Nowhere) ↔ Sound (λ b d. (LaidOut d → ⊥) × (Printed d → ⊥)) (rest s p)
+  sound_wrong : (first is_wrong ≡ None) ↔ Sound (λ b d. (LaidOut d → ⊥) × (Printed d → ⊥)) (rest s p)
   unfolding searched
   sound_wrong = first_nowhere (λ b d. is_wrong d) (λ b d. (LaidOut d → ⊥) × (Printed d → ⊥)) (λ b d. reads_wrong d) p (rest s p)
 
-  sound_printed : (first is_printed ≡ Nowhere) ↔ Sound (λ b d. Printed d) (rest s p)
+  sound_printed : (first is_printed ≡ None) ↔ Sound (λ b d. Printed d) (rest s p)
   unfolding searched
   sound_printed = first_nowhere (λ b d. is_printed d) (λ b d. Printed d) (λ b d. reads_printed d) p (rest s p)
 
-  none_unlaid : first unlaid ≡ Nowhere → (first is_wrong ≡ Nowhere) × (first is_printed ≡ Nowhere)
+  none_unlaid : first unlaid ≡ None → (first is_wrong ≡ None) × (first is_printed ≡ None)
   unfolding Sound
   none_unlaid e =
       let h = sound_unlaid.0 e in
@@ -58,7 +52,7 @@ module _ (s : List ℕ) (p : ℕ) where
     none_before = λ x d y e w. k.none_before x d y e (printed_unlaid d w);
   }
 
-  only_printed : (q : ℕ) → first unlaid ≡ At q → first is_wrong ≡ Nowhere → first is_printed ≡ At q
+  only_printed : (q : ℕ) → first unlaid ≡ Some q → first is_wrong ≡ None → first is_printed ≡ Some q
   unfolding searched
   only_printed q e f =
       (first_at (λ b d. is_printed d) (λ b d. Printed d) (λ b d. reads_printed d) p (rest s p) q).1
@@ -68,7 +62,7 @@ module _ (s : List ℕ) (p : ℕ) where
   unfolding unlaid_refused refuse
   unlaid_judged = go (first unlaid) refl (first is_wrong) refl
     where
-      go : (u : Place) → first unlaid ≡ u → (w : Place) → first is_wrong ≡ w → unlaid_refused s p u ≡ refuse 9 (first is_wrong) (refuse 17 (first is_printed) none)
-      go Nowhere e w f = let n = none_unlaid e in rw (n.0, n.1) refl
-      go (At q) e (At r) f = rw f refl
-      go (At q) e Nowhere f = rw (f, only_printed q e f) refl
+      go : (u : Option ℕ) → first unlaid ≡ u → (w : Option ℕ) → first is_wrong ≡ w → unlaid_refused s p u ≡ refuse 9 (first is_wrong) (refuse 17 (first is_printed) none)
+      go None e w f = let n = none_unlaid e in rw (n.0, n.1) refl
+      go (Some q) e (Some r) f = rw f refl
+      go (Some q) e None f = rw (f, only_printed q e f) refl

@@ -2,36 +2,24 @@
 -- where every row before n is kept, n is not, and p is its place; rule 9 is two rows, 9 and 17.
 --   opening_answers, opening_numbered  ==  the same of the rows 1 to 4, whatever stands behind them
 --   four_kept, all_four  ==  the four rows kept are the rules 1 to 4 kept, and the other way
-use Rattle.std.specs.Prelude.{ℕ, ◌+◌, ◌≡◌, Bool, ◌&&◌, eqb, List, [], ◌⊎◌, ◌↔◌, length}
+use Rattle.std.specs.Prelude.{ℕ, ◌≡◌, ◌&&◌, eqb, List, ◌↔◌, length, Some, None}
 use Rattle.std.proofs.Math.Path.{refl}
-use Rattle.std.proofs.Common.{sym, ap, ◌∙◌, inl, ⊎_elim, arith}
-use Rattle.ground.specs.declared.Place.{Place}
-use Rattle.ground.specs.declared.Place.TheVariants.{Nowhere, At}
+use Rattle.std.proofs.Common.{sym, ◌∙◌, arith}
 use Rattle.ground.specs.declared.Refusal.{Refusal}
 use Rattle.ground.specs.Pick.{Reads, reads_eq, reads_and, within, reads_within}
 use Rattle.ground.specs.Numbers.{byte, word}
-use Rattle.ground.specs.First.{Sound, Breaks, first_from, first_nowhere, first_at, sound_each}
-use Rattle.ground.specs.Refuse.{none, kept_nowhere, kept_at_lem}
-use Rattle.ground.specs.Rows.{Rows, end, AllKept, FirstBroken, Numbered, Answers, all_none, answers_kept, answers_broken}
+use Rattle.ground.specs.Refuse.{kept_nowhere, kept_at_lem}
+use Rattle.ground.specs.Rows.{Rows, AllKept, Numbered, Answers}
 use Rattle.scan.specs.Cutting.{Cutting, rest, breach3}
 use Rattle.scan.specs.CuttingLaws.{cutting_rest}
 use Rattle.scan.proofs.CuttingLemmas.{cutting_exists, cutting_misfit}
-use Rattle.layout.specs.Withdrawn.{Printed, is_printed, reads_printed, is_wrong}
-use Rattle.layout.proofs.WithdrawnLemmas.{printed_unlaid, reads_wrong, layout_or}
-use Rattle.edition.specs.Audio.{audio}
-use Rattle.entities.specs.Run.{most_entities}
 use Rattle.opening.specs.Rules1and2.{most_bytes, Rule1, Rule2}
 use Rattle.opening.specs.Reading.{breach1, breach2}
 use Rattle.interfaces.specs.Rule4.{Rule4, Broken4}
 use Rattle.interfaces.specs.Reading.{breach4, interfaces_judged}
 use Rattle.interfaces.specs.InterfaceLaws.{rule4_kept, rule4_broken}
-use Rattle.collection.specs.Rule7.{Rule7}
-use Rattle.groups.specs.Rules5and6.{Rule5, listed_of, Rule6}
-use Rattle.groups.specs.Reading.{frame_of, breach5, breach6, breach7, group_judged, judged}
 use Rattle.groups.specs.FrameLaws.{Framed, framed}
-use Rattle.cutting.specs.Rules1to9.{Rule8, WrongLayout, Recognised, NoneWithdrawn, laid_out, Opened, header_place, Opening, opened, Kept, group_rows, opening_rows, cutting_rows}
-use Rattle.cutting.specs.Survey.{breach8, breach9, breach17, run_judged, verdict_then, verdict}
-use Rattle.cutting.specs.Context.{header_place_lem, rule5_reads, rule6_reads, rule7_reads, run_is, run_first}
+use Rattle.cutting.specs.Rules1to9.{Opened, Opening, opened, opening_rows}
 
 reads_rule1 : (s : List ℕ) → Reads (within 9 (length s) most_bytes) (Rule1 s)
 reads_rule1 s = reads_within 9 (length s) most_bytes
@@ -41,19 +29,19 @@ reads_rule2 s = reads_and _ _ (reads_eq (byte s 0) 9) (reads_and _ _ (reads_eq (
 
 -- Each rule's breach, both ways, one file of laws a rule; here they are put in a row.
 module _ (s : List ℕ) where
-  keeps1 : (breach1 s ≡ Nowhere) ↔ Rule1 s
+  keeps1 : (breach1 s ≡ None) ↔ Rule1 s
   unfolding breach1
   keeps1 = kept_nowhere 0 (reads_rule1 s)
 
-  breaks1 : (p : ℕ) → (breach1 s ≡ At p) ↔ ((p ≡ 0) × (Rule1 s → ⊥))
+  breaks1 : (p : ℕ) → (breach1 s ≡ Some p) ↔ ((p ≡ 0) × (Rule1 s → ⊥))
   unfolding breach1
   breaks1 p = kept_at_lem 0 p (reads_rule1 s)
 
-  keeps2 : (breach2 s ≡ Nowhere) ↔ Rule2 s
+  keeps2 : (breach2 s ≡ None) ↔ Rule2 s
   unfolding breach2
   keeps2 = kept_nowhere 0 (reads_rule2 s)
 
-  breaks2 : (p : ℕ) → (breach2 s ≡ At p) ↔ ((p ≡ 0) × (Rule2 s → ⊥))
+  breaks2 : (p : ℕ) → (breach2 s ≡ Some p) ↔ ((p ≡ 0) × (Rule2 s → ⊥))
   unfolding breach2
   breaks2 p = kept_at_lem 0 p (reads_rule2 s)
 
@@ -61,10 +49,10 @@ module _ (s : List ℕ) where
     cut_is : rest s 0 ≡ ds
     cut_is = cutting_rest s ds c
 
-    keeps4 : (breach4 s ≡ Nowhere) ↔ Rule4 ds
+    keeps4 : (breach4 s ≡ None) ↔ Rule4 ds
     keeps4 = rw (← cut_is) (rule4_kept s)
 
-    breaks4 : (p : ℕ) → (breach4 s ≡ At p) ↔ Broken4 s ds p
+    breaks4 : (p : ℕ) → (breach4 s ≡ Some p) ↔ Broken4 s ds p
     breaks4 p = rw (← cut_is) (rule4_broken s p)
 
   opens : (ds : List (List ℕ)) → Cutting s ds → Rule4 ds → Opening ds

@@ -1,1 +1,2 @@
 pub mod RepresentsLemmas
+pub mod Looked

@@ -13,9 +13,7 @@
 --   id_at, kind_at, place_at, feeds_at  ==  its ID; the number of its kind; its place, an offset from the first byte; whether it may be a source
 --   sources_of s n, sources_at s r i  ==  the source IDs of the entity n, of the i-th entity, as they stand in the configuration s
 --   descriptor_of s n, descriptor_at s r i  ==  the descriptor that stands at the place of the entity n, of the i-th entity
-use Rattle.std.specs.Prelude.{ℕ, ◌+◌, min, Bool, false, List, [], ◌∷◌, length, get_or, take, drop}
-use Rattle.ground.specs.declared.Place.{Place}
-use Rattle.ground.specs.declared.Place.TheVariants.{Nowhere, At}
+use Rattle.std.specs.Prelude.{ℕ, ◌+◌, min, Bool, false, List, [], ◌∷◌, length, get_or, take, drop, Option, Some, None}
 use Rattle.ground.specs.Pick.{pick}
 use Rattle.ground.specs.Lists.{pad, part}
 use Rattle.scan.specs.Cutting.{end_at, rest}
@@ -47,12 +45,12 @@ run_in ed p ds = record { count = length ds; nodes = pad blank_node most_entitie
 unfoldable pub walk_of : List ℕ → ℕ → Walk
 walk_of s p = record { run = run_in audio p (rest s p); unlaid = searched (λ b d. is_unknown (entity_of d)) s p }
 
-unfoldable pub unlaid_at : Entity → ℕ → Place
-unlaid_at e p = pick (is_unknown e) (At p) Nowhere
+unfoldable pub unlaid_at : Entity → ℕ → Option ℕ
+unlaid_at e p = pick (is_unknown e) (Some p) None
 
-unfoldable pub earlier : Place → Place → Place
-earlier Nowhere b = b
-earlier (At p) b = At p
+unfoldable pub earlier : Option ℕ → Option ℕ → Option ℕ
+earlier None b = b
+earlier (Some p) b = Some p
 
 abbrev pub held : Run → ℕ
 held r = min r.count most_entities

@@ -7,7 +7,6 @@ ghost use Rattle.layout.specs.Layout.{entity_of};
 ghost use Rattle.edition.specs.Audio.{audio};
 ghost use Rattle.entities.specs.Run.{blank_node, node_of, held, sources_of, earlier, unlaid_at, walk_of};
 
-use ground::Place;
 use layout::Entity;
 use scan::byte_at;
 
@@ -27,6 +26,7 @@ pub struct Node {
 }
 
 // How many descriptors a run has, and the first 32 of them, the spare places blank.
+// Stays: the count beside the array, since run_in counts the descriptors that have no place in it too.
 #[derive(Clone, Copy)]
 pub struct Run {
     pub count: usize,
@@ -37,10 +37,11 @@ pub struct Run {
 #[derive(Clone, Copy)]
 pub struct Walk {
     pub run: Run,
-    pub unlaid: Place,
+    pub unlaid: Option<usize>,
 }
 
 // A spare place.
+#[tactic(auto, unfolding(crate::specs::Run::blank_node))]
 pub fn blank() -> Node
     ensures { result ≡ blank_node }
 {
@@ -58,26 +59,15 @@ pub fn blank() -> Node
 pub fn count(run: Run) -> usize
     ensures { result ≡ held run }
 {
-    if run.count < MOST_ENTITIES {
-        return run.count;
-    }
-    MOST_ENTITIES
+    run.count.min(MOST_ENTITIES)
 }
 
 // The source IDs of an entity, in the order of its pins: a part of the configuration.
 pub fn sources(config: &[u8], node: Node) -> &[u8]
     ensures { result.now ≡ sources_of config.now node }
 {
-    let first = node.first;
-    let pins = node.pins as usize;
-    if config.len() <= first {
-        return &config[..0];
-    }
-    if config.len() - first < pins {
-        return &config[first..];
-    }
-    let end = first + pins;
-    &config[first..end]
+    let behind = &config[node.first.min(config.len())..];
+    &behind[..behind.len().min(node.pins as usize)]
 }
 
 // The descriptor d at a place, whose layout was read as an entity.
@@ -97,16 +87,16 @@ fn node_of(d: &[u8], entity: Entity, place: usize) -> Node
 }
 
 // The place of the first entity so far that has none of the layouts, where an entity stands at the next place.
-fn first_unlaid(before: Place, entity: Entity, at: usize) -> Place
+fn first_unlaid(before: Option<usize>, entity: Entity, at: usize) -> Option<usize>
     ensures { result ≡ earlier before (unlaid_at entity at) }
 {
-    if let Place::At(_) = before {
+    if let Some(_) = before {
         return before;
     }
     if let Entity::Unknown = entity {
-        Place::At(at)
+        Some(at)
     } else {
-        Place::Nowhere
+        None
     }
 }
 
@@ -117,21 +107,16 @@ pub fn read_run(s: &[u8], from: usize) -> Walk
     let spare = blank();
     let mut nodes = [spare; 32];
     let mut count: usize = 0;
-    let mut unlaid = Place::Nowhere;
-    let mut at = from;
-    loop {
-        let e = scan::end_of(s, at);
-        if e == at {
-            let run = Run { count, nodes };
-            return Walk { run, unlaid };
-        }
-        let entity = layout::read(&s[at..e]);
-        let next = first_unlaid(unlaid, entity, at);
-        unlaid = next;
+    let mut unlaid = None;
+    for (at, d) in scan::descriptors_from(s, from) {
+        let entity = layout::read(d);
+        unlaid = first_unlaid(unlaid, entity, at);
         if count < MOST_ENTITIES {
-            nodes[count] = node_of(&s[at..e], entity, at);
+            nodes[count] = node_of(d, entity, at);
         }
+        // Stays: counted by hand, since walk_of counts the descriptors past the 32nd too.
         count += 1;
-        at = e;
     }
+    let run = Run { count, nodes };
+    Walk { run, unlaid }
 }

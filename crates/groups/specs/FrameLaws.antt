@@ -4,7 +4,7 @@
 --   framed        ==  where rule 4 is kept, so it is
 --   header_told, header_room  ==  the first descriptor behind that interface is what stands where the header should; where it ends
 --   reads_rule5   ==  for every form of headers: the test of what stands there decides rule 5
-use Rattle.std.specs.Prelude.{ℕ, ◌+◌, ◌-◌, ◌≤◌, ◌≡◌, Bool}
+use Rattle.std.specs.Prelude.{ℕ, ◌+◌, ◌-◌, ◌≤◌, ◌≡◌, Bool, Option, Some, None}
 use Rattle.std.proofs.Math.Path.{refl, sym, ap}
 use Rattle.std.proofs.Common.{◌∙◌}
 use Rattle.std.proofs.Math.Bool.{true}
@@ -12,10 +12,8 @@ use mathlib.Core.List.{List, [], ◌∷◌, ◌++◌, nil≢cons, head-eq_of_con
 use Rattle.std.proofs.Math.ListN.{length}
 use Rattle.std.proofs.Math.Seq.{append_snoc}
 use native.Mathlib.Omega.{arith}
-use Rattle.ground.specs.declared.Place.{Place}
-use Rattle.ground.specs.declared.Place.TheVariants.{Nowhere, At}
 use Rattle.ground.specs.Pick.{Reads, reads_same, shows, true≠false}
-use Rattle.ground.specs.Lists.{part, part_none, part_length, total, total_append, any, Some, reads_any}
+use Rattle.ground.specs.Lists.{part, part_none, part_length, total, total_append, any, SomeOf, reads_any}
 use Rattle.ground.specs.Refuse.{place_or}
 use Rattle.scan.specs.Cutting.{end_at, rest}
 use Rattle.scan.specs.CuttingLaws.{rest_none, rest_more, end_off}
@@ -30,7 +28,7 @@ use Rattle.groups.specs.Reading.{frame_of, frame_from, header_of}
 pub record Framed (s : List ℕ) (before : List (List ℕ)) (control : List ℕ) (tail : List (List ℕ)) : Type 0 where
   pub whole : rest s 0 ≡ before ++ control ∷ tail
   pub is_control : Audio 1 control
-  pub none_before : Some (Audio 1) before → ⊥
+  pub none_before : SomeOf (Audio 1) before → ⊥
   pub control_at : (frame_of s).control ≡ total before
   pub header_at : (frame_of s).header ≡ total before + 9
   pub behind : rest s (frame_of s).header ≡ tail
@@ -48,29 +46,29 @@ unfolding total
 total_snoc b d = total_append b (d ∷ [])
 
 module _ (s : List ℕ) (k : Rule4 (rest s 0)) where
-  control_found : (q : ℕ) × (found_from s 0 (want.Audio 1) ≡ At q)
+  control_found : (q : ℕ) × (found_from s 0 (want.Audio 1) ≡ Some q)
   unfolding wants
   control_found = go (found_from s 0 (want.Audio 1)) refl
     where
       stands : any (is_audio 1) (rest s 0) ≡ true
       stands = shows (reads_any (is_audio 1) (Audio 1) (reads_audio 1) (rest s 0)) k.control
 
-      go : (r : Place) → found_from s 0 (want.Audio 1) ≡ r → (q : ℕ) × (found_from s 0 (want.Audio 1) ≡ At q)
-      go Nowhere e = absurd (true≠false (sym stands ∙ found_none (want.Audio 1) s 0 e))
-      go (At q) e = (q, e)
+      go : (r : Option ℕ) → found_from s 0 (want.Audio 1) ≡ r → (q : ℕ) × (found_from s 0 (want.Audio 1) ≡ Some q)
+      go None e = absurd (true≠false (sym stands ∙ found_none (want.Audio 1) s 0 e))
+      go (Some q) e = (q, e)
 
   pub framed : (before : List (List ℕ)) × (control : List ℕ) × (tail : List (List ℕ)) × Framed s before control tail
   unfolding wants place_or
   framed = go control_found.0 control_found.1
     where
-      go : (q : ℕ) → found_from s 0 (want.Audio 1) ≡ At q
+      go : (q : ℕ) → found_from s 0 (want.Audio 1) ≡ Some q
           → (before : List (List ℕ)) × (control : List ℕ) × (tail : List (List ℕ)) × Framed s before control tail
       go q e =
           let f = found (want.Audio 1) s 0 q (omega arith) e in
           let c = (reads_audio 1 f.wanted).says f.meets in
           let n : length f.wanted ≡ 9 = nine s k f.passed f.wanted f.behind f.whole c.0 in
           let p = f.place in
-          let a : (frame_of s).control ≡ q = control_place s ∙ ap (λ (r : Place). place_or r (length s)) e in
+          let a : (frame_of s).control ≡ q = control_place s ∙ ap (λ (r : Option ℕ). place_or r (length s)) e in
           let b : (frame_of s).header ≡ (frame_of s).control + 9 = header_place_lem s in
           let t : total (f.passed ++ f.wanted ∷ []) ≡ total f.passed + (length f.wanted + 0) = total_snoc f.passed f.wanted in
           let h : (frame_of s).header ≡ 0 + total (f.passed ++ f.wanted ∷ []) = omega arith in (

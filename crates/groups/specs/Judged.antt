@@ -1,18 +1,16 @@
 -- The refusals 1 to 7 in a row: what stands behind them is reached exactly where none of them is given.
 --   group_chain, judged_chain  ==  the refusals 5 to 7, and all seven
---   framed_refused  ==  a refusal comes with no frame
---   framed_refusal, framed_frame  ==  what is framed has the refusal of the rules 1 to 7, and where it refuses nothing the frame
-use Rattle.std.specs.Prelude.{ℕ, ◌≡◌, false, List, eqb}
-use Rattle.std.proofs.Common.{sym, ◌∙◌, eq-eqb, arith}
-use Rattle.std.proofs.Math.Path.{ap}
+--   framed_refusal, framed_behind, framed_frame  ==  what the rules 1 to 7 refuse is refused whatever is judged behind them; where they refuse
+--                         nothing, that is judged, and the frame is told
+use Rattle.std.specs.Prelude.{ℕ, ◌≡◌, List, Ok, Err}
+use Rattle.std.proofs.Common.{arith}
 use Rattle.ground.specs.declared.Refusal.{Refusal}
-use Rattle.ground.specs.Pick.{yes, no}
 use Rattle.ground.specs.Refuse.{none, Chain, chain_end, chain_more, chain_both}
+use Rattle.ground.specs.Told.{told, ok_told, row_on, row_stays}
 use Rattle.interfaces.specs.Reading.{interfaces_judged}
 use Rattle.interfaces.specs.Judged.{interfaces_chain}
 use Rattle.groups.specs.declared.Frame.{Frame}
-use Rattle.groups.specs.declared.Framing.{Framing}
-use Rattle.groups.specs.Reading.{breach5, breach6, breach7, frame_of, group_judged, judged, unframed, framed_as, framed_of}
+use Rattle.groups.specs.Reading.{breach5, breach6, breach7, frame_of, group_judged, judged, framed_of}
 
 pub group_chain : (s : List ℕ) (f : Frame) → Chain (group_judged s f)
 unfolding group_judged
@@ -23,18 +21,16 @@ pub judged_chain : (s : List ℕ) → Chain (judged s)
 unfolding judged
 judged_chain s = chain_both (interfaces_judged s) (group_judged s (frame_of s)) (interfaces_chain s) (group_chain s (frame_of s))
 
-pub framed_refused : (n p : ℕ) (f : Frame) (q : Refusal) → eqb n 0 ≡ false → record { number = n; place = p } ≡ q → (r : Framing)
-    → r ≡ unframed n p → r ≡ framed_as q f
-unfolding framed_as
-framed_refused n p f q z e r h =
-    h ∙ ap (λ (g : Frame). record { refusal = record { number = n; place = p }; frame = g }) (sym (no _ _ z))
-    ∙ ap (λ (x : Refusal). framed_as x f) e
+module _ (s : List ℕ) where
+  pub framed_refusal : {B : Type 0} (q : Refusal) → Err q ≡ framed_of s → (r : Refusal) (b : B) → Err q ≡ told (judged s r) b
+  unfolding framed_of
+  framed_refusal = row_stays (judged s) (judged_chain s) (frame_of s)
 
-module _ (s : List ℕ) (r : Framing) (e : r ≡ framed_of s) where
-  pub framed_refusal : r.refusal ≡ judged s none
-  unfolding framed_of framed_as
-  framed_refusal = ap (λ (x : Framing). x.refusal) e
+  module _ (f : Frame) (e : Ok f ≡ framed_of s) where
+    pub framed_behind : (r : Refusal) → judged s r ≡ r
+    unfolding framed_of
+    framed_behind = row_on (judged s) (judged_chain s) (frame_of s) f e
 
-  pub framed_frame : r.refusal.number ≡ 0 → r.frame ≡ frame_of s
-  unfolding framed_of framed_as
-  framed_frame z = ap (λ (x : Framing). x.frame) e ∙ yes _ _ (eq-eqb _ 0 (ap (λ (x : Refusal). x.number) (sym framed_refusal) ∙ z))
+    pub framed_frame : f ≡ frame_of s
+    unfolding framed_of
+    framed_frame = (ok_told (judged s none) (frame_of s) f e).1

@@ -10,18 +10,13 @@
 --   strays_from s p            ==  the test that a type 24 descriptor stands in the group from place p on
 --   group_judged s f r         ==  the lowest number of 5 to 7 that applies, with its place; r where none does
 --   judged s r                ==  the lowest number of 1 to 7 that applies, with its place; r where none does
---   no_frame                   ==  a frame of zeros
---   unframed n p              ==  refusal n at place p, and no frame
---   framed_as r f              ==  r, with the frame f where r refuses nothing
---   framed_of s                ==  what the rules 1 to 7 say of s, with its frame where they are kept
-use Rattle.std.specs.Prelude.{ℕ, ◌+◌, Bool, false, not, ◌&&◌, List, length, eqb}
-use Rattle.ground.specs.declared.Place.{Place}
-use Rattle.ground.specs.declared.Place.TheVariants.{Nowhere, At}
+--   framed_of s                ==  the frame of s, or what the rules 1 to 7 refuse
+use Rattle.std.specs.Prelude.{ℕ, ◌+◌, Bool, false, not, ◌&&◌, List, length, eqb, Result, Option, Some, None}
 use Rattle.ground.specs.declared.Refusal.{Refusal}
-use Rattle.ground.specs.Pick.{pick}
 use Rattle.ground.specs.Numbers.{byte, word}
 use Rattle.ground.specs.Lists.{part}
 use Rattle.ground.specs.Refuse.{none, kept_at, refuse, place_or}
+use Rattle.ground.specs.Told.{told}
 use Rattle.scan.specs.Cutting.{end_at}
 use Rattle.search.specs.Want.{found_from}
 use Rattle.search.specs.declared.Want.TheVariants as want
@@ -29,7 +24,6 @@ use Rattle.interfaces.specs.Reading.{control_at, interfaces_judged}
 use Rattle.collection.specs.Reading.{collects}
 use Rattle.groups.specs.Rules5and6.{listed_of}
 use Rattle.groups.specs.declared.Frame.{Frame}
-use Rattle.groups.specs.declared.Framing.{Framing}
 
 unfoldable pub run_end : List ℕ → ℕ → ℕ
 run_end s run = place_or (found_from s run want.NotClass) (length s)
@@ -49,16 +43,16 @@ opens h = eqb (byte h 1) 0x24 && (eqb (byte h 2) 1 && (eqb (byte h 3) 0 && eqb (
 unfoldable pub is_header : List ℕ → Bool
 is_header h = opens h && eqb (length h) (8 + byte h 7)
 
-unfoldable pub breach5 : List ℕ → Frame → Place
+unfoldable pub breach5 : List ℕ → Frame → Option ℕ
 breach5 s f = kept_at (is_header (header_of s f)) f.header
 
 unfoldable pub strays_from : List ℕ → ℕ → Bool
-strays_from s e = elim (found_from s e want.ClassOrInterface) [ Nowhere ↦ false | At q ↦ eqb (byte s (q + 1)) 0x24 ]
+strays_from s e = elim (found_from s e want.ClassOrInterface) [ None ↦ false | Some q ↦ eqb (byte s (q + 1)) 0x24 ]
 
-unfoldable pub breach6 : List ℕ → Frame → Place
+unfoldable pub breach6 : List ℕ → Frame → Option ℕ
 breach6 s f = kept_at (eqb (f.header + word (header_of s f) 5) f.end && not (strays_from s f.end)) f.header
 
-unfoldable pub breach7 : List ℕ → Frame → Place
+unfoldable pub breach7 : List ℕ → Frame → Option ℕ
 breach7 s f = kept_at (collects s (listed_of (header_of s f))) f.header
 
 unfoldable pub group_judged : List ℕ → Frame → Refusal → Refusal
@@ -67,14 +61,5 @@ group_judged s f r = refuse 5 (breach5 s f) (refuse 6 (breach6 s f) (refuse 7 (b
 unfoldable pub judged : List ℕ → Refusal → Refusal
 judged s r = interfaces_judged s (group_judged s (frame_of s) r)
 
-abbrev pub no_frame : Frame
-no_frame = record { control = 0; header = 0; run = 0; end = 0 }
-
-abbrev pub unframed : ℕ → ℕ → Framing
-unframed n p = record { refusal = record { number = n; place = p }; frame = no_frame }
-
-unfoldable pub framed_as : Refusal → Frame → Framing
-framed_as r f = record { refusal = r; frame = pick (eqb r.number 0) f no_frame }
-
-unfoldable pub framed_of : List ℕ → Framing
-framed_of s = framed_as (judged s none) (frame_of s)
+unfoldable pub framed_of : List ℕ → Result Frame Refusal
+framed_of s = told (judged s none) (frame_of s)

@@ -6,23 +6,22 @@
 --   third_breach5, third_breach6  ==  where rule 5, 6 is broken in s with the frame f
 --   third_group_judged s f r      ==  the lower number of 5 and 6 that applies, with its place; r where none does
 --   third_judged s r      ==  the lowest number of 1 to 6 that applies, with its place; r where none does
---   third_framed_of s      ==  what the rules 1 to 6 say of s, with its frame where they are kept
+--   third_framed_of s      ==  the frame of s, or what the rules 1 to 6 refuse
 --   third_group_chain, third_chain  ==  what comes behind them is reached exactly where none of them is given
---   third_refusal, third_frame  ==  what is framed has that refusal, and where it refuses nothing the frame
-use Rattle.std.specs.Prelude.{ℕ, ◌+◌, ◌≡◌, Bool, not, ◌&&◌, List, length, eqb}
-use Rattle.std.proofs.Common.{sym, ◌∙◌, arith, eq-eqb}
-use Rattle.std.proofs.Math.Path.{ap}
-use Rattle.ground.specs.declared.Place.{Place}
+--   third_refusal, third_behind, third_frame  ==  what they refuse is refused whatever is judged behind them; where they refuse nothing, that is
+--                         judged, and the frame is told
+use Rattle.std.specs.Prelude.{ℕ, ◌+◌, ◌≡◌, Bool, not, ◌&&◌, List, length, eqb, Result, Ok, Err, Option}
+use Rattle.std.proofs.Common.{arith}
 use Rattle.ground.specs.declared.Refusal.{Refusal}
-use Rattle.ground.specs.Pick.{Reads, reads_same, reads_and, reads_eq, yes}
+use Rattle.ground.specs.Pick.{Reads, reads_same, reads_and, reads_eq}
 use Rattle.ground.specs.Numbers.{byte, word}
 use Rattle.ground.specs.Refuse.{none, kept_at, refuse, Chain, chain_end, chain_more, chain_both}
+use Rattle.ground.specs.Told.{told, ok_told, row_on, row_stays}
 use Rattle.interfaces.specs.Reading.{interfaces_judged}
 use Rattle.interfaces.specs.Judged.{interfaces_chain}
 use Rattle.groups.specs.declared.Frame.{Frame}
-use Rattle.groups.specs.declared.Framing.{Framing}
 use Rattle.groups.specs.Rules5and6.{HeaderForm}
-use Rattle.groups.specs.Reading.{frame_of, header_of, strays_from, no_frame, framed_as}
+use Rattle.groups.specs.Reading.{frame_of, header_of, strays_from}
 
 pub record ThirdHeader (h : List ℕ) : Type 0 where
   pub opening : (byte h 1 ≡ 0x24) × (byte h 2 ≡ 1)
@@ -41,10 +40,10 @@ reads_third h =
     (λ p. record { opening = p.1; long = p.0 })
     (λ k. (k.long, k.opening))
 
-unfoldable pub third_breach5 : List ℕ → Frame → Place
+unfoldable pub third_breach5 : List ℕ → Frame → Option ℕ
 third_breach5 s f = kept_at (is_third_header (header_of s f)) f.header
 
-unfoldable pub third_breach6 : List ℕ → Frame → Place
+unfoldable pub third_breach6 : List ℕ → Frame → Option ℕ
 third_breach6 s f = kept_at (eqb (f.header + word (header_of s f) 4) f.end && not (strays_from s f.end)) f.header
 
 unfoldable pub third_group_judged : List ℕ → Frame → Refusal → Refusal
@@ -53,8 +52,8 @@ third_group_judged s f r = refuse 5 (third_breach5 s f) (refuse 6 (third_breach6
 unfoldable pub third_judged : List ℕ → Refusal → Refusal
 third_judged s r = interfaces_judged s (third_group_judged s (frame_of s) r)
 
-unfoldable pub third_framed_of : List ℕ → Framing
-third_framed_of s = framed_as (third_judged s none) (frame_of s)
+unfoldable pub third_framed_of : List ℕ → Result Frame Refusal
+third_framed_of s = told (third_judged s none) (frame_of s)
 
 pub third_group_chain : (s : List ℕ) (f : Frame) → Chain (third_group_judged s f)
 unfolding third_group_judged
@@ -64,11 +63,16 @@ pub third_chain : (s : List ℕ) → Chain (third_judged s)
 unfolding third_judged
 third_chain s = chain_both (interfaces_judged s) (third_group_judged s (frame_of s)) (interfaces_chain s) (third_group_chain s (frame_of s))
 
-module _ (s : List ℕ) (r : Framing) (e : r ≡ third_framed_of s) where
-  pub third_refusal : r.refusal ≡ third_judged s none
-  unfolding third_framed_of framed_as
-  third_refusal = ap (λ (x : Framing). x.refusal) e
+module _ (s : List ℕ) where
+  pub third_refusal : {B : Type 0} (q : Refusal) → Err q ≡ third_framed_of s → (r : Refusal) (b : B) → Err q ≡ told (third_judged s r) b
+  unfolding third_framed_of
+  third_refusal = row_stays (third_judged s) (third_chain s) (frame_of s)
 
-  pub third_frame : r.refusal.number ≡ 0 → r.frame ≡ frame_of s
-  unfolding third_framed_of framed_as
-  third_frame z = ap (λ (x : Framing). x.frame) e ∙ yes (frame_of s) no_frame (eq-eqb _ _ (sym (ap (λ (x : Refusal). x.number) third_refusal) ∙ z))
+  module _ (f : Frame) (e : Ok f ≡ third_framed_of s) where
+    pub third_behind : (r : Refusal) → third_judged s r ≡ r
+    unfolding third_framed_of
+    third_behind = row_on (third_judged s) (third_chain s) (frame_of s) f e
+
+    pub third_frame : f ≡ frame_of s
+    unfolding third_framed_of
+    third_frame = (ok_told (third_judged s none) (frame_of s) f e).1

@@ -3,12 +3,10 @@
 --   type_of      ==  the byte behind a descriptor's place is its type
 --   reads_rule6  ==  for every form of headers: the test of rule 6 decides it
 --   rule6_run    ==  the run that the rule speaks of is what stands from where it begins up to the run's end
-use Rattle.std.specs.Prelude.{ℕ, ◌+◌, ◌-◌, ◌≤◌, ◌≡◌, true, false, not, ◌&&◌, ◌⊎◌, length, take, drop, eqb}
+use Rattle.std.specs.Prelude.{ℕ, ◌+◌, ◌-◌, ◌≤◌, ◌≡◌, true, false, not, ◌&&◌, ◌⊎◌, length, take, drop, eqb, Option, Some, None}
 use Rattle.std.proofs.Math.Path.{refl, ap}
 use Rattle.std.proofs.Common.{sym, ◌∙◌, inl, inr, ⊎_elim, get_or-take, get_or-drop, arith}
 use mathlib.Core.List.{List, [], ◌∷◌, ◌++◌, append-nil, cons≢nil, nil≢cons, head-eq_of_cons-eq, Memᴰ}
-use Rattle.ground.specs.declared.Place.{Place}
-use Rattle.ground.specs.declared.Place.TheVariants.{Nowhere, At}
 use Rattle.ground.specs.Pick.{Reads, reads_same, reads_and, reads_or, reads_not, reads_eq, decided, true≠false}
 use Rattle.ground.specs.Numbers.{byte, word}
 use Rattle.ground.specs.Lists.{part, total, total_append, any, reads_any, Stops, stop_end, stop_at, front_one}
@@ -60,21 +58,21 @@ module _ (s : List ℕ) (from : ℕ) (inside : from ≤ length s) (full : from +
   unfolding run_end place_or
   run_found = go (found_from s from want.NotClass) refl
     where
-      end_of : (r : Place) → found_from s from want.NotClass ≡ r → run_end s from ≡ place_or r (length s)
-      end_of r e = ap (λ (x : Place). place_or x (length s)) e
+      end_of : (r : Option ℕ) → found_from s from want.NotClass ≡ r → run_end s from ≡ place_or r (length s)
+      end_of r e = ap (λ (x : Option ℕ). place_or x (length s)) e
 
-      go : (r : Place) → found_from s from want.NotClass ≡ r → Run s from
-      go Nowhere e =
+      go : (r : Option ℕ) → found_from s from want.NotClass ≡ r → Run s from
+      go None e =
           record {
             run = rest s from;
             beyond = [];
             split = sym (append-nil (rest s from));
             class = all_class (rest s from) (found_none want.NotClass s from e);
             stops = stop_end;
-            end = end_of Nowhere e ∙ sym full;
-            here = ap (rest s) (end_of Nowhere e ∙ sym full) ∙ rest_split s from inside (rest s from) [] (sym (append-nil (rest s from)));
+            end = end_of None e ∙ sym full;
+            here = ap (rest s) (end_of None e ∙ sym full) ∙ rest_split s from inside (rest s from) [] (sym (append-nil (rest s from)));
           }
-      go (At q) e =
+      go (Some q) e =
           let f = found want.NotClass s from q inside e in
           record {
             run = f.passed;
@@ -82,8 +80,8 @@ module _ (s : List ℕ) (from : ℕ) (inside : from ≤ length s) (full : from +
             split = f.whole;
             class = all_class f.passed f.none_passed;
             stops = stop_at (not_class f.wanted f.meets);
-            end = end_of (At q) e ∙ f.place;
-            here = ap (rest s) (end_of (At q) e) ∙ f.here;
+            end = end_of (Some q) e ∙ f.place;
+            here = ap (rest s) (end_of (Some q) e) ∙ f.here;
           }
 
 pub type_of : (s : List ℕ) (q : ℕ) (d : List ℕ) (ds : List (List ℕ)) → rest s q ≡ d ∷ ds → byte s (q + 1) ≡ byte d 1
@@ -112,13 +110,13 @@ reads_strays : (s : List ℕ) (e : ℕ) → e ≤ length s → Reads (not (stray
 unfolding strays_from
 reads_strays s e inside = go (found_from s e want.ClassOrInterface) refl
   where
-    stray : (q : ℕ) → found_from s e want.ClassOrInterface ≡ At q → strays_from s e ≡ eqb (byte s (q + 1)) 0x24
+    stray : (q : ℕ) → found_from s e want.ClassOrInterface ≡ Some q → strays_from s e ≡ eqb (byte s (q + 1)) 0x24
     stray q h = rw (strays_from, h) refl
 
-    none : found_from s e want.ClassOrInterface ≡ Nowhere → strays_from s e ≡ false
+    none : found_from s e want.ClassOrInterface ≡ None → strays_from s e ≡ false
     none h = rw (strays_from, h) refl
 
-    at : (q : ℕ) → found_from s e want.ClassOrInterface ≡ At q → Reads (not (eqb (byte s (q + 1)) 0x24)) (Parted (rest s e))
+    at : (q : ℕ) → found_from s e want.ClassOrInterface ≡ Some q → Reads (not (eqb (byte s (q + 1)) 0x24)) (Parted (rest s e))
     at q h = reads_same (reads_not _ (reads_eq (byte s (q + 1)) 0x24)) of to
       where
         f : Found want.ClassOrInterface s e q
@@ -147,13 +145,13 @@ reads_strays s e inside = go (found_from s e want.ClassOrInterface) refl
             opens last z = cons≢nil z
             opens (next i) z = no_both f.wanted (sym type ∙ c) (rw (sym (head-eq_of_cons-eq z)) at i)
 
-    go : (r : Place) → found_from s e want.ClassOrInterface ≡ r → Reads (not (strays_from s e)) (Parted (rest s e))
-    go Nowhere h =
+    go : (r : Option ℕ) → found_from s e want.ClassOrInterface ≡ r → Reads (not (strays_from s e)) (Parted (rest s e))
+    go None h =
         rw (none h) (record {
           says = λ t. record { later = rest s e; after = []; split = sym (append-nil (rest s e)); plain = all_plain (rest s e) (found_none want.ClassOrInterface s e h); ends = last };
           denies = λ t. absurd (true≠false t);
         })
-    go (At q) h = rw (stray q h) (at q h)
+    go (Some q) h = rw (stray q h) (at q h)
 
 later_stops : (later after : List (List ℕ)) → ((d : List ℕ) → Memᴰ d later → Plain d) → GroupEnds after → Stops Class (later ++ after)
 later_stops [] after h last = stop_end

@@ -4,23 +4,19 @@
 --   wrong_at s p i             ==  the same of i at place p of s, where two searches from the first byte on tell what stands before
 --   control_at s               ==  the place of the first AudioControl interface; L if there is none
 --   interfaces_judged s r      ==  the lowest number of 1 to 4 that applies, with its place; r where none does
---   unlocated n p             ==  refusal n at place p, and 0 for the place of the AudioControl interface
---   location_of s              ==  what the rules 1 to 4 say of s, with the place of its AudioControl interface where they are kept
-use Rattle.std.specs.Prelude.{ℕ, Bool, not, ◌&&◌, ◌||◌, List, length, eqb}
-use Rattle.ground.specs.declared.Place.{Place}
-use Rattle.ground.specs.declared.Place.TheVariants.{Nowhere, At}
+--   location_of s              ==  the place of the AudioControl interface of s, or what the rules 1 to 4 refuse
+use Rattle.std.specs.Prelude.{ℕ, Bool, not, ◌&&◌, ◌||◌, List, length, eqb, Result, Option, Some, None}
 use Rattle.ground.specs.declared.Refusal.{Refusal}
-use Rattle.ground.specs.Pick.{pick}
 use Rattle.ground.specs.Numbers.{byte}
 use Rattle.ground.specs.Lists.{any}
 use Rattle.ground.specs.First.{is_before}
 use Rattle.ground.specs.Refuse.{none, kept_at, refuse, place_or}
+use Rattle.ground.specs.Told.{told}
 use Rattle.scan.specs.Cutting.{rest, breach3}
 use Rattle.scan.specs.Search.{searched}
 use Rattle.search.specs.Want.{is_interface, is_audio, is_setting, found_from}
 use Rattle.search.specs.declared.Want.TheVariants as want
 use Rattle.opening.specs.Reading.{breach1, breach2}
-use Rattle.interfaces.specs.declared.Location.{Location}
 
 unfoldable pub wrong_interface : List (List ℕ) → List ℕ → Bool
 wrong_interface earlier i =
@@ -37,11 +33,11 @@ wrong_at s at i =
     || (is_audio 1 i && (is_before (found_from s 0 (want.Audio 1)) at || not (eqb (byte i 3) 0)))))
 
 -- first such descriptor; L if only the AudioControl one is missing
-unfoldable pub breach4 : List ℕ → Place
+unfoldable pub breach4 : List ℕ → Option ℕ
 breach4 s =
     elim (searched wrong_interface s 0) [
-      | Nowhere ↦ kept_at (any (is_audio 1) (rest s 0)) (length s)
-      | At p ↦ At p
+      | None ↦ kept_at (any (is_audio 1) (rest s 0)) (length s)
+      | Some p ↦ Some p
     ]
 
 abbrev pub control_at : List ℕ → ℕ
@@ -50,8 +46,5 @@ control_at s = place_or (found_from s 0 (want.Audio 1)) (length s)
 unfoldable pub interfaces_judged : List ℕ → Refusal → Refusal
 interfaces_judged s r = refuse 1 (breach1 s) (refuse 2 (breach2 s) (refuse 3 (breach3 s) (refuse 4 (breach4 s) r)))
 
-abbrev pub unlocated : ℕ → ℕ → Location
-unlocated n p = record { refusal = record { number = n; place = p }; control = 0 }
-
-unfoldable pub location_of : List ℕ → Location
-location_of s = record { refusal = interfaces_judged s none; control = pick (eqb (interfaces_judged s none).number 0) (control_at s) 0 }
+unfoldable pub location_of : List ℕ → Result ℕ Refusal
+location_of s = told (interfaces_judged s none) (control_at s)

@@ -5,13 +5,12 @@
 --                           at the top or above it
 --   topped tops n a     ==  the tops behind an interface descriptor of number n and alternate setting a
 --   Repeats, After, Looked  ==  what the test of one descriptor answers, and the tops that it leaves
---   Interfaced s b r    ==  r tells the place b, and where b is nowhere the AudioControl interface
 --   control_none, control_first, control_later, control_all  ==  the AudioControl interface before the first byte; the next turn's two
 --                           cases; before the end
 --   control_seen        ==  one stands before exactly where the place is not L
 --   control_inside      ==  the place is not past the end
 --   tops_none, tops_new, tops_more  ==  the tops at the first byte; what stands at the top or above it is new; the next turn
-use Rattle.std.specs.Prelude.{ℕ, ◌+◌, ◌-◌, ◌≤◌, ◌<◌, ◌≡◌, Bool, List, ◌⊎◌, eqb, set, replicate}
+use Rattle.std.specs.Prelude.{ℕ, ◌+◌, ◌≤◌, ◌<◌, ◌≡◌, Bool, List, eqb, set, replicate, Option, Some, None}
 use Rattle.std.proofs.Math.Path.{refl, sym, ap}
 use Rattle.std.proofs.Common.{◌∙◌, ⊎_elim, length-set, get_or-set_same, get_or-set_other}
 use Rattle.std.proofs.Math.Bool.{true, false, or-false}
@@ -19,8 +18,6 @@ use native.Mathlib.Omega.{arith}
 use Rattle.std.proofs.Math.Dec.{ltb}
 use Rattle.std.proofs.Math.ListN.{length, get_or}
 use borrow.Author.Tests.{lt-ltb, le-ltb, ltb-true, ltb-false}
-use Rattle.ground.specs.declared.Place.{Place}
-use Rattle.ground.specs.declared.Place.TheVariants.{Nowhere, At}
 use Rattle.ground.specs.Pick.{pick, yes, no, decided, reads_eq, refutes}
 use Rattle.ground.specs.Numbers.{byte}
 use Rattle.ground.specs.Lists.{part}
@@ -32,7 +29,6 @@ use Rattle.scan.specs.Search.{Passed}
 use Rattle.search.specs.Want.{is_interface, is_audio, is_setting, reads_interface, reads_setting, wants, found_from}
 use Rattle.search.specs.Found.{found_any, found_room}
 use Rattle.search.specs.declared.Want.TheVariants as want
-use Rattle.interfaces.specs.declared.Interfaces.{Interfaces}
 use Rattle.interfaces.specs.Reading.{wrong_at, control_at}
 use Rattle.search.specs.Before.{stands_before, before_none, before_more, before_all, before_here}
 
@@ -59,10 +55,6 @@ pub record Looked (s : List ℕ) (at : ℕ) (i tops tops' : List ℕ) (r : Bool)
   pub told : r ≡ wrong_at s at i
   pub after : r ≡ false → After i tops tops'
 
-pub record Interfaced (s : List ℕ) (b : Place) (r : Interfaces) : Type 0 where
-  pub wrong : r.wrong ≡ b
-  pub control : b ≡ Nowhere → r.control ≡ control_at s
-
 -- the AudioControl interface
 module _ (s : List ℕ) where
   pub control_none : length s ≡ control_before s 0
@@ -73,9 +65,9 @@ module _ (s : List ℕ) where
   unfolding control_before is_before place_or
   control_seen at control e = go (found_from s 0 (want.Audio 1)) refl
     where
-      go : (r : Place) → found_from s 0 (want.Audio 1) ≡ r → ltb control (length s) ≡ stands_before s at (want.Audio 1)
-      go Nowhere q = let z : control ≡ length s = rw q at e in rw q (le-ltb control (length s) (omega arith))
-      go (At p) q = case (ltb p at) refl
+      go : (r : Option ℕ) → found_from s 0 (want.Audio 1) ≡ r → ltb control (length s) ≡ stands_before s at (want.Audio 1)
+      go None q = let z : control ≡ length s = rw q at e in rw q (le-ltb control (length s) (omega arith))
+      go (Some p) q = case (ltb p at) refl
         where
           case : (b : Bool) → ltb p at ≡ b → ltb control (length s) ≡ stands_before s at (want.Audio 1)
           case true l =
@@ -88,22 +80,22 @@ module _ (s : List ℕ) where
   unfolding place_or
   control_inside = go (found_from s 0 (want.Audio 1)) refl
     where
-      go : (r : Place) → found_from s 0 (want.Audio 1) ≡ r → place_or r (length s) ≤ length s
-      go Nowhere e = omega arith
-      go (At q) e = let room = found_room (want.Audio 1) s 0 q e in omega arith
+      go : (r : Option ℕ) → found_from s 0 (want.Audio 1) ≡ r → place_or r (length s) ≤ length s
+      go None e = omega arith
+      go (Some q) e = let room = found_room (want.Audio 1) s 0 q e in omega arith
 
   module _ (t : List (List ℕ) → List ℕ → Bool) (at e : ℕ) (g : Passed t s 0 at) (f : e ≡ end_at s at) where
     pub control_all : (control : ℕ) → control ≡ control_before s at → e ≡ at → control ≡ control_at s
     unfolding control_before wants place_or
     control_all control k h = k ∙ go (found_from s 0 (want.Audio 1)) refl
       where
-        go : (r : Place) → found_from s 0 (want.Audio 1) ≡ r → control_before s at ≡ control_at s
-        go Nowhere q = rw (q, control_before) (same (is_before Nowhere at))
+        go : (r : Option ℕ) → found_from s 0 (want.Audio 1) ≡ r → control_before s at ≡ control_at s
+        go None q = rw (q, control_before) (same (is_before None at))
           where
             same : (b : Bool) → pick b (length s) (length s) ≡ length s
             same true = refl
             same false = refl
-        go (At p) q = yes _ _ (before_all (want.Audio 1) s t at e g f h ∙ found_any (want.Audio 1) s 0 p q)
+        go (Some p) q = yes _ _ (before_all (want.Audio 1) s t at e g f h ∙ found_any (want.Audio 1) s 0 p q)
 
     module _ (h : e ≡ at → ⊥) where
       pub control_later : (control : ℕ) → control ≡ control_before s at → is_audio 1 (part s at e) ≡ false → control ≡ control_before s e

@@ -1,17 +1,18 @@
 #![tactic(auto)]
 // The interface descriptors of a configuration (document 01, rule 4). What it promises to the crate above: the lowest number of the rules 1 to 4
 // that a configuration breaks, with its place; and where the AudioControl interface stands, if it keeps them.
-ghost use Rattle.std.specs.Prelude.{◌≡◌, true, ◌≤◌, ◌<◌, eqb, length, take};
+ghost use Rattle.std.specs.Prelude.{◌≡◌, true, ◌≤◌, ◌<◌, length};
 ghost use Rattle.ground.specs.Pick.{pick};
-ghost use Rattle.ground.specs.Lists.{any};
+ghost use Rattle.ground.specs.Refuse.{none, refuse};
+ghost use Rattle.ground.specs.Told.{told};
 ghost use Rattle.scan.specs.Search.{searched};
 ghost use Rattle.search.specs.Want.{is_interface, is_audio};
 ghost use Rattle.opening.specs.Rules1and2.{most_bytes};
-ghost use Rattle.interfaces.specs.Reading.{breach4, wrong_interface, unlocated, location_of};
-ghost use Rattle.interfaces.specs.Tops.{control_before, Tops, Repeats, Looked, Interfaced};
+ghost use Rattle.interfaces.specs.Reading.{breach4, control_at, wrong_interface, location_of};
+ghost use Rattle.interfaces.specs.Tops.{control_before, Tops, Repeats, Looked};
 ghost use Rattle.interfaces.specs.Pairs.{most_interfaces, Pair, Noted, Pairs};
 
-use ground::{Place, Refusal, index_of};
+use ground::{Refusal, index_of, refuse_at, refuse_unless};
 use opening::{check_cutting, check_opening, check_size};
 use scan::{byte_at, end_of};
 use search::{is_audio, is_interface};
@@ -19,40 +20,11 @@ use search::{is_audio, is_interface};
 // The most interface descriptors, of 9 bytes each, that a configuration may hold.
 const MOST_INTERFACES: usize = 455;
 
-// What rule 4 finds in one pass over the descriptors: where it is broken, and where the AudioControl interface stands.
-#[derive(Clone, Copy)]
-struct Interfaces {
-    wrong: Place,
-    control: usize,
-}
-
-// What the rules 1 to 4 say of a configuration: the refusal, and where the AudioControl interface stands; 0 where something is refused.
-#[derive(Clone, Copy)]
-pub struct Location {
-    pub refusal: Refusal,
-    pub control: usize,
-}
-
 // The number and the alternate setting of an interface descriptor, as one number.
 fn pair_of(i: &[u8]) -> u16
     ensures { Pair i.now result }
 {
     byte_at(i, 2) as u16 * 256 + byte_at(i, 3) as u16
-}
-
-// Whether a pair is one of the first pairs.
-fn is_among(pairs: &[u16; MOST_INTERFACES], count: usize, pair: u16) -> bool
-    requires { (count ≤ most_interfaces) × (count ≤ length pairs.now) }
-    ensures { result ≡ any (eqb pair) (take count pairs.now) }
-{
-    let mut k: usize = 0;
-    while k < count {
-        if pair == pairs[k] {
-            return true;
-        }
-        k += 1;
-    }
-    false
 }
 
 // The pair of an interface descriptor, put behind the first pairs; how many there are then.
@@ -84,7 +56,7 @@ fn repeats(
     let setting = byte_at(i, 3);
     let index = index_of(byte_at(i, 2));
     if (setting as u16) < tops[index] {
-        return is_among(pairs, count, pair_of(i));
+        return pairs[..count].contains(&pair_of(i));
     }
     tops[index] = setting as u16 + 1;
     false
@@ -134,10 +106,10 @@ fn control_from(i: &[u8], at: usize, control: usize) -> usize
     control
 }
 
-// The first interface descriptor that refusal 4 names; where there is none, the AudioControl one too.
-fn first_wrong_interface(config: &[u8]) -> Interfaces
+// Where the AudioControl interface stands, or the first interface descriptor that refusal 4 names.
+fn first_wrong_interface(config: &[u8]) -> Result<usize, Refusal>
     requires { length config.now ≤ most_bytes }
-    ensures { Interfaced config.now (searched wrong_interface config.now 0) result }
+    ensures { result ≡ told (refuse 4 (searched wrong_interface config.now 0) none) (control_at config.now) }
 {
     let mut tops = [0u16; 256];
     let mut pairs = [0u16; MOST_INTERFACES];
@@ -147,17 +119,14 @@ fn first_wrong_interface(config: &[u8]) -> Interfaces
     loop {
         let e = end_of(config, at);
         if e == at {
-            return Interfaces {
-                wrong: Place::Nowhere,
-                control,
-            };
+            return Ok(control);
         }
         let i = &config[at..e];
         if wrong_interface(config, at, i, control, &mut tops, &pairs, count) {
-            return Interfaces {
-                wrong: Place::At(at),
-                control,
-            };
+            return Err(Refusal {
+                number: 4,
+                place: at,
+            });
         }
         count = note_pair(i, &mut pairs, count);
         control = control_from(i, at, control);
@@ -166,62 +135,22 @@ fn first_wrong_interface(config: &[u8]) -> Interfaces
 }
 
 // Rule 4.
-fn check_interfaces(config: &[u8]) -> Interfaces
+fn check_interfaces(config: &[u8]) -> Result<usize, Refusal>
     requires { length config.now ≤ most_bytes }
-    ensures { Interfaced config.now (breach4 config.now) result }
+    ensures { result ≡ told (refuse 4 (breach4 config.now) none) (control_at config.now) }
 {
-    let found = first_wrong_interface(config);
-    let wrong = found.wrong;
-    let control = found.control;
-    if let Place::At(_) = wrong {
-        return found;
-    }
-    if config.len() <= control {
-        return Interfaces {
-            wrong: Place::At(config.len()),
-            control,
-        };
-    }
-    found
+    let control = first_wrong_interface(config)?;
+    refuse_unless(control < config.len(), 4, config.len())?;
+    Ok(control)
 }
 
-// A refusal, with no place of an AudioControl interface.
-fn refused(number: u8, place: usize) -> Location
-    ensures { result ≡ unlocated number place }
-{
-    Location {
-        refusal: Refusal { number, place },
-        control: 0,
-    }
-}
-
-// The lowest number of the rules 1 to 4 that a configuration breaks, with its place; 0 and 0 where it keeps them, and then where the
-// AudioControl interface stands.
-pub fn locate(config: &[u8]) -> Location
+// Where the AudioControl interface stands in a configuration that keeps the rules 1 to 4, or the lowest number of those that it breaks, with its
+// place.
+pub fn locate(config: &[u8]) -> Result<usize, Refusal>
     ensures { result ≡ location_of config.now }
 {
-    let size = check_size(config);
-    if let Place::At(place) = size {
-        return refused(1, place);
-    }
-    let opening = check_opening(config);
-    if let Place::At(place) = opening {
-        return refused(2, place);
-    }
-    let cutting = check_cutting(config);
-    if let Place::At(place) = cutting {
-        return refused(3, place);
-    }
-    let interfaces = check_interfaces(config);
-    let wrong = interfaces.wrong;
-    if let Place::At(place) = wrong {
-        return refused(4, place);
-    }
-    Location {
-        refusal: Refusal {
-            number: 0,
-            place: 0,
-        },
-        control: interfaces.control,
-    }
+    refuse_at(1, check_size(config))?;
+    refuse_at(2, check_opening(config))?;
+    refuse_at(3, check_cutting(config))?;
+    check_interfaces(config)
 }

@@ -7,16 +7,16 @@
 --   laid_whole     ==  a descriptor whose layout is right is that of its fields, where byte 0 is the length and byte 1 the type
 --   laid_written   ==  the layout of what is written is right
 --   Standing, fed_standing  ==  the sources are a part of d, from the first source's offset on, and end inside d
-use Rattle.std.specs.Prelude.{ℕ, suc, ◌+◌, ◌-◌, ◌≤◌, ◌<◌, ◌≡◌, refl, Bool, true, false, List, [], ◌∷◌, length, take, drop, eqb}
-use Rattle.std.proofs.Common.{arith, sym, ap, ◌∙◌, length-drop, eqb-true}
-use Rattle.std.proofs.Math.Option.{Option, none, some}
-use Rattle.ground.specs.Pick.{pick, yes}
+use Rattle.std.specs.Prelude.{ℕ, suc, ◌-◌, ◌<◌, ◌≡◌, refl, true, List, [], ◌∷◌, length, drop}
+use Rattle.std.proofs.Common.{arith, sym, ap, ◌∙◌, length-drop}
+use Rattle.std.proofs.Math.Option.{some}
+use Rattle.ground.specs.Pick.{yes}
 use Rattle.ground.specs.Numbers.{byte}
 use Rattle.layout.specs.Format.{Value, emit, fits, value_at, InRange}
 use Rattle.layout.specs.FormatLaws.{found, again, fits_inside, here_at, after_at, fed_part, fed_inside}
 use Rattle.layout.specs.Layouts as kind
 use Rattle.layout.specs.Layouts.{Kind, number_of, format_of, kinds, kinds_in, kinds_of}
-use Rattle.layout.specs.Fields.{Fields, input, output, mixer, selector, feature, layout_by, value_of, fields_at, body_of, descriptor_type, bytes_of, InBounds, LaidOut, fields_by, fields_of, fed_by, fed_from}
+use Rattle.layout.specs.Fields.{Fields, input, output, mixer, selector, feature, layout_by, value_of, fields_at, body_of, descriptor_type, bytes_of, InBounds, LaidOut, fields_by, fields_of}
 use Rattle.layout.specs.FieldsLaws.{some_one, found_by, Standing}
 
 value_fields : (f : Fields) → fields_at (layout_by f) (value_of f) ≡ f

@@ -1,19 +1,22 @@
 -- Laws of what stands beside it in specs.
+--   wrong_read       ==  a wrong layout, by what was read
 --   printed_unlaid   ==  what is one has none of the five layouts
 --   reads_wrong      ==  that test decides
 --   layout_number_lem    ==  the number is by the tests of 9 and 17, in this order
 --   layout_or        ==  what is neither wrong nor one has one of the five layouts
-use Rattle.std.specs.Prelude.{ℕ, ◌+◌, ◌≡◌, refl, Bool, true, false, not, ◌&&◌, ◌⊎◌, List, eqb, length}
+use Rattle.std.specs.Prelude.{ℕ, ◌≡◌, refl, Bool, true, false, not, ◌&&◌, ◌⊎◌, List}
 use Rattle.std.proofs.Common.{inl, inr, ⊎_elim, arith}
-use Rattle.ground.specs.Numbers.{byte}
-use Rattle.ground.specs.Pick.{pick, Reads, reads_and, reads_eq, reads_not, reads_same, reads_within, decided, within}
+use Rattle.ground.specs.Pick.{pick, Reads, reads_and, reads_not, decided}
 use Rattle.layout.specs.declared.Entity.{Entity}
 use Rattle.layout.specs.declared.Entity.TheVariants.{Unknown, Input, Output, Mixer, Selector, Feature}
-use Rattle.layout.specs.Layouts.{most_pins, Pins}
 use Rattle.layout.specs.Layout.{LaidOut, entity_of, is_unknown}
 use Rattle.layout.specs.LayoutLaws.{Told, unknown, input, output, mixer, selector, feature}
 use Rattle.layout.proofs.LayoutLemmas.{told, reads_unknown, laid_out}
 use Rattle.layout.specs.Withdrawn.{Printed, is_printed, reads_printed, layout_number, is_wrong, wrong_tests}
+
+pub wrong_read : (d : List ℕ) → is_wrong d ≡ is_unknown (entity_of d) && not (is_printed d)
+unfolding is_wrong
+wrong_read d = wrong_tests (entity_of d) d
 
 pub printed_unlaid : (d : List ℕ) → Printed d → LaidOut d → ⊥
 printed_unlaid d h o = of (told d)

@@ -24,6 +24,7 @@ pub struct Cluster {
 #[derive(Clone, Copy)]
 pub enum Entity {
     // None of the layouts: any other kind, a wrong layout, or the printed Selector.
+    // Stays: a case, no Option around the kinds: entity_of and layout_number of specs/ have it among them.
     Unknown,
     Input {
         id: u8,
@@ -62,20 +63,21 @@ fn cluster_at(d: &[u8], at: usize) -> Cluster
     }
 }
 
+#[tactic(auto, using(crate::proofs::LayoutLemmas::input_right, crate::proofs::LayoutLemmas::input_wrong))]
 fn read_input(d: &[u8]) -> Entity
     ensures { result ≡ input_of d.now }
 {
     if d.len() != 12 {
         return Entity::Unknown;
     }
-    let cluster = cluster_at(d, 7);
     Entity::Input {
         id: byte_at(d, 3),
         terminal: word_at(d, 4),
-        cluster,
+        cluster: cluster_at(d, 7),
     }
 }
 
+#[tactic(auto, using(crate::proofs::LayoutLemmas::output_right, crate::proofs::LayoutLemmas::output_wrong))]
 fn read_output(d: &[u8]) -> Entity
     ensures { result ≡ output_of d.now }
 {
@@ -90,41 +92,33 @@ fn read_output(d: &[u8]) -> Entity
 }
 
 // Whether a number of pins is 1 to 24.
-fn right_pins(pins: u8) -> bool
+pub fn right_pins(pins: u8) -> bool
     ensures { result ≡ within 1 pins most_pins }
 {
-    if pins < 1 {
-        return false;
-    }
-    pins <= MOST_PINS
+    (1..=MOST_PINS).contains(&pins)
 }
 
+#[tactic(auto, using(crate::proofs::LayoutLemmas::mixer_right, crate::proofs::LayoutLemmas::mixer_wrong))]
 fn read_mixer(d: &[u8]) -> Entity
     ensures { result ≡ mixer_of d.now }
 {
     let pins = byte_at(d, 4);
-    if !right_pins(pins) {
+    if !right_pins(pins) || d.len() < 10 + pins as usize {
         return Entity::Unknown;
     }
-    if d.len() < 10 + pins as usize {
-        return Entity::Unknown;
-    }
-    let cluster = cluster_at(d, 5 + pins as usize);
     Entity::Mixer {
         id: byte_at(d, 3),
         pins,
-        cluster,
+        cluster: cluster_at(d, 5 + pins as usize),
     }
 }
 
+#[tactic(auto, using(crate::proofs::LayoutLemmas::selector_right, crate::proofs::LayoutLemmas::selector_wrong))]
 fn read_selector(d: &[u8]) -> Entity
     ensures { result ≡ selector_of d.now }
 {
     let pins = byte_at(d, 4);
-    if !right_pins(pins) {
-        return Entity::Unknown;
-    }
-    if d.len() != 6 + pins as usize {
+    if !right_pins(pins) || d.len() != 6 + pins as usize {
         return Entity::Unknown;
     }
     Entity::Selector {
@@ -133,17 +127,12 @@ fn read_selector(d: &[u8]) -> Entity
     }
 }
 
+#[tactic(auto, using(crate::proofs::LayoutLemmas::feature_right, crate::proofs::LayoutLemmas::feature_wrong))]
 fn read_feature(d: &[u8]) -> Entity
     ensures { result ≡ feature_of d.now }
 {
     let size = byte_at(d, 5);
-    if size < 1 {
-        return Entity::Unknown;
-    }
-    if 4 < size {
-        return Entity::Unknown;
-    }
-    if d.len() < 7 {
+    if !(1..=4).contains(&size) || d.len() < 7 {
         return Entity::Unknown;
     }
     Entity::Feature {
@@ -154,11 +143,11 @@ fn read_feature(d: &[u8]) -> Entity
 }
 
 // What the layout of a descriptor says it is; byte 2 is the kind.
+#[tactic(auto, using(crate::proofs::KindLemmas::by_kind))]
 pub fn read(d: &[u8]) -> Entity
     ensures { result ≡ entity_of d.now }
 {
-    let kind = byte_at(d, 2);
-    match kind {
+    match byte_at(d, 2) {
         2 => read_input(d),
         3 => read_output(d),
         4 => read_mixer(d),
@@ -169,29 +158,18 @@ pub fn read(d: &[u8]) -> Entity
 }
 
 // Whether a descriptor is the printed Selector, which was taken once (document 02, No. 6): of length 7+p, a byte 0 in front of its sources.
+#[tactic(auto, unfolding(crate::specs::Withdrawn::is_printed))]
 fn is_printed(d: &[u8]) -> bool
     ensures { result ≡ is_printed d.now }
 {
-    if byte_at(d, 2) != 5 {
-        return false;
-    }
     let pins = byte_at(d, 4);
-    if !right_pins(pins) {
-        return false;
-    }
-    if d.len() != 7 + pins as usize {
-        return false;
-    }
-    byte_at(d, 5) == 0
+    byte_at(d, 2) == 5 && right_pins(pins) && d.len() == 7 + pins as usize && byte_at(d, 5) == 0
 }
 
 // Whether the layout of a descriptor is wrong: none of the five, nor the one that was withdrawn.
+#[tactic(auto, using(crate::proofs::WithdrawnLemmas::wrong_read), unfolding(crate::specs::Layout::is_unknown))]
 pub fn is_wrong(d: &[u8]) -> bool
     ensures { result ≡ is_wrong d.now }
 {
-    let entity = read(d);
-    if let Entity::Unknown = entity {
-        return !is_printed(d);
-    }
-    false
+    matches!(read(d), Entity::Unknown) && !is_printed(d)
 }

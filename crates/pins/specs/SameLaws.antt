@@ -1,15 +1,22 @@
 -- Laws of the search along the pins, whatever the width of the numbers: what is left to look at decides as the whole does.
+--   read_at  ==  what stands at an index within a table, as the numbers of specs/ have it
 --   at_id    ==  what stands at the index that a byte is
 --   Passed ids numbers k   ==  what is left from the k-th ID on decides as the whole does
+--   same_none, same_first  ==  of no IDs all numbers are one; of x, then xs, they are where each of xs has the number of x
 --   passed_start, passed_over, passed_other, passed_more  ==  its start, behind pin 1; its two ends; its step
 use Rattle.std.specs.Prelude.{ℕ, ◌+◌, ◌≤◌, ◌<◌, ◌≡◌, Bool, true, false, ◌&&◌, drop}
 use Rattle.std.proofs.Math.Path.{refl, sym, ap}
+use Rattle.std.specs.List.{list_all}
+use Rattle.std.proofs.lemmas.List.{get_or_default}
 use Rattle.std.proofs.Common.{◌∙◌, arith, add-one, drop_of_length-le, drop-cons, eq-eqb, ne_eqb}
 use mathlib.Core.List.{List, [], ◌∷◌}
 use Rattle.std.proofs.Math.Dec.{eqb}
 use Rattle.std.proofs.Math.ListN.{length, get_or}
 use Rattle.graph.specs.Members.{all}
-use Rattle.pins.specs.Same.{numbers_at, all_same}
+use Rattle.pins.specs.Same.{numbers_at, one_number, all_same}
+
+pub read_at : (xs : List ℕ) (i x : ℕ) → i < length xs → x ≡ get_or xs i x → x ≡ get_or xs i 0
+read_at xs i x h e = e ∙ get_or_default xs i x 0 h
 
 pub at_id : (numbers : List ℕ) (id x : ℕ) → (x ≡ id) × (x < 256) → get_or numbers x 0 ≡ get_or numbers id 0
 at_id numbers id x e = ap (λ (y : ℕ). get_or numbers y 0) e.0
@@ -58,3 +65,21 @@ module _ (ids numbers : List ℕ) where
 
       pub passed_more : a ≡ b → Passed (k + 1)
       passed_more e = record { left = turn ∙ ap (λ (z : Bool). z && as_first (drop (k + 1) ids)) (eq-eqb _ _ e) }
+
+module _ (numbers : List ℕ) where
+  pub same_none : (ids : List ℕ) → length ids ≡ 0 → true ≡ all_same (numbers_at numbers ids)
+  unfolding numbers_at all_same all
+  same_none [] h = refl
+  same_none (x ∷ xs) h = absurd (omega arith)
+
+  as_all : (n : ℕ) (xs : List ℕ) → list_all (λ y. eqb (get_or numbers y 0) n) xs ≡ all (λ m. eqb m n) (numbers_at numbers xs)
+  unfolding numbers_at all
+  as_all n [] = refl
+  as_all n (y ∷ xs) = ap (λ (b : Bool). eqb (get_or numbers y 0) n && b) (as_all n xs)
+
+  pub same_first : (ids : List ℕ) (x : ℕ) (xs : List ℕ) → ids ≡ x ∷ xs → (r : Bool)
+      → r ≡ list_all (λ y. one_number numbers y x) xs → r ≡ all_same (numbers_at numbers ids)
+  unfolding numbers_at all_same all
+  same_first ids x xs e r h =
+      h ∙ as_all (get_or numbers x 0) xs
+      ∙ sym (rw e (ap (λ (b : Bool). b && all (λ m. eqb m (get_or numbers x 0)) (numbers_at numbers xs)) (eq-eqb (get_or numbers x 0) (get_or numbers x 0) refl)))

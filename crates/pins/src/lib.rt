@@ -1,49 +1,63 @@
 #![tactic(auto)]
 // What enters by the pins of one entity: whether a number of their sources is the same by each pin ("all pins must have the same c and the
 // same bitmap. If their name indices differ, ..": document 02, No. 5). To the layer above: for every IDs and numbers whatever, what specs/ says.
-ghost use Rattle.std.specs.Prelude.{◌≡◌, get_or};
-ghost use Rattle.pins.specs.Same.{numbers_at, all_same};
+ghost use Rattle.std.specs.Prelude.{◌≡◌, ◌<◌, ℕ, List, length, eqb, get_or, refl};
+ghost use Rattle.pins.specs.Same.{numbers_at, one_number, all_same};
+ghost use Rattle.pins.specs.SameLaws.{read_at};
 
 use ground::index_of;
 
-// The number of an ID, of one byte.
-pub fn number_of(numbers: &[u8; 256], id: u8) -> u8
-    ensures { result ≡ get_or numbers.now id 0 }
+// A number of one byte or of two, by its value, and a table of such, by the values in it.
+pub trait Number: Copy + Eq {
+    ghost value: { Self → ℕ };
+
+    ghost values: { List Self → List ℕ };
+
+    // What stands in a table has the value that stands there among its values.
+    ghost looked: { (xs : List Self) (i : ℕ) (x : Self) → i < length xs → x ≡ get_or xs i x → value x ≡ get_or (values xs) i 0 };
+
+    // Numbers are equal where their values are.
+    ghost told: { (a b : Self) → Self.PartialEq.eq a b ≡ eqb (value a) (value b) };
+}
+
+impl Number for u8 {
+    ghost value = { λ x. x };
+
+    ghost values = { λ xs. xs };
+
+    ghost looked = { read_at };
+
+    ghost told = { λ a b. refl };
+}
+
+// Stays: four lines twice, for each type states its own ghost members; a macro for both is no shorter.
+impl Number for u16 {
+    ghost value = { λ x. x };
+
+    ghost values = { λ xs. xs };
+
+    ghost looked = { read_at };
+
+    ghost told = { λ a b. refl };
+}
+
+// The number of an ID.
+pub fn number_of<T: Number>(numbers: &[T; 256], id: u8) -> T
+    ensures { T.value result ≡ get_or (T.values numbers.now) id 0 }
 {
     numbers[index_of(id)]
 }
 
-// .. of two bytes.
-fn wide_number_of(words: &[u16; 256], id: u8) -> u16
-    ensures { result ≡ get_or words.now id 0 }
+// Whether these IDs have one number.
+pub fn same<T: Number>(ids: &[u8], numbers: &[T; 256]) -> bool
+    ensures { result ≡ all_same (numbers_at (T.values numbers.now) ids.now) }
 {
-    words[index_of(id)]
-}
-
-// Whether these IDs have one number of one byte.
-pub fn same(ids: &[u8], numbers: &[u8; 256]) -> bool
-    ensures { result ≡ all_same (numbers_at numbers.now ids.now) }
-{
-    let mut k: usize = 1;
-    while k < ids.len() {
-        if number_of(numbers, ids[k]) != number_of(numbers, ids[0]) {
-            return false;
-        }
-        k += 1;
-    }
-    true
-}
-
-// Whether these IDs have one number of two bytes.
-pub fn same_wide(ids: &[u8], words: &[u16; 256]) -> bool
-    ensures { result ≡ all_same (numbers_at words.now ids.now) }
-{
-    let mut pin: usize = 1;
-    while pin < ids.len() {
-        if wide_number_of(words, ids[pin]) != wide_number_of(words, ids[0]) {
-            return false;
-        }
-        pin += 1;
-    }
-    true
+    let Some((first, others)) = ids.split_first() else {
+        return true;
+    };
+    others.iter().all(
+        |id| -> bool
+            ensures { result ≡ one_number (T.values numbers.entry.now) id.now first.entry.now }
+        { number_of(numbers, *id) == number_of(numbers, *first) },
+    )
 }

@@ -1,2 +1,3 @@
 pub mod PieceLemmas
 pub mod CuttingLemmas
+pub mod Found

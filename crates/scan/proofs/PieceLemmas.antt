@@ -2,7 +2,7 @@
 --   cut_exists       ==  .. the scan answers nowhere exactly where there is one
 --   cut_misfit       ==  .. and a place exactly where that is the first at which no piece stands
 use Prim.Native.Nat.{ℕ, zero, suc, ◌+◌, ◌-◌, ◌≤◌, ◌<◌}
-use Rattle.std.specs.Prelude.{◌≡◌, Bool, ◌↔◌, take, eqb}
+use Rattle.std.specs.Prelude.{◌≡◌, Bool, ◌↔◌, take, eqb, Some, None}
 use Rattle.std.proofs.Math.Path.{refl, sym, ap}
 use Rattle.std.proofs.Common.{◌∙◌, length-append, length-drop, drop-drop, add-zero, add_assoc}
 use Rattle.std.proofs.Math.Bool.{true, false}
@@ -15,7 +15,6 @@ use Rattle.std.proofs.Math.Dec.{ltb}
 use native.Mathlib.Omega.{arith}
 use Rattle.std.proofs.Math.Nat.{add-sub_cancel_left}
 use borrow.Author.Tests.{eq-eqb, ne_eqb, le-ltb, ltb-true, ltb-false, eqb-true, eqb-false}
-use Rattle.ground.specs.declared.Place.TheVariants.{Nowhere, At}
 use Rattle.ground.specs.Pick.{pick, yes, no, Reads, shows}
 use Rattle.ground.specs.Lists.{part, total, part_length, part_join, part_none, part_drop, length_flatten}
 use Rattle.ground.specs.Refuse.{kept_at, kept_nowhere, kept_at_lem}
@@ -85,15 +84,15 @@ module _ (m : Measure) where
       let t : total (rest_by m s 0) ≡ total b = ap total (r ∙ ap (λ (x : List (List ℕ)). b ++ x) o ∙ append-nil b) in
       omega arith
 
-  pub cut_exists : (s : List ℕ) → (breach_by m s ≡ Nowhere) ↔ ((ds : List (List ℕ)) × Pieces m s ds)
+  pub cut_exists : (s : List ℕ) → (breach_by m s ≡ None) ↔ ((ds : List (List ℕ)) × Pieces m s ds)
   unfolding breach_by
   cut_exists s = kept_nowhere _ (reads_cut s)
 
-  pub cut_misfit : (s : List ℕ) (p : ℕ) → (breach_by m s ≡ At p) ↔ MisfitBy m s p
+  pub cut_misfit : (s : List ℕ) (p : ℕ) → (breach_by m s ≡ Some p) ↔ MisfitBy m s p
   unfolding breach_by
   cut_misfit s p = (λ e. let k = both.0 e in rw k.0 (at_reach s k.1), λ n. both.1 (misfit_reach s p n, uncut n))
     where
-      both : (kept_at (eqb (reach_by m s 0) (length s)) (reach_by m s 0) ≡ At p) ↔ ((p ≡ reach_by m s 0) × ((ds : List (List ℕ)) × Pieces m s ds → ⊥))
+      both : (kept_at (eqb (reach_by m s 0) (length s)) (reach_by m s 0) ≡ Some p) ↔ ((p ≡ reach_by m s 0) × ((ds : List (List ℕ)) × Pieces m s ds → ⊥))
       both = kept_at_lem (reach_by m s 0) p (reads_cut s)
 
       uncut : MisfitBy m s p → (ds : List (List ℕ)) × Pieces m s ds → ⊥

@@ -16,11 +16,10 @@
 --   Descriptor, Cutting, end_at, rest, breach3, Misfit  ==  the same by that measure
 --   Rule3 s         ==  there is a cutting of s
 --   reach s at      ==  the place up to which descriptors stand from place at on
-use Rattle.std.specs.Prelude.{ℕ, zero, suc, ◌+◌, ◌≤◌, ◌<◌, ◌≡◌, length, take, drop, ltb, eqb}
+use Rattle.std.specs.Prelude.{ℕ, zero, suc, ◌+◌, ◌≤◌, ◌<◌, ◌≡◌, length, take, drop, ltb, eqb, Option}
 use Rattle.std.proofs.Common.{sym, ap, ◌∙◌, arith, add-zero, get_or-drop}
 use mathlib.Core.List.{List, [], ◌∷◌, ◌++◌, flatten, Memᴰ}
 use Rattle.std.proofs.Math.ListN.{get_or-append}
-use Rattle.ground.specs.declared.Place.{Place}
 use Rattle.ground.specs.Pick.{pick}
 use Rattle.ground.specs.Numbers.{byte}
 use Rattle.ground.specs.Lists.{part, total}
@@ -54,7 +53,7 @@ rest_by m s at = rest_from_by m (length s) s at
 unfoldable pub reach_by : Measure → List ℕ → ℕ → ℕ
 reach_by m s at = at + total (rest_by m s at)
 
-unfoldable pub breach_by : Measure → List ℕ → Place
+unfoldable pub breach_by : Measure → List ℕ → Option ℕ
 breach_by m s = kept_at (eqb (reach_by m s 0) (length s)) (reach_by m s 0)
 
 pub record MisfitBy (m : Measure) (s : List ℕ) (p : ℕ) : Type 0 where
@@ -90,7 +89,7 @@ rest s at = rest_by one_byte s at
 abbrev pub reach : List ℕ → ℕ → ℕ
 reach s at = reach_by one_byte s at
 
-abbrev pub breach3 : List ℕ → Place
+abbrev pub breach3 : List ℕ → Option ℕ
 breach3 s = breach_by one_byte s
 
 abbrev pub Misfit : List ℕ → ℕ → Type 0

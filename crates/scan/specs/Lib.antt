@@ -2,3 +2,4 @@ pub mod Cutting
 pub mod PieceLaws
 pub mod CuttingLaws
 pub mod Search
+pub mod Placed

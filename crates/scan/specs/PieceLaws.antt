@@ -25,7 +25,6 @@ use Rattle.std.proofs.Math.Dec.{ltb}
 use native.Mathlib.Omega.{arith}
 use Rattle.std.proofs.Math.Nat.{add-sub_cancel_left}
 use borrow.Author.Tests.{eq-eqb, ne_eqb, le-ltb, ltb-true, ltb-false, eqb-true, eqb-false}
-use Rattle.ground.specs.declared.Place.TheVariants.{Nowhere, At}
 use Rattle.ground.specs.Pick.{pick, yes, no, Reads, shows}
 use Rattle.ground.specs.Lists.{part, total, part_length, part_join, part_none, part_drop, length_flatten}
 use Rattle.ground.specs.Refuse.{kept_at, kept_nowhere, kept_at_lem}

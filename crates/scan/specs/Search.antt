@@ -4,21 +4,19 @@
 --   PassedBy m t s from at  ==  the search has come to place at, and what it finds is what it finds from there on; Passed: along descriptors
 --   start, stop_by, hit_by, miss  ==  the loop's start, its two ways out, and its next turn; stop, hit: along descriptors
 --   ordered_by, inside_by, falls_by  ==  a turn's part of the bytes is one, and what is left grows shorter; ordered, inside, falls: along descriptors
-use Rattle.std.specs.Prelude.{ℕ, ◌+◌, ◌-◌, ◌≤◌, ◌<◌, ◌≡◌, Bool, true, false}
+use Rattle.std.specs.Prelude.{ℕ, ◌+◌, ◌-◌, ◌≤◌, ◌<◌, ◌≡◌, Bool, true, false, Option, Some, None}
 use Rattle.std.proofs.Math.Path.{refl, sym, ap}
 use Rattle.std.proofs.Common.{◌∙◌, add-zero}
 use mathlib.Core.List.{List, [], ◌∷◌, ◌++◌}
 use native.Mathlib.Omega.{arith}
 use Rattle.std.proofs.Math.ListN.{length}
 use Rattle.std.proofs.Math.Seq.{append_snoc}
-use Rattle.ground.specs.declared.Place.{Place}
-use Rattle.ground.specs.declared.Place.TheVariants.{Nowhere, At}
 use Rattle.ground.specs.Lists.{part, part_length, total, total_append}
 use Rattle.ground.specs.First.{first_from, first_here, first_on, first_end}
 use Rattle.scan.specs.Cutting.{Measure, end_by, rest_by, one_byte}
 use Rattle.scan.specs.PieceLaws.{end_off, rest_none, rest_more}
 
-abbrev pub searched_by : Measure → (List (List ℕ) → List ℕ → Bool) → List ℕ → ℕ → Place
+abbrev pub searched_by : Measure → (List (List ℕ) → List ℕ → Bool) → List ℕ → ℕ → Option ℕ
 searched_by m t s from = first_from t from [] (rest_by m s from)
 
 pub record PassedBy (m : Measure) (t : List (List ℕ) → List ℕ → Bool) (s : List ℕ) (from at : ℕ) : Type 0 where
@@ -27,7 +25,7 @@ pub record PassedBy (m : Measure) (t : List (List ℕ) → List ℕ → Bool) (s
   pub place : at ≡ from + total behind
   pub same : searched_by m t s from ≡ first_from t at behind (rest_by m s at)
 
-unfoldable pub searched : (List (List ℕ) → List ℕ → Bool) → List ℕ → ℕ → Place
+unfoldable pub searched : (List (List ℕ) → List ℕ → Bool) → List ℕ → ℕ → Option ℕ
 searched t s from = searched_by one_byte t s from
 
 abbrev pub Passed : (List (List ℕ) → List ℕ → Bool) → List ℕ → ℕ → ℕ → Type 0
@@ -39,14 +37,14 @@ module _ {m : Measure} (t : List (List ℕ) → List ℕ → Bool) (s : List ℕ
   start from = record { behind = []; whole = refl; place = sym (add-zero from); same = refl }
 
   module _ (from at e : ℕ) (g : PassedBy m t s from at) (f : e ≡ end_by m s at) where
-    pub stop_by : e ≡ at → Nowhere ≡ searched_by m t s from
+    pub stop_by : e ≡ at → None ≡ searched_by m t s from
     stop_by h = sym (g.same ∙ ap (first_from t at g.behind) (rest_none m s at (sym f ∙ h)) ∙ first_end t at g.behind)
 
     module _ (h : e ≡ at → ⊥) where
       next : rest_by m s at ≡ part s at e ∷ rest_by m s e
       next = rw f (rest_more m s at (λ q. h (f ∙ q)))
 
-      pub hit_by : t g.behind (part s at e) ≡ true → At at ≡ searched_by m t s from
+      pub hit_by : t g.behind (part s at e) ≡ true → Some at ≡ searched_by m t s from
       hit_by y = sym (g.same ∙ ap (first_from t at g.behind) next ∙ first_here t at g.behind _ _ y)
 
       pub miss : t g.behind (part s at e) ≡ false → PassedBy m t s from e
@@ -74,11 +72,11 @@ module _ (m : Measure) (s : List ℕ) (at e : ℕ) (f : e ≡ end_by m s at) (h 
   falls_by = let o = end_off m s at (λ q. h (f ∙ q)) in let i = m.some in omega arith
 
 module _ (t : List (List ℕ) → List ℕ → Bool) (s : List ℕ) (from at e : ℕ) (g : Passed t s from at) (f : e ≡ end_by one_byte s at) where
-  pub stop : e ≡ at → Nowhere ≡ searched t s from
+  pub stop : e ≡ at → None ≡ searched t s from
   unfolding searched
   stop = stop_by t s from at e g f
 
-  pub hit : (e ≡ at → ⊥) → t g.behind (part s at e) ≡ true → At at ≡ searched t s from
+  pub hit : (e ≡ at → ⊥) → t g.behind (part s at e) ≡ true → Some at ≡ searched t s from
   unfolding searched
   hit = hit_by t s from at e g f
 

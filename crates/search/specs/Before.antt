@@ -3,7 +3,7 @@
 --   stands_before s at w ==  what the search for w finds stands before place at
 --   before_none, before_more, before_all  ==  what stands before the first byte, before the next descriptor, before the end
 --   before_here         ==  the first that is wanted is found at its own place
-use Rattle.std.specs.Prelude.{ℕ, ◌+◌, ◌-◌, ◌≡◌, Bool, true, ◌||◌}
+use Rattle.std.specs.Prelude.{ℕ, ◌+◌, ◌-◌, ◌≡◌, Bool, true, ◌||◌, Option, Some, None}
 use Rattle.std.proofs.Math.Path.{refl, sym, ap}
 use Rattle.std.proofs.Common.{◌∙◌}
 use Rattle.std.proofs.Math.Bool.{false}
@@ -13,10 +13,8 @@ use native.Mathlib.Omega.{arith}
 use Rattle.std.proofs.Math.ListN.{length}
 use Rattle.std.proofs.Math.Seq.{append_snoc}
 use borrow.Author.Tests.{le-ltb}
-use Rattle.ground.specs.declared.Place.{Place}
-use Rattle.ground.specs.declared.Place.TheVariants.{Nowhere, At}
 use Rattle.ground.specs.Pick.{reads_true}
-use Rattle.ground.specs.Lists.{part, part_length, total, total_append, any, any_snoc, Some, reads_any}
+use Rattle.ground.specs.Lists.{part, part_length, total, total_append, any, any_snoc, SomeOf, reads_any}
 use Rattle.ground.specs.First.{first_from, first_at, first_before, is_before, sound_each}
 use Rattle.scan.specs.Cutting.{end_at, rest}
 use Rattle.scan.specs.CuttingLaws.{standing, end_off, rest_none, rest_more}
@@ -33,9 +31,9 @@ module _ (w : Want) (s : List ℕ) where
   unfolding is_before
   before_none = go (found_from s 0 w)
     where
-      go : (r : Place) → is_before r 0 ≡ false
-      go Nowhere = refl
-      go (At q) = le-ltb q 0 (omega arith)
+      go : (r : Option ℕ) → is_before r 0 ≡ false
+      go None = refl
+      go (Some q) = le-ltb q 0 (omega arith)
 
   module _ (t : List (List ℕ) → List ℕ → Bool) (at e : ℕ) (g : Passed t s 0 at) (f : e ≡ end_at s at) where
     all_passed : e ≡ at → rest s 0 ≡ g.behind
@@ -75,11 +73,11 @@ module _ (w : Want) (s : List ℕ) where
           ∙ any_snoc (wants w) g.behind (part s at e)
           ∙ ap (λ (b : Bool). b || wants w (part s at e)) (sym (found_before w s t at g))
 
-      none_passed : stands_before s at w ≡ false → Some (λ d. wants w d ≡ true) g.behind → ⊥
+      none_passed : stands_before s at w ≡ false → SomeOf (λ d. wants w d ≡ true) g.behind → ⊥
       none_passed n =
           (reads_any (wants w) (λ d. wants w d ≡ true) (λ d. reads_true (wants w d)) g.behind).denies (sym (found_before w s t at g) ∙ n)
 
-      pub before_here : stands_before s at w ≡ false → wants w (part s at e) ≡ true → found_from s 0 w ≡ At at
+      pub before_here : stands_before s at w ≡ false → wants w (part s at e) ≡ true → found_from s 0 w ≡ Some at
       unfolding found_from searched
       before_here n y =
           (first_at (λ b d. wants w d) (λ b d. wants w d ≡ true) (λ b d. reads_true (wants w d)) 0 (rest s 0) at).1

@@ -7,13 +7,12 @@
 --   found_before     ==  during a search from the first byte on: the first wanted stands before exactly where one of what was passed is
 --                        wanted
 --   found_room       ==  wherever a search began, what it found is a whole descriptor within the bytes
-use Rattle.std.specs.Prelude.{ℕ, ◌+◌, ◌-◌, ◌≤◌, ◌<◌, ◌≡◌, refl, Bool, true, false, length, take, leb}
+use Rattle.std.specs.Prelude.{ℕ, ◌+◌, ◌-◌, ◌≤◌, ◌<◌, ◌≡◌, refl, Bool, true, false, length, take, leb, Some, None}
 use Rattle.std.proofs.Math.Path.{sym, ap}
 use Rattle.std.proofs.Common.{◌∙◌, length-take, take_at, arith, leb-true, leb-false}
 use mathlib.Core.List.Memᴰ
 use mathlib.Core.List.{List, [], ◌∷◌, ◌++◌, flatten, append_assoc, append-nil, append_cancel_left, Memᴰ}
 use Rattle.std.proofs.Math.ListN.{drop}
-use Rattle.ground.specs.declared.Place.TheVariants.{Nowhere, At}
 use Rattle.ground.specs.Pick.{reads_true, true≠false}
 use Rattle.ground.specs.Lists.{part_drop, drop_take, length_flatten, flatten_append, total, total_append, any, of_split}
 use Rattle.ground.specs.First.{first_from, Breaks, first_at, first_none_any, first_at_any, first_before, is_before, sound_none}
@@ -23,11 +22,11 @@ use Rattle.scan.specs.Search.{searched, Passed}
 use Rattle.search.specs.Want.{wants, found_from}
 use Rattle.search.specs.declared.Want.{Want}
 
-pub found_any : (w : Want) (s : List ℕ) (from q : ℕ) → found_from s from w ≡ At q → any (wants w) (rest s from) ≡ true
+pub found_any : (w : Want) (s : List ℕ) (from q : ℕ) → found_from s from w ≡ Some q → any (wants w) (rest s from) ≡ true
 unfolding found_from searched
 found_any w s from q e = first_at_any (wants w) from (rest s from) q e
 
-pub found_none : (w : Want) (s : List ℕ) (from : ℕ) → found_from s from w ≡ Nowhere → any (wants w) (rest s from) ≡ false
+pub found_none : (w : Want) (s : List ℕ) (from : ℕ) → found_from s from w ≡ None → any (wants w) (rest s from) ≡ false
 unfolding found_from searched
 found_none w s from e = first_none_any (wants w) from (rest s from) e
 
@@ -68,7 +67,7 @@ pub record Found (w : Want) (s : List ℕ) (from q : ℕ) : Type 0 where
   pub meets : wants w wanted ≡ true
   pub none_passed : any (wants w) passed ≡ false
 
-pub found : (w : Want) (s : List ℕ) (from q : ℕ) → from ≤ length s → found_from s from w ≡ At q → Found w s from q
+pub found : (w : Want) (s : List ℕ) (from q : ℕ) → from ≤ length s → found_from s from w ≡ Some q → Found w s from q
 unfolding found_from searched total
 found w s from q h e = of ((first_at (λ b d. wants w d) (λ b d. wants w d ≡ true) (λ b d. reads_true (wants w d)) from (rest s from) q).0 e)
   where
@@ -102,7 +101,7 @@ found_before w s t at g =
     ∙ ap (λ (i : ℕ). is_before (first_from (λ b d. wants w d) 0 [] (g.behind ++ rest s at)) i) g.place
     ∙ first_before (wants w) 0 [] g.behind (rest s at) (λ d m. let two = (k.each d (rw g.whole (Memᴰ.append_left (rest s at) m))).long in omega arith)
 
-pub found_room : (w : Want) (s : List ℕ) (from q : ℕ) → found_from s from w ≡ At q → q + 2 ≤ length s
+pub found_room : (w : Want) (s : List ℕ) (from q : ℕ) → found_from s from w ≡ Some q → q + 2 ≤ length s
 unfolding any
 found_room w s from q e = go (leb from (length s)) refl
   where

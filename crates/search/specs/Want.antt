@@ -9,10 +9,9 @@
 --   reads_interface, reads_class, reads_audio, reads_setting, reads_member  ==  that they decide the statements
 --   wants w d          ==  the search for w stops at d
 --   found_from s from w ==  the place of the first descriptor from place from on that the search for w stops at
-use Rattle.std.specs.Prelude.{ℕ, ◌≡◌, Bool, not, ◌&&◌, ◌||◌, List, ◌⊎◌, eqb}
+use Rattle.std.specs.Prelude.{ℕ, ◌≡◌, Bool, not, ◌&&◌, ◌||◌, List, ◌⊎◌, eqb, Option}
 use Rattle.ground.specs.Pick.{Reads, reads_eq, reads_and, reads_or}
 use Rattle.ground.specs.Numbers.{byte}
-use Rattle.ground.specs.declared.Place.{Place}
 use Rattle.scan.specs.Search.{searched}
 use Rattle.search.specs.declared.Want.{Want}
 use Rattle.search.specs.declared.Want.TheVariants as want
@@ -74,5 +73,5 @@ wants (want.Member n) d = is_member n d
 wants want.NotClass d = not (is_class d)
 wants want.ClassOrInterface d = is_class d || is_interface d
 
-unfoldable pub found_from : List ℕ → ℕ → Want → Place
+unfoldable pub found_from : List ℕ → ℕ → Want → Option ℕ
 found_from s from w = searched (λ b d. wants w d) s from

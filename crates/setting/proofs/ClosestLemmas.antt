@@ -8,7 +8,7 @@
 --   closest_silence    ==  what is stored is silence only where silence is wanted
 --   closest_available  ==  what is stored is a setting
 use Rattle.std.specs.Prelude.{ℕ, ◌<◌, ◌≡◌, refl, Bool, true, false, ◌⊎◌, ℤ, nat_abs, ◌-ℤ◌}
-use Rattle.std.proofs.Common.{◌∙◌, sym, inl, inr, arith}
+use Rattle.std.proofs.Common.{◌∙◌, inl, inr, arith}
 use Rattle.std.proofs.Math.Path.{ap}
 use Rattle.std.proofs.Math.Bool.{not}
 use Rattle.std.proofs.Math.Logic.{⊎_elim}
@@ -18,9 +18,9 @@ use Rattle.setting.specs.declared.Sort.{Sort}
 use Rattle.setting.specs.declared.Range.{Range}
 use Rattle.setting.specs.Setting.{span_of, bias_of, height_of, at_height, silence_of, fits_of, legal_of, available_of, closest_height, closest_setting, closest_to}
 use Rattle.setting.specs.Meaning.{value, Available, Silence, Closest, Stored, as_it_is, closest}
-use Rattle.setting.specs.Grid.{apart, ordered, Nearest, nearest_one, nearest_self, closest_nearest}
+use Rattle.setting.specs.Grid.{apart, Nearest, nearest_one, nearest_self, closest_nearest}
 use Rattle.setting.specs.Height.{height_below, height_back}
-use Rattle.setting.specs.Lift.{Lift, lift_lt, lt_lift, lift_apart, lift_one}
+use Rattle.setting.specs.Lift.{Lift, lift_lt, lift_apart}
 use Rattle.setting.specs.Values.{value_lift, value_one}
 use Rattle.setting.specs.Silence.{silence_means}
 use Rattle.setting.specs.Legal.{fits_reads}

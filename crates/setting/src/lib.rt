@@ -3,7 +3,7 @@
 // promises to the layer above: each public function takes every input and answers what specs/Setting.antt defines. What
 // those definitions mean over the integers stands in specs/Meaning.antt, and that they mean it in specs/Legal.antt,
 // specs/Available.antt and specs/Closest.antt. Which sort a control is of is for the layer above to say.
-ghost use Rattle.std.specs.Prelude.{◌≡◌, true, ◌%◌, ◌≤◌, ◌<◌, min};
+ghost use Rattle.std.specs.Prelude.{◌≡◌, true, ◌%◌, ◌≤◌, ◌<◌};
 ghost use Rattle.setting.specs.Setting.{span_of, bias_of, most_res, height_of, at_height, silence_of, fits_of, legal_of, whole_steps, on_grid, closest_height, closest_setting, available_of, closest_to};
 
 // The three sorts of ranged numbers: volume (two bytes, signed), tone = bass, mid, treble (one byte, signed), delay (two
@@ -24,107 +24,93 @@ pub struct Range {
     pub res: u16,
 }
 
-// How many numbers a control of the sort has.
-fn span(sort: Sort) -> u32
-    ensures { result ≡ span_of sort }
-{
-    match sort {
-        Sort::Volume => 65536,
-        Sort::Tone => 256,
-        Sort::Delay => 65536,
+impl Sort {
+    // How many numbers a control of the sort has.
+    fn span(self) -> u32
+        ensures { result ≡ span_of self }
+    {
+        match self {
+            Sort::Volume | Sort::Delay => 65536,
+            Sort::Tone => 256,
+        }
     }
-}
 
-// How far the lowest value lies below 0.
-fn bias(sort: Sort) -> u32
-    ensures { result ≡ bias_of sort }
-{
-    match sort {
-        Sort::Volume => 32768,
-        Sort::Tone => 128,
-        Sort::Delay => 0,
+    // How far the lowest value lies below 0.
+    fn bias(self) -> u32
+        ensures { result ≡ bias_of self }
+    {
+        match self {
+            Sort::Volume => 32768,
+            Sort::Tone => 128,
+            Sort::Delay => 0,
+        }
     }
-}
 
-// What is left of a sum that has come round. Each span is a power of two, so this is the sum's low bits.
-fn around(sort: Sort, sum: u32) -> u32
-    ensures { result ≡ sum % span_of sort }
-{
-    match sort {
-        Sort::Volume => sum % 65536,
-        Sort::Tone => sum % 256,
-        Sort::Delay => sum % 65536,
+    // What is left of a sum that has come round. Each span is a power of two, so this is the sum's low bits.
+    fn around(self, sum: u32) -> u32
+        ensures { result ≡ sum % span_of self }
+    {
+        match self {
+            Sort::Volume | Sort::Delay => sum % 65536,
+            Sort::Tone => sum % 256,
+        }
     }
-}
 
-// How far a number's value lies above the lowest value. Heights are ordered as the values are, and none is negative.
-fn height(sort: Sort, number: u16) -> u32
-    ensures { result ≡ height_of sort number }
-{
-    around(sort, number as u32 + bias(sort))
-}
-
-// The number whose value lies that high.
-fn number_at(sort: Sort, height: u32) -> u16
-    requires { height < 65536 }
-    ensures { result ≡ at_height sort height }
-{
-    around(sort, height + bias(sort)) as u16
-}
-
-// The volume number −32768.
-fn silence(sort: Sort, number: u16) -> bool
-    ensures { result ≡ silence_of sort number }
-{
-    match sort {
-        Sort::Volume => number == 32768,
-        Sort::Tone => false,
-        Sort::Delay => false,
+    // How far a number's value lies above the lowest value. Heights are ordered as the values are, and none is negative.
+    fn height(self, number: u16) -> u32
+        ensures { result ≡ height_of self number }
+    {
+        self.around(number as u32 + self.bias())
     }
-}
 
-// The largest RES that a range of the sort may have.
-fn most_res(sort: Sort) -> u16
-    ensures { result ≡ most_res sort }
-{
-    match sort {
-        Sort::Volume => 32767,
-        Sort::Tone => 127,
-        Sort::Delay => 65535,
+    // The number whose value lies that high.
+    fn number_at(self, height: u32) -> u16
+        requires { height < 65536 }
+        ensures { result ≡ at_height self height }
+    {
+        self.around(height + self.bias()) as u16
+    }
+
+    // The volume number −32768.
+    fn silence(self, number: u16) -> bool
+        ensures { result ≡ silence_of self number }
+    {
+        matches!(self, Sort::Volume) && number == 32768
+    }
+
+    // The largest RES that a range of the sort may have.
+    fn most_res(self) -> u16
+        ensures { result ≡ most_res self }
+    {
+        match self {
+            Sort::Volume => 32767,
+            Sort::Tone => 127,
+            Sort::Delay => 65535,
+        }
     }
 }
 
 // Whether a number is not too wide for the control.
+#[tactic(auto, unfolding(crate::specs::Setting::fits_of))]
 pub fn fits(sort: Sort, number: u16) -> bool
     ensures { result ≡ fits_of sort number }
 {
-    (number as u32) < span(sort)
+    (number as u32) < sort.span()
 }
 
 // Whether a range is legal: no number too wide; MIN ≤ MAX; RES 1 to 32767 (127 for one byte, 65535 for delay); volume MIN
 // at least −32767.
+// Stays: sort and range apart, here and below: legal_of, available_of and closest_to of specs/ take the two.
+#[tactic(auto, unfolding(crate::specs::Setting::legal_of))]
 pub fn legal(sort: Sort, range: Range) -> bool
     ensures { result ≡ legal_of sort range }
 {
-    let min = range.min;
-    let max = range.max;
-    let res = range.res;
-    if !fits(sort, min) {
-        return false;
-    }
-    if !fits(sort, max) {
-        return false;
-    }
-    if height(sort, max) < height(sort, min) {
-        return false;
-    }
-    if res < 1 {
-        return false;
-    }
-    if most_res(sort) < res {
-        return false;
-    }
-    !silence(sort, min)
+    fits(sort, range.min)
+        && fits(sort, range.max)
+        && sort.height(range.min) <= sort.height(range.max)
+        && 1 <= range.res
+        && range.res <= sort.most_res()
+        && !sort.silence(range.min)
 }
 
 // The length of the most whole steps that room has place for; 0 where a step is 0. A small box has no divider, so the step is
@@ -154,38 +140,28 @@ fn whole_steps(room: u32, step: u32) -> u32
 }
 
 // Whether x is least, or a number of steps above it, and not above most.
+// Stays: least, most and step apart, here and in closest_height: so on_grid and closest_height of specs/ take them.
+#[tactic(auto, unfolding(crate::specs::Setting::on_grid))]
 fn on_grid(least: u32, most: u32, step: u32, x: u32) -> bool
     requires { most < 65536 }
     ensures { result ≡ on_grid least most step x }
 {
-    if x < least {
-        return false;
-    }
-    if most < x {
-        return false;
-    }
-    whole_steps(x - least, step) == x - least
+    least <= x && x <= most && whole_steps(x - least, step) == x - least
 }
 
-// Whether a number is a setting: silence for volume, else MIN + typeof.k.RES up to MAX.
+// Whether a number is a setting: silence for volume, else MIN + k·RES up to MAX.
+#[tactic(auto, unfolding(crate::specs::Setting::available_of))]
 pub fn available(sort: Sort, range: Range, number: u16) -> bool
     ensures { result ≡ available_of sort range number }
 {
-    if silence(sort, number) {
-        return true;
-    }
-    if !fits(sort, number) {
-        return false;
-    }
-    let least = height(sort, range.min);
-    let most = height(sort, range.max);
-    on_grid(least, most, range.res as u32, height(sort, number))
-}
-
-fn lesser(a: u32, b: u32) -> u32
-    ensures { result ≡ min a b }
-{
-    if a <= b { a } else { b }
+    sort.silence(number)
+        || fits(sort, number)
+            && on_grid(
+                sort.height(range.min),
+                sort.height(range.max),
+                range.res as u32,
+                sort.height(number),
+            )
 }
 
 // The closest to x of least, least + step, .. up to most, at a tie the lower.
@@ -196,7 +172,7 @@ fn closest_height(least: u32, most: u32, step: u32, x: u32) -> u32
     if x <= least {
         return least;
     }
-    let low = least + whole_steps(lesser(x, most) - least, step);
+    let low = least + whole_steps(x.min(most) - least, step);
     if most - low < step {
         return low;
     }
@@ -205,28 +181,24 @@ fn closest_height(least: u32, most: u32, step: u32, x: u32) -> u32
 }
 
 // The closest available setting of a legal range.
+#[tactic(auto, unfolding(crate::specs::Setting::closest_setting))]
 fn closest_setting(sort: Sort, range: Range, wanted: u16) -> u16
     requires { legal_of sort range ≡ true }
     ensures { result ≡ closest_setting sort range wanted }
 {
-    let least = height(sort, range.min);
-    let most = height(sort, range.max);
-    let x = height(sort, wanted);
-    number_at(sort, closest_height(least, most, range.res as u32, x))
+    let least = sort.height(range.min);
+    let most = sort.height(range.max);
+    let x = sort.height(wanted);
+    sort.number_at(closest_height(least, most, range.res as u32, x))
 }
 
 // What is stored where a number is wanted: silence as it is; else the closest available setting, at a tie the lower. Where
 // the range is illegal or the number too wide there is nothing to be closest to, and the number is given back as it is.
+#[tactic(auto, unfolding(crate::specs::Setting::closest_to))]
 pub fn closest(sort: Sort, range: Range, wanted: u16) -> u16
     ensures { result ≡ closest_to sort range wanted }
 {
-    if silence(sort, wanted) {
-        return wanted;
-    }
-    if !fits(sort, wanted) {
-        return wanted;
-    }
-    if !legal(sort, range) {
+    if sort.silence(wanted) || !fits(sort, wanted) || !legal(sort, range) {
         return wanted;
     }
     closest_setting(sort, range, wanted)

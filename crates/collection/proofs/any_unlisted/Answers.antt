@@ -1,89 +1,104 @@
 -- The loop stands behind descriptors that open no such group, or one whose number is listed; the known numbers are those that stand before.
 use borrow.Author.Rules.{rules}
-use Prim.Native.Nat.{ℕ, ◌-◌}
+use Prim.Native.Nat.{ℕ}
 use mathlib.Core.Path.{◌≡◌, refl, sym, ◌∙◌}
 use mathlib.Core.Bool.{Bool, true, false, not, ◌&&◌, ◌||◌, or-true, or-false}
-use mathlib.Core.List.{List}
-use lib.ListN.{length, get_or, replicate}
+use mathlib.Core.List.{List, [], ◌∷◌}
+use lib.ListN.{get_or, replicate}
 use borrow.Author.Tests.{eq-eqb, ne_eqb}
 use Rattle.ground.specs.Pick.{true≠false}
 use Rattle.ground.specs.Numbers.{byte}
 use Rattle.ground.specs.Lists.{part}
 use Rattle.ground.specs.First.{first_none_any, first_at_any}
 use Rattle.scan.specs.Cutting.{end_at, rest}
-use Rattle.scan.specs.Search.{searched, Passed, start, stop, hit, miss, ordered, inside, falls}
+use Rattle.scan.specs.Search.{searched, start, stop, hit, miss}
+use Rattle.scan.specs.Placed.{placed_from, seen, ahead, walk_over, walk_next, Next}
 use Rattle.search.specs.Want.{is_member, wants}
 use Rattle.search.specs.declared.Want.TheVariants as want
-use Rattle.search.specs.Before.{stands_before, before_none, before_more, before_all}
+use Rattle.search.specs.Before.{before_none, before_more, before_all}
 use Rattle.collection.specs.Marks.{Holds, holds_none, holds_same, holds_more, is_grouped, unlisted_by, Met, other, member, Members}
 use Rattle.collection.proofs.any_unlisted.Invariants.{test, stands, Going}
 use Rattle.collection.proofs.any_unlisted.Goals as goal
 
-begin : (s : List ℕ) (marks known : List Bool) → known ≡ replicate 256 false → Going s marks known 0
-begin s marks known e = rw e (record { passed = start (test marks) s 0; holds = holds_none (λ k. before_none (want.Member k) s) })
+begin : (s : List ℕ) (marks known : List Bool) (left : List (ℕ × List ℕ)) → left ≡ placed_from 0 (rest s 0) → known ≡ replicate 256 false
+    → Going s marks known left
+begin s marks known left c e =
+    rw e (record { at = 0; comes = c; passed = start (test marks) s 0; holds = holds_none (λ k. before_none (want.Member k) s) })
 
-module _ (s : List ℕ) (marks known : List Bool) (at e : ℕ) (g : Going s marks known at) (f : e ≡ end_at s at) where
-  over : e ≡ at → Members (rest s 0) marks known false
+module _ (s : List ℕ) (marks known : List Bool) (left : List (ℕ × List ℕ)) (g : Going s marks known left) where
+  over : left ≡ [] → Members (rest s 0) marks known false
   unfolding searched wants
-  over h = record {
-    told = sym (first_none_any (unlisted_by marks) 0 (rest s 0) (sym (stop (test marks) s 0 at e g.passed f h)));
-    marked = λ n. holds_same g.holds (λ k. before_all (want.Member k) s (test marks) at e g.passed f h);
-  }
+  over n =
+      let h = walk_over s g.at (sym g.comes ∙ n) in
+      record {
+        told = sym (first_none_any (unlisted_by marks) 0 (rest s 0) (sym (stop (test marks) s 0 g.at (end_at s g.at) g.passed refl h)));
+        marked = λ n. holds_same g.holds (λ k. before_all (want.Member k) s (test marks) g.at (end_at s g.at) g.passed refl h);
+      }
 
-  module _ (h : e ≡ at → ⊥) (known' : List Bool) (r : Bool) (m : Met (part s at e) marks known known' r) where
-    told : r ≡ unlisted_by marks (part s at e)
-    unfolding unlisted_by
-    told = go m
-      where
-        go : Met (part s at e) marks known known' r → r ≡ (is_grouped (part s at e) && not (get_or marks (byte (part s at e) 2) false))
-        go (other a b c) = rw a b
-        go (member a l b c) = rw a b
+  module _ (x : ℕ × List ℕ) (left' : List (ℕ × List ℕ)) (comes : left ≡ x ∷ left') where
+    abbrev e : ℕ
+    e = end_at s g.at
 
-    unlisted_here : r ≡ true → Members (rest s 0) marks known' true
-    unfolding searched
-    unlisted_here y = record {
-      told = sym (first_at_any (unlisted_by marks) 0 (rest s 0) at (sym (hit (test marks) s 0 at e g.passed f h (sym told ∙ y))));
-      marked = λ n. absurd (true≠false n);
-    }
+    abbrev d : List ℕ
+    d = part s g.at (end_at s g.at)
 
-    stands_more : (k : ℕ) → stands s e k ≡ (stands s at k || is_member k (part s at e))
+    n : Next s g.at x left'
+    n = walk_next s g.at x left' (sym g.comes ∙ comes)
+
+    stands_more : (k : ℕ) → stands s e k ≡ (stands s g.at k || is_member k d)
     unfolding wants
-    stands_more k = before_more (want.Member k) s (test marks) at e g.passed f h
+    stands_more k = before_more (want.Member k) s (test marks) g.at e g.passed refl n.stands
 
-    next : Met (part s at e) marks known known' r → Holds (stands s e) known'
-    unfolding is_member
-    next (other a b c) = rw c (holds_same g.holds (λ k. rw (stands_more k, a) (sym (or-false (stands s at k)))))
-    next (member a l b c) =
-        rw c
-        (holds_more (byte (part s at e) 2) g.holds l
-        (rw (stands_more (byte (part s at e) 2), a, eq-eqb (byte (part s at e) 2) (byte (part s at e) 2) refl) (or-true (stands s at (byte (part s at e) 2))))
-        (λ k q. rw (stands_more k, a, ne_eqb (byte (part s at e) 2) k (λ p. q (sym p))) (sym (or-false (stands s at k)))))
+    module _ (known' : List Bool) (r : Bool) (m : Met x.1 marks known known' r) where
+      met : Met d marks known known' r
+      met = rw n.here at m
 
-    listed_here : r ≡ false → Going s marks known' e
-    listed_here y = record { passed = miss (test marks) s 0 at e g.passed f h (sym told ∙ y); holds = next m }
+      told : r ≡ unlisted_by marks d
+      unfolding unlisted_by
+      told = go met
+        where
+          go : Met d marks known known' r → r ≡ (is_grouped d && not (get_or marks (byte d 2) false))
+          go (other a b c) = rw a b
+          go (member a l b c) = rw a b
 
-ruleset laws = (begin, over, unlisted_here, listed_here, ordered, inside, falls, rules)
+      unlisted_here : r ≡ true → Members (rest s 0) marks known' true
+      unfolding searched
+      unlisted_here y = record {
+        told = sym (first_at_any (unlisted_by marks) 0 (rest s 0) g.at (sym (hit (test marks) s 0 g.at e g.passed refl n.stands (sym told ∙ y))));
+        marked = λ n. absurd (true≠false n);
+      }
 
-pub loop-at-init : goal.loop-at-init
-loop-at-init c = search laws
+      next : Met d marks known known' r → Holds (stands s e) known'
+      unfolding is_member
+      next (other a b c) = rw c (holds_same g.holds (λ k. rw (stands_more k, a) (sym (or-false (stands s g.at k)))))
+      next (member a l b c) =
+          rw c
+          (holds_more (byte d 2) g.holds l
+          (rw (stands_more (byte d 2), a, eq-eqb (byte d 2) (byte d 2) refl) (or-true (stands s g.at (byte d 2))))
+          (λ k q. rw (stands_more k, a, ne_eqb (byte d 2) k (λ p. q (sym p))) (sym (or-false (stands s g.at k)))))
 
-pub returns-then-e-at : goal.returns-then-e-at
-returns-then-e-at c = search laws
+      listed_here : r ≡ false → Going s marks known' left'
+      listed_here y = record {
+        at = e;
+        comes = n.behind;
+        passed = miss (test marks) s 0 g.at e g.passed refl n.stands (sym told ∙ y);
+        holds = next met;
+      }
 
-pub slice_bounds-is_unlisted-count : goal.slice_bounds-is_unlisted-count
-slice_bounds-is_unlisted-count c = search laws
+ruleset laws = (begin, rules)
 
-pub slice_bounds-is_unlisted-start : goal.slice_bounds-is_unlisted-start
-slice_bounds-is_unlisted-start c = search laws
+pub loop-d-init : goal.loop-d-init
+loop-d-init c = search laws
 
-pub slice_bounds-is_unlisted-end : goal.slice_bounds-is_unlisted-end
-slice_bounds-is_unlisted-end c = search laws
+pub loop-d-preserved : goal.loop-d-preserved
+loop-d-preserved c = (
+  tt,
+  tt,
+  listed_here c.args.config.now c.args.listed.now c.loop-d.known (ahead c.loop-d.d-iterator) (search rules) (seen (c.in-Some.field-0-0, c.in-Some.d)) (ahead c.next.new.self) (search rules) c.is_unlisted.new.known c.is_unlisted.result (search rules) (search rules),
+)
 
 pub returns-then-is_unlisted : goal.returns-then-is_unlisted
-returns-then-is_unlisted c = search laws
+returns-then-is_unlisted c = unlisted_here c.args.config.now c.args.listed.now c.loop-d.known (ahead c.loop-d.d-iterator) (search rules) (seen (c.in-Some.field-0-0, c.in-Some.d)) (ahead c.next.new.self) (search rules) c.is_unlisted.new.known c.is_unlisted.result (search rules) (search rules)
 
-pub loop-at-smaller : goal.loop-at-smaller
-loop-at-smaller c = search laws
-
-pub loop-at-preserved : goal.loop-at-preserved
-loop-at-preserved c = search laws
+pub returns : goal.returns
+returns c = over c.args.config.now c.args.listed.now c.loop-d.known (ahead c.loop-d.d-iterator) (search rules) (search rules)

@@ -1,20 +1,13 @@
-use borrow.Author.Rules.{rules}
-use Prim.Native.Nat.{ℕ, ◌-◌}
-use mathlib.Core.Path.{◌≡◌, refl, sym, ◌∙◌}
-use mathlib.Core.Bool.{Bool, true, false, not, ◌&&◌, ◌||◌, or-true, or-false}
+use Prim.Native.Nat.{ℕ}
+use mathlib.Core.Path.{◌≡◌}
+use mathlib.Core.Bool.{Bool}
 use mathlib.Core.List.{List}
-use lib.ListN.{length, get_or, replicate}
-use borrow.Author.Tests.{eq-eqb, ne_eqb}
-use Rattle.ground.specs.Pick.{true≠false}
-use Rattle.ground.specs.Numbers.{byte}
-use Rattle.ground.specs.Lists.{part}
-use Rattle.ground.specs.First.{first_none_any, first_at_any}
-use Rattle.scan.specs.Cutting.{end_at, rest}
-use Rattle.scan.specs.Search.{searched, Passed, start, stop, hit, miss, ordered, inside, falls}
-use Rattle.search.specs.Want.{is_member, wants}
+use Rattle.scan.specs.Cutting.{rest}
+use Rattle.scan.specs.Search.{Passed}
+use Rattle.scan.specs.Placed.{placed_from, ahead}
 use Rattle.search.specs.declared.Want.TheVariants as want
-use Rattle.search.specs.Before.{stands_before, before_none, before_more, before_all}
-use Rattle.collection.specs.Marks.{Holds, holds_none, holds_same, holds_more, is_grouped, unlisted_by, Met, other, member, Members}
+use Rattle.search.specs.Before.{stands_before}
+use Rattle.collection.specs.Marks.{Holds, unlisted_by}
 use Rattle.collection.proofs.any_unlisted.Given as goal
 
 abbrev pub test : List Bool → List (List ℕ) → List ℕ → Bool
@@ -24,12 +17,13 @@ test marks b d = unlisted_by marks d
 abbrev pub stands : List ℕ → ℕ → ℕ → Bool
 stands s at k = stands_before s at (want.Member k)
 
-pub record Going (s : List ℕ) (marks known : List Bool) (at : ℕ) : Type 0 where
+-- the walk has come to a place, and what it has left are the descriptors from there on
+pub record Going (s : List ℕ) (marks known : List Bool) (left : List (ℕ × List ℕ)) : Type 0 where
+  pub at : ℕ
+  pub comes : left ≡ placed_from at (rest s at)
   pub passed : Passed (test marks) s 0 at
   pub holds : Holds (stands s at) known
 
-abbrev pub invariant-loop-at : goal.invariant-loop-at
-invariant-loop-at l = Going l.config l.listed l.known l.at
-
-abbrev pub decreases-loop-at : goal.decreases-loop-at
-decreases-loop-at l = length l.config - l.at
+abbrev pub invariant-loop-d : goal.invariant-loop-d
+invariant-loop-d l =
+    (goal.iterator-loop-d).can_next l.d-iterator × (goal.iterator-loop-d).is_finite l.d-iterator × Going l.config l.listed l.known (ahead l.d-iterator)

@@ -2,14 +2,22 @@
 use borrow.Author.Rules.{rules}
 use borrow.Author.Tests.{not-true, not-false}
 use Prim.Native.Nat.{ℕ}
-use mathlib.Core.Path.{◌≡◌, refl, sym, ◌∙◌}
+use mathlib.Core.Path.{◌≡◌, refl, sym, ap, ◌∙◌}
 use mathlib.Core.Bool.{Bool, true, false, not, ◌&&◌}
-use mathlib.Core.List.{List}
+use mathlib.Core.List.{List, [], ◌∷◌}
+use lib.ListN.{get_or}
+use Rattle.std.specs.List.{list_all}
 use Rattle.ground.specs.Lists.{any}
 use Rattle.scan.specs.Cutting.{rest}
 use Rattle.collection.specs.Reading.{is_distinct, all_known, unlisted, collects}
 use Rattle.collection.specs.Marks.{all_marked, Listed, Members, listed_same, known_same}
 use Rattle.collection.proofs.is_right.Goals as goal
+
+-- the library's word for "each number is marked" is that of specs/Marks
+all_marked_is : (marks : List Bool) (l : List ℕ) → list_all (λ k. get_or marks k false) l ≡ all_marked marks l
+unfolding all_marked
+all_marked_is marks [] = refl
+all_marked_is marks (k ∷ l) = ap (λ (b : Bool). get_or marks k false && b) (all_marked_is marks l)
 
 module _ (s l : List ℕ) (marks : List Bool) (a : Bool) (e : Listed l marks a) where
   twice : not a ≡ true → false ≡ collects s l
@@ -29,9 +37,9 @@ module _ (s l : List ℕ) (marks : List Bool) (a : Bool) (e : Listed l marks a) 
         none true false = refl
         none false y = refl
 
-    by_known : b ≡ false → (r : Bool) → r ≡ all_marked known l → r ≡ collects s l
+    by_known : b ≡ false → (r : Bool) → r ≡ list_all (λ k. get_or known k false) l → r ≡ collects s l
     unfolding collects
-    by_known k r q = q ∙ known_same (rest s 0) known (m.marked k) l ∙ rw (sym e.distinct ∙ not-false a h, sym unlisted_as ∙ k) (all (all_known (rest s 0) l))
+    by_known k r q = q ∙ all_marked_is known l ∙ known_same (rest s 0) known (m.marked k) l ∙ rw (sym e.distinct ∙ not-false a h, sym unlisted_as ∙ k) (all (all_known (rest s 0) l))
       where
         all : (x : Bool) → x ≡ (x && true)
         all true = refl

@@ -1,6 +1,6 @@
 -- The loop stands behind distinct numbers, and those are the marked ones.
 use borrow.Author.Rules.{rules}
-use Prim.Native.Nat.{ℕ, suc, ◌+◌, ◌-◌, ◌≤◌, ◌<◌}
+use Prim.Native.Nat.{ℕ, suc, ◌+◌, ◌≤◌, ◌<◌}
 use mathlib.Core.Path.{◌≡◌, refl, sym, ap, ◌∙◌}
 use mathlib.Core.Bool.{Bool, true, false}
 use mathlib.Core.List.{List, [], ◌∷◌, ◌++◌}
@@ -11,7 +11,7 @@ use lib.Dec.{eqb}
 use Rattle.ground.specs.Pick.{true≠false}
 use Rattle.ground.specs.Lists.{any}
 use Rattle.collection.specs.Reading.{is_distinct}
-use Rattle.collection.specs.Marks.{Holds, holds_none, holds_same, holds_more, Listed, any_last, any_but_last, distinct_more, distinct_twice}
+use Rattle.collection.specs.Marks.{holds_none, holds_same, holds_more, Listed, any_last, any_but_last, distinct_more, distinct_twice}
 use Rattle.collection.proofs.mark_listed.Invariants.{Marking}
 use Rattle.collection.proofs.mark_listed.Goals as goal
 
@@ -43,11 +43,11 @@ module _ (l : List ℕ) (marks : List Bool) (i : ℕ) (g : Marking l marks i) wh
 
 ruleset laws = (begin, all, twice, once, rules)
 
-pub loop-i-init : goal.loop-i-init
-loop-i-init c = search laws
+pub loop-byte-init : goal.loop-byte-init
+loop-byte-init c = search laws
 
 pub returns-then-marks-number : goal.returns-then-marks-number
-returns-then-marks-number c = twice _ _ _ c.loop-i.invariant c.loop-i-test.true _ c.index_of-number.ensures c.if-marks-number.true
+returns-then-marks-number c = twice _ _ _ c.loop-byte.invariant c.loop-byte-test.true _ c.index_of-number.ensures c.if-marks-number.true
 
-pub loop-i-preserved : goal.loop-i-preserved
-loop-i-preserved c = search laws
+pub loop-byte-preserved : goal.loop-byte-preserved
+loop-byte-preserved c = search laws

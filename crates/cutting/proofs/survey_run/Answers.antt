@@ -5,12 +5,12 @@ use mathlib.Core.Path.{◌≡◌, refl, sym, ap, ◌∙◌}
 use mathlib.Core.List.{List}
 use native.Mathlib.Omega.{arith}
 use lib.ListN.{length, take}
-use borrow.Author.Tests.{eq-eqb, ne_eqb}
+use Rattle.std.specs.Prelude.{Result, Ok, Err}
 use Rattle.ground.specs.declared.Refusal.{Refusal}
-use Rattle.ground.specs.Pick.{yes, no}
 use Rattle.ground.specs.Numbers.{byte}
 use Rattle.ground.specs.Lists.{part}
 use Rattle.ground.specs.Refuse.{none}
+use Rattle.ground.specs.Told.{kept_or, Leaves, left, told_ok, ok_told, row_stays}
 use Rattle.scan.specs.Search.{searched}
 use Rattle.layout.specs.Layout.{entity_of, is_unknown}
 use Rattle.edition.specs.Audio.{audio}
@@ -19,10 +19,9 @@ use Rattle.entities.specs.declared.Walk.{Walk}
 use Rattle.entities.specs.Run.{run_in, walk_of}
 use Rattle.groups.specs.declared.Frame.{Frame}
 use Rattle.cutting.specs.declared.Survey.{Survey}
-use Rattle.ground.specs.Refuse.{chain_none}
 use Rattle.cutting.specs.Verdict.{run_chain}
 use Rattle.cutting.proofs.VerdictLemmas.{unlaid_judged}
-use Rattle.cutting.specs.Survey.{run_found, breach8, breach9, breach17, run_judged, refused_survey, surveyed, run_refused, run_survey}
+use Rattle.cutting.specs.Survey.{run_found, breach8, breach9, breach17, run_judged, surveyed, run_refused, run_survey}
 use Rattle.cutting.proofs.survey_run.Goals as goal
 
 module _ (c : List ℕ) (f : Frame) (s : List ℕ) (e : s ≡ part c 0 f.end) where
@@ -45,25 +44,25 @@ module _ (c : List ℕ) (f : Frame) (s : List ℕ) (e : s ≡ part c 0 f.end) wh
     unfolding walk_of
     unlaid_told = ap (λ (w : Walk). w.unlaid) walk_told
 
-    module _ (v : Refusal) (h : v ≡ run_refused s f.run walk.run.count walk.unlaid f.header) where
-      judged_told : v ≡ run_judged c f none
-      unfolding run_refused run_judged breach8 breach9 breach17
-      judged_told = h ∙ rw (count_told, unlaid_told, front, unlaid_judged (take f.end c) f.run) refl
+    judged_told : run_refused s f.run walk.run.count walk.unlaid f.header ≡ run_judged c f none
+    unfolding run_refused run_judged breach8 breach9 breach17
+    judged_told = rw (count_told, unlaid_told, front, unlaid_judged (take f.end c) f.run) refl
 
-      turned_away : (v.number ≡ 0 → ⊥) → (r : Survey) → r ≡ refused_survey v → r ≡ run_survey c f
-      unfolding run_survey
-      turned_away n r k = k ∙ ap refused_survey judged_told ∙ sym (no _ _ (ne_eqb _ _ (λ q. n (ap (λ (x : Refusal). x.number) judged_told ∙ q))))
+    turned_away : (q : Refusal) → Err q ≡ kept_or (run_refused s f.run walk.run.count walk.unlaid f.header) → (r : Result Survey Refusal) → Leaves r q
+        → r ≡ run_survey c f
+    unfolding run_survey
+    turned_away q h r k = left r q k ∙ row_stays (run_judged c f) (run_chain c f) tt q (h ∙ ap kept_or judged_told) none (surveyed c f)
 
-      taken : v.number ≡ 0 → (b : ℕ) → b ≡ byte c (f.control + 2) → record { refusal = v; control = b; header = f.header; run = walk.run } ≡ run_survey c f
-      unfolding run_survey surveyed
-      taken z b k =
-          let n : v ≡ none = judged_told ∙ chain_none (run_judged c f) (run_chain c f) (sym (ap (λ (x : Refusal). x.number) judged_told) ∙ z) in
-          rw (n, k, run_told) (sym (yes _ _ (eq-eqb _ _ (sym (ap (λ (x : Refusal). x.number) judged_told) ∙ z))))
+    taken : (u : Unit {0}) → Ok u ≡ kept_or (run_refused s f.run walk.run.count walk.unlaid f.header) → (b : ℕ) → b ≡ byte c (f.control + 2)
+        → Ok (record { control = b; header = f.header; run = walk.run }) ≡ run_survey c f
+    unfolding run_survey surveyed
+    taken u h b k = rw (k, run_told) (sym (told_ok _ _ (ok_told (run_judged c f none) tt u (h ∙ ap kept_or judged_told)).0))
 
-ruleset laws = (turned_away, taken, rules)
+ruleset laws = (taken, rules)
 
-pub returns-then-verdict-ne0 : goal.returns-then-verdict-ne0
-returns-then-verdict-ne0 c = search laws
+pub returns-in_err-judge_run : goal.returns-in_err-judge_run
+returns-in_err-judge_run c =
+    turned_away _ _ _ c.stretch-s.ensures _ c.read_run-walk.ensures _ c.in_err-judge_run.ensures _ c.from_residual.ensures.1
 
 pub returns : goal.returns
 returns c = search laws

@@ -1,50 +1,45 @@
--- By its two ways out: one of the rules 1 to 4 is broken, or the rules 5 to 7 decide.
+-- By its three ways out: one of the rules 1 to 4 is broken, one of the rules 5 to 7, or none.
 use borrow.Author.Rules.{rules}
-use borrow.Author.Tests.{ne_eqb}
-use Prim.Native.Nat.{ℕ, ◌≤◌}
+use Prim.Native.Nat.{ℕ}
 use mathlib.Core.Path.{◌≡◌, sym, ap, ◌∙◌}
 use mathlib.Core.List.{List}
-use lib.ListN.{length}
+use Rattle.std.specs.Prelude.{Result, Ok, Err}
 use Rattle.ground.specs.declared.Refusal.{Refusal}
 use Rattle.ground.specs.Refuse.{none}
-use Rattle.interfaces.specs.declared.Location.{Location}
-use Rattle.interfaces.specs.Reading.{interfaces_judged, location_of}
-use Rattle.interfaces.specs.Tops.{control_inside}
-use Rattle.interfaces.specs.Judged.{interfaces_chain, location_refusal, location_control}
+use Rattle.ground.specs.Told.{told, kept_or, Leaves, left, told_ok, ok_told, row_on, row_stays}
+use Rattle.interfaces.specs.Reading.{interfaces_judged}
+use Rattle.interfaces.specs.Judged.{interfaces_chain}
 use Rattle.groups.specs.declared.Frame.{Frame}
-use Rattle.groups.specs.declared.Framing.{Framing}
-use Rattle.groups.specs.Reading.{frame_from, frame_of, group_judged, judged, unframed, framed_as, framed_of}
-use Rattle.groups.specs.Judged.{framed_refused}
+use Rattle.groups.specs.Reading.{frame_of, group_judged, judged, framed_of}
+use Rattle.groups.specs.Judged.{group_chain}
 use Rattle.groups.proofs.framed.Goals as goal
 
-module _ (s : List ℕ) (x : Location) (e : x ≡ location_of s) where
-  number : x.refusal.number ≡ (interfaces_judged s none).number
-  number = ap (λ (q : Refusal). q.number) (location_refusal s x e)
-
-  early : (x.refusal.number ≡ 0 → ⊥) → (r : Framing) → r ≡ unframed x.refusal.number x.refusal.place → r ≡ framed_of s
+module _ (s : List ℕ) where
+  early : (q : Refusal) → Err q ≡ told (interfaces_judged s none) (frame_of s) → (r : Result Frame Refusal) → Leaves r q → r ≡ framed_of s
   unfolding framed_of judged
-  early n =
-      framed_refused x.refusal.number x.refusal.place (frame_of s) (judged s none) (ne_eqb x.refusal.number 0 n)
-      (location_refusal s x e ∙ sym ((interfaces_chain s).stays (λ z. n (number ∙ z)) (group_judged s (frame_of s) none)))
+  early q e r h = left r q h ∙ row_stays (interfaces_judged s) (interfaces_chain s) (frame_of s) q e (group_judged s (frame_of s) none) (frame_of s)
 
-  module _ (z : x.refusal.number ≡ 0) where
-    inside : x.control ≤ length s
-    inside = rw (location_control s x e z) (control_inside s)
+  module _ (f : Frame) (e : Ok f ≡ told (interfaces_judged s none) (frame_of s)) where
+    -- the rest is judged where the rules 1 to 4 are kept
+    behind : told (group_judged s f none) f ≡ framed_of s
+    unfolding framed_of judged
+    behind =
+        ap (λ (y : Frame). told (group_judged s y none) y) (ok_told (interfaces_judged s none) (frame_of s) f e).1
+        ∙ sym (ap (λ (r : Refusal). told r (frame_of s)) (row_on (interfaces_judged s) (interfaces_chain s) (frame_of s) f e (group_judged s (frame_of s) none)))
 
-    group : (f : Frame) → f ≡ frame_from s x.control → (j : Refusal) → j ≡ group_judged s f none → (r : Framing) → r ≡ framed_as j f → r ≡ framed_of s
-    unfolding framed_of frame_of judged
-    group f o j k r q =
-        q ∙ ap (λ (y : Refusal). framed_as y f) k
-        ∙ ap (λ (y : Frame). framed_as (group_judged s y none) y) (o ∙ ap (frame_from s) (location_control s x e z))
-        ∙ ap (λ (y : Refusal). framed_as y (frame_of s)) (sym ((interfaces_chain s).on (sym number ∙ z) (group_judged s (frame_of s) none)))
+    group : (q : Refusal) → Err q ≡ kept_or (group_judged s f none) → (r : Result Frame Refusal) → Leaves r q → r ≡ framed_of s
+    group q k r h = left r q h ∙ row_stays (group_judged s f) (group_chain s f) tt q k none f ∙ behind
 
-ruleset laws = (early, inside, group, rules)
+    all_kept : (u : Unit {0}) → Ok u ≡ kept_or (group_judged s f none) → Ok f ≡ framed_of s
+    all_kept u k = sym (told_ok (group_judged s f none) f (ok_told (group_judged s f none) tt u k).0) ∙ behind
 
-pub returns-then-refusal-ne0 : goal.returns-then-refusal-ne0
-returns-then-refusal-ne0 c = search laws
+ruleset laws = (all_kept, rules)
 
-pub frame_from-frame-requires : goal.frame_from-frame-requires
-frame_from-frame-requires c = search laws
+pub returns-in_err-frame : goal.returns-in_err-frame
+returns-in_err-frame c = early _ _ c.in_err-frame.ensures _ c.from_residual.ensures.1
+
+pub returns-in_err-judge_group : goal.returns-in_err-judge_group
+returns-in_err-judge_group c = group _ _ c.in_ok-frame.ensures _ c.in_err-judge_group.ensures _ c.from_residual-in_err-judge_group.ensures.1
 
 pub returns : goal.returns
 returns c = search laws

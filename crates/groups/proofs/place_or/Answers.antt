@@ -2,24 +2,23 @@
 use borrow.Author.Rules.{rules}
 use Prim.Native.Nat.{ℕ}
 use mathlib.Core.Path.{◌≡◌, sym, ap}
-use Rattle.ground.specs.declared.Place.{Place}
-use Rattle.ground.specs.declared.Place.TheVariants.{Nowhere, At}
+use Rattle.std.specs.Prelude.{Option, Some, None}
 use Rattle.ground.specs.Refuse.{place_or}
 use Rattle.groups.proofs.place_or.Goals as goal
 
-module _ (r : Place) (o : ℕ) where
-  at_place : (q : ℕ) → r ≡ At q → q ≡ place_or r o
+module _ (r : Option ℕ) (o : ℕ) where
+  at_place : (q : ℕ) → r ≡ Some q → q ≡ place_or r o
   unfolding place_or
-  at_place q h = sym (ap (λ (x : Place). place_or x o) h)
+  at_place q h = sym (ap (λ (x : Option ℕ). place_or x o) h)
 
-  at_nowhere : r ≡ Nowhere → o ≡ place_or r o
+  at_nowhere : r ≡ None → o ≡ place_or r o
   unfolding place_or
-  at_nowhere h = sym (ap (λ (x : Place). place_or x o) h)
+  at_nowhere h = sym (ap (λ (x : Option ℕ). place_or x o) h)
 
 ruleset laws = (at_place, at_nowhere, rules)
 
-pub returns-in-At : goal.returns-in-At
-returns-in-At c = search laws
+pub returns-in-Some : goal.returns-in-Some
+returns-in-Some c = search laws
 
-pub returns-in-Nowhere : goal.returns-in-Nowhere
-returns-in-Nowhere c = search laws
+pub returns-in-None : goal.returns-in-None
+returns-in-None c = search laws

@@ -1,27 +1,30 @@
 -- The loop stands behind descriptors none of which is wrong; what it finds is what it finds from there on.
 use borrow.Author.Rules.{rules}
-use Prim.Native.Nat.{ℕ, ◌-◌, ◌≤◌, ◌<◌}
-use mathlib.Core.Path.{◌≡◌, refl, sym, ◌∙◌}
+use Prim.Native.Nat.{ℕ, ◌≤◌, ◌<◌}
+use mathlib.Core.Path.{◌≡◌, refl, sym, ap, ◌∙◌}
 use mathlib.Core.Bool.{Bool, true, false, not, ◌||◌}
 use mathlib.Core.List.{List}
 use native.Mathlib.Omega.{arith}
 use lib.Dec.{eqb}
 use lib.ListN.{length, replicate}
 use borrow.Author.Tests.{eqb-true}
-use Rattle.ground.specs.declared.Place.TheVariants.{Nowhere, At}
 use Rattle.ground.specs.Pick.{pick, yes, no, shows, true≠false}
 use Rattle.ground.specs.Numbers.{byte}
 use Rattle.ground.specs.Lists.{part}
 use Rattle.ground.specs.First.{is_before}
+use Rattle.ground.specs.Refuse.{none, refuse, refuse_at, refuse_on}
+use Rattle.ground.specs.Told.{told, told_ok, told_err}
+use Rattle.ground.specs.declared.Refusal.{Refusal}
+use Rattle.std.specs.Prelude.{Ok, Err, Some, None}
 use Rattle.scan.specs.Cutting.{end_at}
 use Rattle.scan.specs.Search.{searched, Passed, start, stop, hit, miss, ordered, inside, falls}
 use Rattle.search.specs.Want.{is_interface, is_audio, reads_interface, reads_audio, wants, found_from}
 use Rattle.search.specs.Found.{found_before}
 use Rattle.search.specs.declared.Want.TheVariants as want
 use Rattle.opening.specs.Rules1and2.{most_bytes}
-use Rattle.interfaces.specs.Reading.{wrong_interface, wrong_at}
-use Rattle.interfaces.specs.Pairs.{most_interfaces, Noted, Pairs, pairs_none, pairs_room, pairs_more}
-use Rattle.interfaces.specs.Tops.{control_before, Tops, Looked, Interfaced, control_none, control_first, control_later, control_all, tops_none, tops_more}
+use Rattle.interfaces.specs.Reading.{wrong_interface, wrong_at, control_at}
+use Rattle.interfaces.specs.Pairs.{most_interfaces, Noted, pairs_none, pairs_room, pairs_more}
+use Rattle.interfaces.specs.Tops.{control_before, Looked, control_none, control_first, control_later, control_all, tops_none, tops_more}
 use Rattle.interfaces.proofs.first_wrong_interface.Invariants.{Going}
 use Rattle.interfaces.proofs.first_wrong_interface.Goals as goal
 
@@ -56,17 +59,21 @@ begin : (s : List ℕ) → length s ≤ most_bytes → Going s (replicate 256 0)
 begin s few = record { few = few; passed = start wrong_interface s 0; topped = tops_none s; paired = pairs_none s; seen = control_none s }
 
 module _ (s tops pairs : List ℕ) (count control at e : ℕ) (g : Going s tops pairs count control at) (f : e ≡ end_at s at) where
-  over : e ≡ at → Interfaced s (searched wrong_interface s 0) (record { wrong = Nowhere; control = control })
-  over h = record { wrong = stop wrong_interface s 0 at e g.passed f h; control = λ n. control_all s wrong_interface at e g.passed f control g.seen h }
+  over : e ≡ at → Ok control ≡ told (refuse 4 (searched wrong_interface s 0) none) (control_at s)
+  over h =
+      let q : None ≡ searched wrong_interface s 0 = stop wrong_interface s 0 at e g.passed f h in
+      let z : refuse 4 (searched wrong_interface s 0) none ≡ none = refuse_on 4 none (sym q) in
+      ap Ok (control_all s wrong_interface at e g.passed f control g.seen h) ∙ sym (told_ok _ _ (ap (λ (r : Refusal). r.number) z))
 
   module _ (h : e ≡ at → ⊥) (tops' : List ℕ) (r : Bool) (l : Looked s at (part s at e) tops tops' r) where
     same : r ≡ wrong_interface g.passed.behind (part s at e)
     same = l.told ∙ wrong_here s at (part s at e) g.passed
 
-    wrong : r ≡ true → Interfaced s (searched wrong_interface s 0) (record { wrong = At at; control = control })
+    wrong : r ≡ true → Err (record { number = 4; place = at }) ≡ told (refuse 4 (searched wrong_interface s 0) none) (control_at s)
     wrong y =
-        let q : At at ≡ searched wrong_interface s 0 = hit wrong_interface s 0 at e g.passed f h (sym same ∙ y) in
-        record { wrong = q; control = λ n. let p : At at ≡ Nowhere = q ∙ n in let z : ◌≡◌ {A = ℕ} 0 1 = cc in absurd (omega arith) }
+        let q : Some at ≡ searched wrong_interface s 0 = hit wrong_interface s 0 at e g.passed f h (sym same ∙ y) in
+        let z : refuse 4 (searched wrong_interface s 0) none ≡ record { number = 4; place = at } = refuse_at 4 at none (sym q) in
+        sym (ap (λ (r : Refusal). told r (control_at s)) z ∙ told_err _ _ (λ o. omega arith))
 
     room : r ≡ false → is_interface (part s at e) ≡ true → count < most_interfaces
     room y = pairs_room s at pairs count g.paired wrong_interface e g.passed f h g.few (nine s at (part s at e) (sym l.told ∙ y))

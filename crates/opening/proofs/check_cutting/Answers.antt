@@ -5,19 +5,19 @@ use mathlib.Core.Path.{◌≡◌, sym, ap, ◌∙◌}
 use mathlib.Core.List.{List}
 use lib.ListN.{length}
 use borrow.Author.Tests.{eq-eqb, ne_eqb}
-use Rattle.ground.specs.declared.Place.TheVariants.{Nowhere, At}
+use Rattle.std.specs.Prelude.{Some, None}
 use Rattle.ground.specs.Pick.{yes, no}
 use Rattle.scan.specs.Cutting.{reach, breach_by, breach3}
 use Rattle.opening.proofs.check_cutting.Goals as goal
 
 module _ (s : List ℕ) (r : ℕ) (e : r ≡ reach s 0) where
-  whole : r ≡ length s → Nowhere ≡ breach3 s
+  whole : r ≡ length s → None ≡ breach3 s
   unfolding breach_by
   whole h = sym (yes _ _ (eq-eqb (reach s 0) (length s) (sym e ∙ h)))
 
-  cut_short : (r ≡ length s → ⊥) → At r ≡ breach3 s
+  cut_short : (r ≡ length s → ⊥) → Some r ≡ breach3 s
   unfolding breach_by
-  cut_short h = ap At e ∙ sym (no _ _ (ne_eqb (reach s 0) (length s) (λ q. h (e ∙ q))))
+  cut_short h = ap Some e ∙ sym (no _ _ (ne_eqb (reach s 0) (length s) (λ q. h (e ∙ q))))
 
 ruleset laws = (whole, cut_short, rules)
 

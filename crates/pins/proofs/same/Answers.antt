@@ -1,20 +1,18 @@
--- A search along the pins behind pin 1 for a number that is not pin 1's.
-use borrow.Author.Rules.{rules}
-use Prim.Native.Nat.{◌-◌}
-use lib.ListN.{length}
-use Rattle.pins.specs.SameLaws.{Passed, passed_start, passed_over, passed_other, passed_more}
+-- No ID at all, or a first one, which each other is compared with.
+use Rattle.std.proofs.Common.{rules}
+use Rattle.std.proofs.lemmas.Iterator.{YieldsList-from_slice}
+use Rattle.std.proofs.lemmas.Iterator.Search.{all_from_yields_List}
+use Rattle.pins.specs.Same.{one_number}
+use Rattle.pins.specs.SameLaws.{same_none, same_first}
 use Rattle.pins.proofs.same.Goals as goal
 
-ruleset laws = (passed_start, passed_over, passed_other, passed_more, rules)
-
-pub loop-k-init : goal.loop-k-init
-loop-k-init c = search laws
-
-pub returns-then-number_of : goal.returns-then-number_of
-returns-then-number_of c = passed_other _ _ _ c.loop-k.invariant c.loop-k-test.true c.number_of.result (search rules) c.number_of-in-loop-k.result (search rules) c.if-number_of.true
-
-pub loop-k-preserved : goal.loop-k-preserved
-loop-k-preserved c = passed_more _ _ _ c.loop-k.invariant c.loop-k-test.true c.number_of.result (search rules) c.number_of-in-loop-k.result (search rules) c.if-number_of.false
+pub returns-in_default : goal.returns-in_default
+returns-in_default g c = same_none (g.T.Number.values c.args.numbers.now) c.args.ids.now (search rules)
 
 pub returns : goal.returns
-returns c = search laws
+returns g c =
+    let numbers = g.T.Number.values c.args.numbers.now in
+    let first = c.in-Some.first.now in
+    let others = c.in-Some.others.now in
+    let h = all_from_yields_List (λ y. one_number numbers y first) _ _ _ c.all.ensures.ran (YieldsList-from_slice others cc) (λ x b q k. search rules) in
+    same_first numbers c.args.ids.now first others (search rules) c.all.result h

@@ -1,5 +1,4 @@
--- closest_setting meets its contract: a legal range has MIN ≤ MAX and a step, and its closest height is below the span.
-use Rattle.setting.specs.Setting.{closest_setting}
+-- closest_setting: a legal range has MIN ≤ MAX and a step, and its closest height is below the span.
 use Rattle.setting.proofs.Exits.{min_max, res_some, closest_below, height_short}
 use borrow.Author.Rules.{rules}
 use Rattle.setting.proofs.closest_setting.Goals as goal
@@ -11,7 +10,3 @@ closest_height-requires c = search laws
 
 pub number_at-requires : goal.number_at-requires
 number_at-requires c = search laws
-
-pub returns : goal.returns
-unfolding closest_setting
-returns c = cc

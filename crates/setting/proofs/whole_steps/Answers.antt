@@ -13,7 +13,7 @@ use lib.Pow.{pow_pos}
 use Rattle.setting.specs.Setting.{whole_steps}
 use Rattle.setting.specs.Grid.{whole_steps_none, whole_steps_one}
 use borrow.Author.Rules.{rules}
-use Rattle.setting.proofs.whole_steps.Invariants.{Doubled, Left, Back, Halving}
+use Rattle.setting.proofs.whole_steps.Invariants.{Left, Back, Halving}
 use Rattle.setting.proofs.whole_steps.Goals as goal
 
 some_digit : (n : ℕ) → 0 < n → size n ≡ 0 → ⊥

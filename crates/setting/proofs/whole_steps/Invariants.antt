@@ -1,13 +1,6 @@
-use Prim.Native.Nat.{ℕ, zero, suc, ◌+◌, ◌-◌, ◌*◌, ◌/◌, ◌^◌, ◌≤◌, ◌<◌, min}
-use mathlib.Core.Path.{◌≡◌, refl, sym, ap, ◌∙◌, subst}
-use native.Mathlib.Nat.{add-mul, one-mul, zero-mul, two-pow-succ, mul-le-mul_right, lt_of_not-le, pow-le-pow_right}
-use native.Mathlib.Omega.{arith}
+use Prim.Native.Nat.{ℕ, ◌+◌, ◌-◌, ◌*◌, ◌^◌, ◌≤◌, ◌<◌, min}
+use mathlib.Core.Path.{◌≡◌}
 use lib.Ieee.{size}
-use lib.Ieee.Digits.{size-lt, size_reaches, size-le}
-use lib.Pow.{pow_pos}
-use Rattle.setting.specs.Setting.{whole_steps}
-use Rattle.setting.specs.Grid.{whole_steps_none, whole_steps_one}
-use borrow.Author.Rules.{rules}
 use Rattle.setting.proofs.whole_steps.Given as goal
 
 -- reach is the step, doubled; once doubled, it is at most twice room
