@@ -1,10 +1,8 @@
 -- Laws of what stands beside it in specs.
 --   connected_members  ==  THE LAW: so is the whole topology, rule 10 apart, which names the later of two that bear one ID
-use Rattle.std.specs.Prelude.{ℕ, List, ◌↔◌}
-use Rattle.graph.specs.Members.{◌∈◌}
+use Rattle.std.specs.Prelude.{ℕ, List}
 use Rattle.edition.specs.Edition.{Edition}
 use Rattle.ids.specs.Rule10.{Rule10}
-use Rattle.sources.specs.Rule11.{WrongSource, zero_source, unknown, no_output, Rule11}
 use Rattle.clusters.specs.Rule13.{Connected}
 use Rattle.clusters.specs.Collection.{SameMembers, rule11_members}
 

@@ -12,15 +12,13 @@
 --   reads_fits       ==  its test of an entity decides that it keeps its rule
 --   rule13_nowhere, rule13_at  ==  THE LAW, of that edition
 --   clusters_shown   ==  the cluster that is shown of an entity is the one on its output
-use Rattle.std.specs.Prelude.{ℕ, zero, suc, ◌≤◌, ◌<◌, ◌≡◌, Bool, not, ◌↔◌, eqb, length, get_or}
+use Rattle.std.specs.Prelude.{ℕ, zero, suc, ◌≤◌, ◌<◌, ◌≡◌, Bool, not, ◌↔◌, length, get_or, Option, Some, None}
 use Rattle.std.proofs.Common.{sym, ◌∙◌, subst, ⊎_elim, arith}
 use Rattle.std.proofs.Math.Path.{ap}
 use mathlib.Core.List.{List, [], map}
 use Rattle.std.proofs.Math.Nat.{min-le_right}
-use Rattle.ground.specs.declared.Place.{Place}
-use Rattle.ground.specs.declared.Place.TheVariants.{Nowhere, At}
-use Rattle.ground.specs.Pick.{Reads, reads_eq, reads_not, reads_same, decided}
-use Rattle.ground.specs.Lists.{any, Some, reads_any, member_at, member_index}
+use Rattle.ground.specs.Pick.{Reads, reads_not, reads_same, decided}
+use Rattle.ground.specs.Lists.{member_at, member_index}
 use Rattle.ground.specs.First.{Breaks}
 use Rattle.ground.specs.Places.{first_in, breach_nowhere, breach_at}
 use Rattle.layout.specs.declared.Cluster.{Cluster}
@@ -29,20 +27,14 @@ use Rattle.graph.specs.Members.{◌∈◌, map_same}
 use Rattle.graph.specs.Tables.{get_d_tabulate}
 use Rattle.edition.specs.Edition.{Edition, own_id, sources}
 use Rattle.edition.specs.Audio.{audio, give_out}
-use Rattle.entities.specs.declared.Node.{Node}
 use Rattle.entities.specs.declared.Run.{Run}
 use Rattle.entities.specs.Run.{most_entities, held, node_at, id_at, place_at, sources_at, descriptor_of}
 use Rattle.entities.specs.Represents.{Represents}
 use Rattle.entities.specs.RepresentsLaws.{sound_each_of, breaks_each_of}
 use Rattle.ids.specs.Rule10.{Rule10}
-use Rattle.sources.specs.Rule11.{Rule11, unknown}
-use Rattle.ids.specs.Rule10Laws.{distinct_run}
-use Rattle.sources.specs.GraphLaws.{known_run}
+use Rattle.sources.specs.Rule11.{Rule11}
 use Rattle.ranks.specs.Rule12.{Ranking, Rule12}
-use Rattle.ranks.specs.Order.{ordered}
-use Rattle.ranks.proofs.Rule12Laws.{all_ordered, rule12_ranks}
 use Rattle.clusters.specs.Rule13.{entering, GivenOut, Fits, Rule13, Broken, Connected}
-use Rattle.clusters.specs.AlongOrder.{swept_by, swept_made}
 use Rattle.sweep.specs.Sweep.{given_in, clusters_of}
 use Rattle.keeping.specs.Keeping.{keeps_by}
 use Rattle.clusters.specs.Breach.{given_for, breach13}
@@ -115,22 +107,22 @@ module _ {ed : Edition} {s : List ℕ} {p : ℕ} {ds : List (List ℕ)} {run : R
   module _ (r10 : Rule10 ds) (r11 : Rule11 ed ds) where
     module _ (r12 : Rule12 ed ds) (f : ℕ → ed.Cluster) (made : GivenOut ed ds f)
         (t : ℕ → Bool) (test : (i : ℕ) → i < length ds → Reads (t i) (Fits ed f (get_or ds i []))) where
-      abbrev unfit : Place
-      unfit = first_in (λ i. not (t i)) (λ i. At (place_at run i)) Nowhere 0 (held run)
+      abbrev unfit : Option ℕ
+      unfit = first_in (λ i. not (t i)) (λ i. Some (place_at run i)) None 0 (held run)
 
       reads_broken : (i : ℕ) → i < held run → Reads (not (t i)) (Broken ed ds (get_or ds i []))
       reads_broken i l =
           let h = broken_by r11 ((ranks_kept k r10 r11).1 r12).1 f made (get_or ds i []) (member_at [] ds i (within l)) in
           reads_same (reads_not _ (test i (within l))) h.0 h.1
 
-      pub unfit_nowhere : (unfit ≡ Nowhere) ↔ Rule13 ed ds
+      pub unfit_nowhere : (unfit ≡ None) ↔ Rule13 ed ds
       unfit_nowhere =
           let b = breach_nowhere (held run) (place_at run) (λ i. Broken ed ds (get_or ds i [])) _ reads_broken in
           let d = sound_each_of k (Broken ed ds) in
           let none = rule13_by r11 ((ranks_kept k r10 r11).1 r12).1 f made in
           (λ e. none.0 (d.0 (b.0 e)), λ h. b.1 (d.1 (none.1 h)))
 
-      pub unfit_at : (q : ℕ) → (unfit ≡ At q) ↔ Breaks (λ b d. Broken ed ds d) p ds q
+      pub unfit_at : (q : ℕ) → (unfit ≡ Some q) ↔ Breaks (λ b d. Broken ed ds d) p ds q
       unfit_at q =
           let b = breach_at (held run) (place_at run) (λ i. Broken ed ds (get_or ds i [])) _ reads_broken q in
           let d = breaks_each_of k (Broken ed ds) q in
@@ -149,11 +141,11 @@ module _ {s : List ℕ} {p : ℕ} {ds : List (List ℕ)} {run : Run} (k : Repres
         swept_each k r10 r11 r12 (λ n cs. give_out (entity_of (descriptor_of s n)) cs) (λ x. no_cluster) i l
         ∙ ap (λ (b : List ℕ). give_out (entity_of b) (map (given_for s run) (sources_at s run i))) (k.bytes i l))
 
-    pub rule13_nowhere : (breach13 s run (given_for s run) ≡ Nowhere) ↔ Rule13 audio ds
+    pub rule13_nowhere : (breach13 s run (given_for s run) ≡ None) ↔ Rule13 audio ds
     unfolding breach13
     rule13_nowhere = unfit_nowhere k r10 r11 r12 (given_for s run) swept_given _ (reads_fits (given_for s run))
 
-    pub rule13_at : (q : ℕ) → (breach13 s run (given_for s run) ≡ At q) ↔ Breaks (λ b d. Broken audio ds d) p ds q
+    pub rule13_at : (q : ℕ) → (breach13 s run (given_for s run) ≡ Some q) ↔ Breaks (λ b d. Broken audio ds d) p ds q
     unfolding breach13
     rule13_at = unfit_at k r10 r11 r12 (given_for s run) swept_given _ (reads_fits (given_for s run))
 

@@ -1,9 +1,8 @@
 -- Laws of what the reader computes of rule 13.
 --   breach13_same    ==  clusters that agree on every ID are checked alike
-use Rattle.std.specs.Prelude.{ℕ, ◌≡◌, List, length}
+use Rattle.std.specs.Prelude.{ℕ, ◌≡◌, List, length, Some, None}
 use Rattle.std.proofs.Math.Path.{ap}
 use Rattle.std.proofs.Math.Bool.{not}
-use Rattle.ground.specs.declared.Place.TheVariants.{Nowhere, At}
 use Rattle.ground.specs.Places.{first_same}
 use Rattle.layout.specs.declared.Cluster.{Cluster}
 use Rattle.layout.specs.Layout.{entity_of}
@@ -17,5 +16,5 @@ module _ (run : Run) (f g : ℕ → Cluster) (same : (x : ℕ) → f x ≡ g x) 
   pub breach13_same : (s : List ℕ) → breach13 s run f ≡ breach13 s run g
   unfolding breach13 keeps_by
   breach13_same s =
-      first_same _ _ (λ i. At (place_at run i)) Nowhere (held run)
+      first_same _ _ (λ i. Some (place_at run i)) None (held run)
       (λ i l. ap not (keeps_same f g (λ x. ap (λ (c : Cluster). c.channels) (same x)) (λ x. ap (λ (c : Cluster). c.locations) (same x)) (entity_of (descriptor_at s run i)) (length (descriptor_at s run i)) (sources_at s run i)))

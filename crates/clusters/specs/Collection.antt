@@ -5,9 +5,7 @@
 use Rattle.std.specs.Prelude.{ℕ, List, ◌↔◌}
 use Rattle.graph.specs.Members.{◌∈◌}
 use Rattle.edition.specs.Edition.{Edition}
-use Rattle.ids.specs.Rule10.{Rule10}
 use Rattle.sources.specs.Rule11.{WrongSource, zero_source, unknown, no_output, Rule11}
-use Rattle.clusters.specs.Rule13.{Connected}
 
 abbrev pub SameMembers : List (List ℕ) → List (List ℕ) → Type 0
 SameMembers ds es = (d : List ℕ) → d ∈ ds ↔ d ∈ es

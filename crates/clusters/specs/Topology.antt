@@ -5,28 +5,17 @@
 --   ranks_kept       ==  ranks exist exactly where rule 12 is kept
 --   connected_parts  ==  demand 3's topology is the rules 12 and 13, where 10 and 11 are kept
 --   swept_each       ==  a sweep along the order of the run makes what each entity gives out, by its rule, of what enters it
-use Rattle.std.specs.Prelude.{ℕ, zero, suc, ◌≤◌, ◌<◌, ◌≡◌, Bool, not, ◌↔◌, eqb, length, get_or}
-use Rattle.std.proofs.Common.{sym, ◌∙◌, subst, ⊎_elim, arith}
-use Rattle.std.proofs.Math.Path.{ap}
-use mathlib.Core.List.{List, [], map}
-use Rattle.std.proofs.Math.Nat.{min-le_right}
-use Rattle.ground.specs.declared.Place.{Place}
-use Rattle.ground.specs.declared.Place.TheVariants.{Nowhere, At}
-use Rattle.ground.specs.Pick.{Reads, reads_eq, reads_not, reads_same, decided}
-use Rattle.ground.specs.Lists.{any, Some, reads_any, member_at, member_index}
-use Rattle.ground.specs.First.{Breaks}
-use Rattle.ground.specs.Places.{first_in, breach_nowhere, breach_at}
-use Rattle.layout.specs.declared.Cluster.{Cluster}
-use Rattle.layout.specs.Layout.{entity_of, no_cluster}
-use Rattle.graph.specs.Members.{◌∈◌, map_same}
-use Rattle.graph.specs.Tables.{get_d_tabulate}
+use Rattle.std.specs.Prelude.{ℕ, ◌<◌, ◌≡◌, ◌↔◌, eqb, length}
+use Rattle.std.proofs.Common.{⊎_elim}
+use mathlib.Core.List.{List, map}
+use Rattle.ground.specs.Pick.{reads_eq, decided}
+use Rattle.ground.specs.Lists.{any, SomeOf, reads_any}
+use Rattle.graph.specs.Members.{◌∈◌}
 use Rattle.edition.specs.Edition.{Edition, own_id, sources}
-use Rattle.edition.specs.Audio.{audio, give_out}
 use Rattle.entities.specs.declared.Node.{Node}
 use Rattle.entities.specs.declared.Run.{Run}
-use Rattle.entities.specs.Run.{most_entities, held, node_at, id_at, place_at, sources_at, descriptor_of}
+use Rattle.entities.specs.Run.{node_at, id_at, sources_at}
 use Rattle.entities.specs.Represents.{Represents}
-use Rattle.entities.specs.RepresentsLaws.{sound_each_of, breaks_each_of}
 use Rattle.ids.specs.Rule10.{Rule10}
 use Rattle.sources.specs.Rule11.{Rule11, unknown}
 use Rattle.ids.specs.Rule10Laws.{distinct_run}
@@ -34,16 +23,13 @@ use Rattle.sources.specs.GraphLaws.{known_run}
 use Rattle.ranks.specs.Rule12.{Ranking, Rule12}
 use Rattle.ranks.specs.Order.{ordered}
 use Rattle.ranks.proofs.Rule12Laws.{all_ordered, rule12_ranks}
-use Rattle.clusters.specs.Rule13.{entering, GivenOut, Fits, Rule13, Broken, Connected}
+use Rattle.clusters.specs.Rule13.{Rule13, Connected}
 use Rattle.clusters.specs.AlongOrder.{swept_by, swept_made}
-use Rattle.sweep.specs.Sweep.{given_in, clusters_of}
-use Rattle.keeping.specs.Keeping.{keeps_by}
-use Rattle.clusters.specs.Breach.{given_for, breach13}
 
 -- any edition, of the descriptors alone
 module _ {ed : Edition} {ds : List (List ℕ)} where
   -- a source is an entity of the run
-  pub source_of : Rule11 ed ds → (d : List ℕ) → d ∈ ds → (x : ℕ) → x ∈ sources ed d → Some (λ e. own_id e ≡ x) ds
+  pub source_of : Rule11 ed ds → (d : List ℕ) → d ∈ ds → (x : ℕ) → x ∈ sources ed d → SomeOf (λ e. own_id e ≡ x) ds
   source_of r d m x a =
       ⊎_elim (λ b. b)
       (λ f. absurd (r d m (record { one = x; among = a; has = unknown (λ e b q. f (record { one = e; among = b; has = q })) })))

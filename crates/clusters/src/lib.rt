@@ -7,23 +7,17 @@ ghost use Rattle.sweep.specs.Sweep.{cluster_on};
 ghost use Rattle.clusters.specs.Breach.{breach13};
 
 use entities::Run;
-use ground::Place;
 use sweep::Given;
 
 // The first entity that breaks rule 13, where each ID gives out these clusters.
-pub fn check_clusters(config: &[u8], run: Run, given: Given) -> Place
+pub fn check_clusters(config: &[u8], run: Run, given: Given) -> Option<usize>
     ensures { result ≡ breach13 config.now run (cluster_on given) }
 {
     let n = entities::count(run);
-    let counts = given.channels;
-    let bitmaps = given.locations;
-    let mut i: usize = 0;
-    while i < n {
-        let node = run.nodes[i];
-        if !keeping::kept(config, node, &counts, &bitmaps) {
-            return Place::At(node.place);
+    for node in &run.nodes[..n] {
+        if !keeping::kept(config, *node, &given) {
+            return Some(node.place);
         }
-        i += 1;
     }
-    Place::Nowhere
+    None
 }

@@ -1,23 +1,19 @@
 -- The rules 10 to 13 in their order: "the lowest number that applies is given, at no other time".
 --   judged s run r       ==  the first of the four that the run breaks, with its place; what r says where it breaks none
 --   clusters_for s run    ==  the cluster of each entity, by index
---   refused_by r          ==  the answer where r is refused: no clusters
---   connected_in s run    ==  the answer
-use Rattle.std.specs.Prelude.{ℕ, List, eqb, replicate}
+--   connected_in s run    ==  the answer: the clusters, or the refusal
+use Rattle.std.specs.Prelude.{ℕ, List, Result}
 use Rattle.ground.specs.declared.Refusal.{Refusal}
-use Rattle.ground.specs.Pick.{pick}
 use Rattle.ground.specs.Refuse.{none, refuse}
+use Rattle.ground.specs.Told.{told}
 use Rattle.layout.specs.declared.Cluster.{Cluster}
-use Rattle.layout.specs.Layout.{no_cluster}
 use Rattle.entities.specs.declared.Run.{Run}
-use Rattle.entities.specs.Run.{most_entities}
 use Rattle.ids.specs.Breach.{breach10}
 use Rattle.sources.specs.Breach.{breach11}
 use Rattle.ranks.specs.Order.{ordered}
 use Rattle.ranks.specs.Breach.{breach12}
 use Rattle.clusters.specs.Breach.{given_for, breach13}
 use Rattle.sweep.specs.Sweep.{clusters_of}
-use Rattle.connections.specs.declared.Connected.{Connected}
 
 unfoldable pub judged : List ℕ → Run → Refusal → Refusal
 judged s run r =
@@ -28,9 +24,5 @@ judged s run r =
 abbrev pub clusters_for : List ℕ → Run → List Cluster
 clusters_for s run = clusters_of run (given_for s run)
 
-unfoldable pub refused_by : Refusal → Connected
-refused_by r = record { refusal = r; clusters = replicate most_entities no_cluster }
-
-unfoldable pub connected_in : List ℕ → Run → Connected
-connected_in s run =
-    pick (eqb (judged s run none).number 0) (record { refusal = none; clusters = clusters_for s run }) (refused_by (judged s run none))
+unfoldable pub connected_in : List ℕ → Run → Result (List Cluster) Refusal
+connected_in s run = told (judged s run none) (clusters_for s run)

@@ -8,8 +8,7 @@
 --   controls_to i s r cs     ==  those of the first i entities of the run r, with the clusters cs index by index
 --   controls_of_run s r cs    ==  those of all that are looked at
 --   breach15 k p            ==  where rule 15 is broken by k controls: nowhere, or at the header's place p
-use Rattle.std.specs.Prelude.{ℕ, zero, suc, List, [], ◌∷◌, ◌++◌, get_or, leb}
-use Rattle.ground.specs.declared.Place.{Place}
+use Rattle.std.specs.Prelude.{ℕ, zero, suc, List, [], ◌∷◌, ◌++◌, get_or, leb, Option}
 use Rattle.ground.specs.Refuse.{kept_at}
 use Rattle.layout.specs.declared.Cluster.{Cluster}
 use Rattle.layout.specs.declared.Entity.{Entity}
@@ -48,5 +47,5 @@ controls_to (suc i) s r cs = controls_to i s r cs ++ node_controls s (node_at r 
 unfoldable pub controls_of_run : List ℕ → Run → List Cluster → List Control
 controls_of_run s r cs = controls_to (held r) s r cs
 
-unfoldable pub breach15 : ℕ → ℕ → Place
+unfoldable pub breach15 : ℕ → ℕ → Option ℕ
 breach15 k p = kept_at (leb k most_controls) p

@@ -6,11 +6,10 @@
 --   listed_few       ==  so the rule is kept exactly where that list has at most 128
 --   rule15_kept      ==  the reader answers nowhere exactly where the rule is kept
 --   rule15_broken    ==  it answers the header's place exactly where it is broken
-use Rattle.std.specs.Prelude.{ℕ, suc, ◌+◌, ◌≤◌, ◌≡◌, refl, ◌↔◌, length}
+use Rattle.std.specs.Prelude.{ℕ, suc, ◌+◌, ◌≤◌, ◌≡◌, refl, ◌↔◌, length, Some, None}
 use Rattle.std.proofs.Common.{zero-le, sym, ap, ◌∙◌, subst, inl, inr, ⊎_elim, arith, length-append}
 use mathlib.Core.List.Memᴰ
 use mathlib.Core.List.{List, ◌∷◌, ◌++◌, Memᴰ}
-use Rattle.ground.specs.declared.Place.TheVariants.{Nowhere, At}
 use Rattle.ground.specs.Pick.{reads_same, reads_le}
 use Rattle.graph.specs.Members.{◌∈◌}
 use Rattle.ground.specs.Lists.{split_of}
@@ -71,10 +70,10 @@ module _ (ds : List (List ℕ)) (cluster : ℕ → Cluster) (laid : (d : List �
   )
 
   module _ (p : ℕ) where
-    pub rule15_kept : (breach15 (table_of (controls_of ds cluster)).count p ≡ Nowhere) ↔ Rule15 ds cluster
+    pub rule15_kept : (breach15 (table_of (controls_of ds cluster)).count p ≡ None) ↔ Rule15 ds cluster
     unfolding breach15 table_of
     rule15_kept = kept_nowhere p (reads_same (reads_le (length (controls_of ds cluster)) most_controls) listed_few.0 listed_few.1)
 
-    pub rule15_broken : (q : ℕ) → (breach15 (table_of (controls_of ds cluster)).count p ≡ At q) ↔ ((q ≡ p) × (Rule15 ds cluster → ⊥))
+    pub rule15_broken : (q : ℕ) → (breach15 (table_of (controls_of ds cluster)).count p ≡ Some q) ↔ ((q ≡ p) × (Rule15 ds cluster → ⊥))
     unfolding breach15 table_of
     rule15_broken q = kept_at_lem p q (reads_same (reads_le (length (controls_of ds cluster)) most_controls) listed_few.0 listed_few.1)

@@ -12,7 +12,7 @@ use mathlib.Core.List.Memᴰ
 use mathlib.Core.List.{List, [], ◌∷◌, Memᴰ}
 use Rattle.std.proofs.Common.{arith}
 use Rattle.ground.specs.Numbers.{byte}
-use Rattle.ground.specs.Lists.{Some}
+use Rattle.ground.specs.Lists.{SomeOf}
 use Rattle.graph.specs.Members.{◌∈◌}
 use Rattle.layout.specs.declared.Cluster.{Cluster}
 use Rattle.layout.specs.declared.Entity.{Entity}
@@ -33,7 +33,7 @@ pub data Carries (d : List ℕ) (c : ℕ) : Control → Type 0 where
   selector : byte d 2 ≡ 5 → Carries d c (selector_control (byte d 3) (byte d 4))
 
 abbrev pub Stands : List (List ℕ) → (ℕ → Cluster) → Control → Type 0
-Stands ds cluster x = Some (λ d. Carries d (cluster (own_id d)).channels x) ds
+Stands ds cluster x = SomeOf (λ d. Carries d (cluster (own_id d)).channels x) ds
 
 -- an entity's controls are those that it carries
 module _ (d : List ℕ) (c : ℕ) where

@@ -11,125 +11,105 @@ ghost use Rattle.controls.specs.Growth.{added, table_of};
 ghost use Rattle.controls.specs.Told.{table_by, table_from, Grows, Come, Room};
 
 use entities::Run;
-use ground::Place;
 use layout::{Cluster, Entity};
 use masks::{control_from, note_of};
 use scan::word_at;
 use table::Table;
 
-// One note more; past the last place it is counted only.
-fn add(notes: &mut [u64; table::CONTROLS], count: usize, note: u64) -> usize
-    requires { Room (table_by notes.old count) 1000000 }
-    ensures { table_by notes.new result ≡ added (table_by notes.old count) (control_from note) }
-{
-    if table::CONTROLS <= count {
-        return count + 1;
-    }
-    notes[count] = note;
-    count + 1
-}
-
-// The control that a bit of a channel's mask carries; bit 5 carries none.
-fn add_bit(
-    notes: &mut [u64; table::CONTROLS],
+// The notes of the controls so far: how many there are, and the first of them, as many as the table has places for.
+// Stays: the count beside the array, since table_from counts the controls that have no place in it too.
+#[derive(Drop)]
+struct Notes {
     count: usize,
-    mask: &[u8],
-    unit: u8,
-    channel: u8,
-    bit: u8,
-) -> usize
-    requires room { Room (table_by notes.old count) 1000000 }
-    requires bit_bound { bit < 10 }
-    ensures { Grows notes.old count (bit_controls mask.now unit channel bit) notes.new result }
-{
-    if bit == 5 {
-        return count;
-    }
-    if !masks::has_bit(mask, bit) {
-        return count;
-    }
-    add(notes, count, note_of(unit, channel, bit + 1, 0, 0))
+    notes: [u64; table::CONTROLS],
 }
 
-// The controls that a channel's mask carries; where its first two bytes are 0, which have all ten bits, none.
-fn add_mask(
-    notes: &mut [u64; table::CONTROLS],
-    count: usize,
-    mask: &[u8],
-    unit: u8,
-    channel: u8,
-) -> usize
-    requires { Room (table_by notes.old count) 990000 }
-    ensures { Grows notes.old count (mask_controls mask.now unit channel) notes.new result }
-{
-    if word_at(mask, 0) == 0 {
-        return count;
-    }
-    let mut made = count;
-    let mut bit: u8 = 0;
-    while bit < 10 {
-        let more = add_bit(notes, made, mask, unit, channel, bit);
-        made = more;
-        bit += 1;
-    }
-    made
-}
-
-// The controls of a Feature Unit: channel 0 is master, and one for each channel of its cluster.
-fn add_unit(
-    notes: &mut [u64; table::CONTROLS],
-    count: usize,
-    d: &[u8],
-    unit: u8,
-    size: u8,
-    channels: u8,
-) -> usize
-    requires { Room (table_by notes.old count) 900000 }
-    ensures { Grows notes.old count (feature_controls unit size channels d.now) notes.new result }
-{
-    let mut made = count;
-    let mut channel: usize = 0;
-    while channel <= channels as usize {
-        let mask = masks::mask_of(d, size, channel as u8);
-        let more = add_mask(notes, made, mask, unit, channel as u8);
-        made = more;
-        channel += 1;
-    }
-    made
-}
-
-// The controls of the entity with this descriptor and these channels.
-fn add_entity(notes: &mut [u64; table::CONTROLS], count: usize, d: &[u8], channels: u8) -> usize
-    requires { Room (table_by notes.old count) 900000 }
-    ensures { Come notes.old count (entity_controls (entity_of d.now) d.now channels) 2560 notes.new result }
-{
-    let entity = layout::read(d);
-    match entity {
-        Entity::Unknown => count,
-        Entity::Input { .. } => count,
-        Entity::Output { .. } => count,
-        Entity::Mixer { .. } => count,
-        Entity::Selector { id, pins } => add(notes, count, note_of(id, 0, 0, pins, 1)),
-        Entity::Feature { id, size, .. } => add_unit(notes, count, d, id, size, channels),
-    }
-}
-
-// The table of the counted notes, as many as it has places for.
-fn table_of(notes: &[u64; table::CONTROLS], count: usize) -> Table
-    requires { Room (table_by notes.now count) 900000 }
-    ensures { result ≡ table_from notes.now count }
-{
-    let spare = control_from(0);
-    let mut controls = [spare; table::CONTROLS];
-    let mut i: usize = 0;
-    while i < table::CONTROLS {
-        if count <= i {
-            return Table { count, controls };
+// Stays: Room in each requires, since the most that it allows is another for a bit, a mask, and a unit or the table.
+impl Notes {
+    // One note more; past the last place it is counted only.
+    fn add(&mut self, note: u64)
+        requires { Room (table_by self.old.notes self.old.count) 1000000 }
+        ensures { table_by self.new.notes self.new.count
+            ≡ added (table_by self.old.notes self.old.count) (control_from note) }
+    {
+        if self.count < table::CONTROLS {
+            self.notes[self.count] = note;
         }
-        controls[i] = control_from(notes[i]);
-        i += 1;
+        self.count += 1;
     }
-    Table { count, controls }
+
+    // The control that a bit of a channel's mask carries; bit 5 carries none.
+    fn add_bit(&mut self, mask: &[u8], unit: u8, channel: u8, bit: u8)
+        requires room { Room (table_by self.old.notes self.old.count) 1000000 }
+        requires bit_bound { bit < 10 }
+        ensures { Grows self.old.notes self.old.count (bit_controls mask.now unit channel bit)
+            self.new.notes self.new.count }
+    {
+        if bit == 5 {
+            return;
+        }
+        if !masks::has_bit(mask, bit) {
+            return;
+        }
+        self.add(note_of(unit, channel, bit + 1, 0, 0));
+    }
+
+    // The controls that a channel's mask carries; where its first two bytes are 0, which have all ten bits, none.
+    fn add_mask(&mut self, mask: &[u8], unit: u8, channel: u8)
+        requires { Room (table_by self.old.notes self.old.count) 990000 }
+        ensures { Grows self.old.notes self.old.count (mask_controls mask.now unit channel)
+            self.new.notes self.new.count }
+    {
+        if word_at(mask, 0) == 0 {
+            return;
+        }
+        for bit in 0..10 {
+            self.add_bit(mask, unit, channel, bit);
+        }
+    }
+
+    // The controls of a Feature Unit: channel 0 is master, and one for each channel of its cluster.
+    fn add_unit(&mut self, d: &[u8], unit: u8, size: u8, channels: u8)
+        requires { Room (table_by self.old.notes self.old.count) 900000 }
+        ensures { Grows self.old.notes self.old.count (feature_controls unit size channels d.now)
+            self.new.notes self.new.count }
+    {
+        for channel in 0..=channels {
+            let mask = masks::mask_of(d, size, channel);
+            self.add_mask(mask, unit, channel);
+        }
+    }
+
+    // The controls of the entity with this descriptor and these channels.
+    fn add_entity(&mut self, d: &[u8], channels: u8)
+        requires { Room (table_by self.old.notes self.old.count) 900000 }
+        ensures { Come self.old.notes self.old.count (entity_controls (entity_of d.now) d.now channels) 2560
+            self.new.notes self.new.count }
+    {
+        let entity = layout::read(d);
+        match entity {
+            Entity::Unknown => {}
+            Entity::Input { .. } => {}
+            Entity::Output { .. } => {}
+            Entity::Mixer { .. } => {}
+            Entity::Selector { id, pins } => self.add(note_of(id, 0, 0, pins, 1)),
+            Entity::Feature { id, size, .. } => self.add_unit(d, id, size, channels),
+        }
+    }
+
+    // The table of the counted notes, as many as it has places for.
+    fn table(&self) -> Table
+        requires { Room (table_by self.now.notes self.now.count) 900000 }
+        ensures { result ≡ table_from self.now.notes self.now.count }
+    {
+        let count = self.count;
+        let spare = control_from(0);
+        let mut controls = [spare; table::CONTROLS];
+        for i in 0..count.min(table::CONTROLS) {
+            controls[i] = control_from(self.notes[i]);
+        }
+        Table { count, controls }
+    }
 }
 
 // The table of controls of a run, none loaded. It counts every control and holds the first 128 of them.
@@ -137,24 +117,23 @@ pub fn read_controls(config: &[u8], run: Run, clusters: [Cluster; 32]) -> Table
     ensures { result ≡ table_of (controls_of_run config.now run clusters) }
 {
     let n = entities::count(run);
-    let mut notes = [0u64; table::CONTROLS];
-    let mut count: usize = 0;
-    let mut i: usize = 0;
-    while i < n {
-        let d = scan::descriptor_at(config, run.nodes[i].place);
-        let more = add_entity(&mut notes, count, d, clusters[i].channels);
-        count = more;
-        i += 1;
+    let mut notes = Notes {
+        count: 0,
+        notes: [0; table::CONTROLS],
+    };
+    for (node, cluster) in run.nodes[..n].iter().zip(&clusters) {
+        let d = scan::descriptor_at(config, node.place);
+        notes.add_entity(d, cluster.channels);
     }
-    table_of(&notes, count)
+    notes.table()
 }
 
 // Rule 15: at most 128 controls; the place is the header's.
-pub fn check_count(table: Table, header: usize) -> Place
+pub fn check_count(table: Table, header: usize) -> Option<usize>
     ensures { result ≡ breach15 table.count header }
 {
     if table.count <= table::CONTROLS {
-        return Place::Nowhere;
+        return None;
     }
-    Place::At(header)
+    Some(header)
 }

@@ -2,9 +2,7 @@
 --   bears run x i       ==  the i-th entity bears the ID x
 --   wrong_id run i       ==  the ID of the i-th entity is zero or borne by an earlier one
 --   breach10 run        ==  the place of the first such entity
-use Rattle.std.specs.Prelude.{ℕ, Bool}
-use Rattle.ground.specs.declared.Place.{Place}
-use Rattle.ground.specs.declared.Place.TheVariants.{Nowhere, At}
+use Rattle.std.specs.Prelude.{ℕ, Bool, Option, Some, None}
 use Rattle.ground.specs.Places.{first_in}
 use Rattle.graph.specs.Borne as borne
 use Rattle.entities.specs.declared.Run.{Run}
@@ -16,5 +14,5 @@ bears run = borne.bears (id_at run)
 abbrev pub wrong_id : Run → ℕ → Bool
 wrong_id run = borne.wrong_id (id_at run)
 
-unfoldable pub breach10 : Run → Place
-breach10 run = first_in (wrong_id run) (λ i. At (place_at run i)) Nowhere 0 (held run)
+unfoldable pub breach10 : Run → Option ℕ
+breach10 run = first_in (wrong_id run) (λ i. Some (place_at run i)) None 0 (held run)

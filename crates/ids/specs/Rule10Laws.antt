@@ -6,12 +6,11 @@
 --                        first descriptor whose ID is zero or borne by an earlier one
 --   borne_at         ==  an ID is borne at an index of the run exactly where one of its descriptors bears it
 --   distinct_run     ==  in graph's words: by rule 10, no two indices of the run bear the same ID
-use Rattle.std.specs.Prelude.{ℕ, ◌<◌, ◌≡◌, ◌↔◌, List, [], length, get_or, take}
+use Rattle.std.specs.Prelude.{ℕ, ◌<◌, ◌≡◌, ◌↔◌, List, [], length, get_or, take, Some, None}
 use Rattle.std.proofs.Common.{sym, ap, ◌∙◌, arith, length-take-le, get_or-take}
 use Rattle.std.proofs.Math.Logic.{⊎_map}
-use Rattle.ground.specs.declared.Place.TheVariants.{Nowhere, At}
 use Rattle.ground.specs.Pick.{Reads, reads_same}
-use Rattle.ground.specs.Lists.{Some, member_at, member_index}
+use Rattle.ground.specs.Lists.{SomeOf, member_at, member_index}
 use Rattle.ground.specs.First.{Breaks}
 use Rattle.ground.specs.Places.{breach_nowhere, breach_at}
 use Rattle.graph.specs.Members.{◌∈◌}
@@ -39,10 +38,10 @@ module _ {ed : Edition} {s : List ℕ} {p : ℕ} {ds : List (List ℕ)} {run : R
       own : id_at run i ≡ own_id (get_or ds i [])
       own = k.id i n
 
-      to : (j : ℕ) × (j < i) × (id_at run j ≡ id_at run i) → Some (λ e. own_id e ≡ own_id (get_or ds i [])) (take i ds)
+      to : (j : ℕ) × (j < i) × (id_at run j ≡ id_at run i) → SomeOf (λ e. own_id e ≡ own_id (get_or ds i [])) (take i ds)
       to (j, h, e) = record { one = get_or ds j []; among = earlier ds i j h (omega arith); has = sym (k.id j (omega arith)) ∙ e ∙ own }
 
-      of : Some (λ e. own_id e ≡ own_id (get_or ds i [])) (take i ds) → (j : ℕ) × (j < i) × (id_at run j ≡ id_at run i)
+      of : SomeOf (λ e. own_id e ≡ own_id (get_or ds i [])) (take i ds) → (j : ℕ) × (j < i) × (id_at run j ≡ id_at run i)
       of b =
           let j = member_index [] b.among in
           let m = j.1 in
@@ -51,14 +50,14 @@ module _ {ed : Edition} {s : List ℕ} {p : ℕ} {ds : List (List ℕ)} {run : R
           let at : get_or ds j.0 [] ≡ b.one = sym (get_or-take i ds j.0 [] h) ∙ j.2 in
           (j.0, h, k.id j.0 (omega arith) ∙ ap own_id at ∙ b.has ∙ sym own)
 
-  pub rule10_nowhere : (breach10 run ≡ Nowhere) ↔ Rule10 ds
+  pub rule10_nowhere : (breach10 run ≡ None) ↔ Rule10 ds
   unfolding breach10
   rule10_nowhere =
       let b = breach_nowhere (held run) (place_at run) (λ i. WrongId (take i ds) (get_or ds i [])) (wrong_id run) reads_id in
       let c = sound_of_lem k WrongId in
       (λ e. c.0 (b.0 e), λ r. b.1 (c.1 r))
 
-  pub rule10_at : (q : ℕ) → (breach10 run ≡ At q) ↔ Breaks WrongId p ds q
+  pub rule10_at : (q : ℕ) → (breach10 run ≡ Some q) ↔ Breaks WrongId p ds q
   unfolding breach10
   rule10_at q =
       let b = breach_at (held run) (place_at run) (λ i. WrongId (take i ds) (get_or ds i [])) (wrong_id run) reads_id q in

@@ -5,26 +5,20 @@ ghost use Rattle.std.specs.Prelude.{◌≡◌};
 ghost use Rattle.ids.specs.Breach.{breach10};
 
 use entities::Run;
-use ground::{Place, index_of};
+use ground::index_of;
 
 // The first entity that breaks rule 10.
-pub fn check_ids(run: Run) -> Place
+pub fn check_ids(run: Run) -> Option<usize>
     ensures { result ≡ breach10 run }
 {
     let n = entities::count(run);
     let mut borne = [false; 256];
-    let mut i: usize = 0;
-    while i < n {
-        let node = run.nodes[i];
+    for node in &run.nodes[..n] {
         let id = index_of(node.id);
-        if id == 0 {
-            return Place::At(node.place);
-        }
-        if borne[id] {
-            return Place::At(node.place);
+        if id == 0 || borne[id] {
+            return Some(node.place);
         }
         borne[id] = true;
-        i += 1;
     }
-    Place::Nowhere
+    None
 }

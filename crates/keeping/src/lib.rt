@@ -3,12 +3,12 @@
 // rule 13, for every configuration, every entity, every counts of channels and every bitmaps whatever. The rules are the edition's.
 ghost use Rattle.std.specs.Prelude.{◌≡◌, ◌≤◌, map, length};
 ghost use Rattle.edition.specs.Audio.{alike, mixer_length, mixer_kept, feature_length, feature_kept};
-ghost use Rattle.sweep.specs.Sweep.{first_by};
 ghost use Rattle.keeping.specs.Keeping.{channels_on, content_on, keeps_by, Entering};
 
 use entities::Node;
 use ground::index_of;
 use layout::{Cluster, Entity};
+use sweep::Given;
 
 // How many channels enter in all.
 fn channels_in(ids: &[u8], counts: &[u8; 256]) -> usize
@@ -16,10 +16,8 @@ fn channels_in(ids: &[u8], counts: &[u8; 256]) -> usize
     ensures { Entering (map (channels_on counts.now) ids.now) result }
 {
     let mut sum: usize = 0;
-    let mut k: usize = 0;
-    while k < ids.len() {
-        sum += index_of(pins::number_of(counts, ids[k]));
-        k += 1;
+    for id in ids {
+        sum += index_of(pins::number_of(counts, *id));
     }
     sum
 }
@@ -40,24 +38,11 @@ fn feature_length(c: u8, n: u8) -> usize
     7 + (c as usize + 1) * n as usize
 }
 
-// How many channels enter by pin 1; none where there is no pin.
-fn first_count(ids: &[u8], counts: &[u8; 256]) -> u8
-    ensures { result ≡ (first_by (channels_on counts.now) ids.now).channels }
-{
-    if ids.len() == 0 {
-        return 0;
-    }
-    pins::number_of(counts, ids[0])
-}
-
 // Whether by each pin of a Selector as many channels enter as by pin 1, with the same bitmap.
-fn selector_kept(ids: &[u8], counts: &[u8; 256], bitmaps: &[u16; 256]) -> bool
-    ensures { result ≡ alike (map (content_on counts.now bitmaps.now) ids.now) }
+fn selector_kept(ids: &[u8], given: &Given) -> bool
+    ensures { result ≡ alike (map (content_on given.now.channels given.now.locations) ids.now) }
 {
-    if !pins::same(ids, counts) {
-        return false;
-    }
-    pins::same_wide(ids, bitmaps)
+    pins::same(ids, &given.channels) && pins::same(ids, &given.locations)
 }
 
 // Whether a Mixer of this length keeps its rule.
@@ -65,23 +50,20 @@ fn mixer_kept(ids: &[u8], counts: &[u8; 256], p: u8, cluster: Cluster, size: usi
     requires { length ids.now ≤ 255 }
     ensures { result ≡ mixer_kept p cluster size (map (channels_on counts.now) ids.now) }
 {
-    if !channels::cluster_kept(cluster) {
-        return false;
-    }
-    let i = channels_in(ids, counts);
-    size == mixer_length(p, cluster.channels, i)
+    channels::cluster_kept(cluster)
+        && size == mixer_length(p, cluster.channels, channels_in(ids, counts))
 }
 
 // Whether a Feature Unit of this length keeps its rule.
-fn feature_kept(ids: &[u8], counts: &[u8; 256], n: u8, size: usize) -> bool
-    ensures { result ≡ feature_kept n size (map (channels_on counts.now) ids.now) }
+fn feature_kept(ids: &[u8], given: &Given, n: u8, size: usize) -> bool
+    ensures { result ≡ feature_kept n size (map (channels_on given.now.channels) ids.now) }
 {
-    size == feature_length(first_count(ids, counts), n)
+    size == feature_length(sweep::first_entering(ids, given).channels, n)
 }
 
-// Whether an entity keeps its kind's rule, where each ID gives out so many channels, with this bitmap.
-pub fn kept(config: &[u8], node: Node, counts: &[u8; 256], bitmaps: &[u16; 256]) -> bool
-    ensures { result ≡ keeps_by config.now node (content_on counts.now bitmaps.now) }
+// Whether an entity keeps its kind's rule, where these clusters are given out: the rules look at channels and bitmaps alone.
+pub fn kept(config: &[u8], node: Node, given: &Given) -> bool
+    ensures { result ≡ keeps_by config.now node (content_on given.now.channels given.now.locations) }
 {
     let d = scan::descriptor_at(config, node.place);
     let ids = entities::sources(config, node);
@@ -90,8 +72,14 @@ pub fn kept(config: &[u8], node: Node, counts: &[u8; 256], bitmaps: &[u16; 256])
         Entity::Unknown => true,
         Entity::Input { cluster, .. } => channels::cluster_kept(cluster),
         Entity::Output { .. } => true,
-        Entity::Mixer { pins, cluster, .. } => mixer_kept(ids, counts, pins, cluster, d.len()),
-        Entity::Selector { .. } => selector_kept(ids, counts, bitmaps),
-        Entity::Feature { size, .. } => feature_kept(ids, counts, size, d.len()),
+        Entity::Mixer { pins, cluster, .. } => mixer_kept(
+            ids,
+            &given.channels,
+            pins,
+            cluster,
+            d.len(),
+        ),
+        Entity::Selector { .. } => selector_kept(ids, given),
+        Entity::Feature { size, .. } => feature_kept(ids, given, size, d.len()),
     }
 }

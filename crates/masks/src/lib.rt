@@ -10,6 +10,7 @@ use scan::{byte_at, stretch};
 use table::Control;
 
 // Bit b of a mask, the low byte first.
+#[tactic(auto, unfolding(crate::specs::Masks::bit_set))]
 pub fn has_bit(mask: &[u8], bit: u8) -> bool
     ensures { result ≡ bit_set mask.now bit }
 {
@@ -26,26 +27,29 @@ pub fn mask_of(d: &[u8], size: u8, channel: u8) -> &[u8]
 }
 
 // What is kept of a control until the table is made: its unit, channel, selector, pins and first value, a byte each, the unit lowest.
+// Stays: a number, since Noted and control_from promise it as one.
+#[tactic(auto, unfolding(crate::specs::Notes::control_from))]
 pub fn note_of(unit: u8, channel: u8, selector: u8, pins: u8, first: u8) -> u64
     ensures { Noted unit channel selector pins first result }
 {
-    let above = pins as u64 + 256 * first as u64;
-    unit as u64 + 256 * (channel as u64 + 256 * (selector as u64 + 256 * above))
+    u64::from_le_bytes([unit, channel, selector, pins, first, 0, 0, 0])
 }
 
 // The control of a note: not loaded, and its numbers zero but the first value.
+#[tactic(auto, unfolding(crate::specs::Notes::control_from))]
 pub fn control_from(note: u64) -> Control
     ensures { result ≡ control_from note }
 {
+    let [unit, channel, selector, pins, first, ..] = note.to_le_bytes();
     Control {
-        unit: (note % 256) as u8,
-        channel: (note / 256 % 256) as u8,
-        selector: (note / 256 / 256 % 256) as u8,
-        pins: (note / 256 / 256 / 256 % 256) as u8,
+        unit,
+        channel,
+        selector,
+        pins,
         loaded: false,
         min: 0,
         max: 0,
         res: 0,
-        cur: (note / 256 / 256 / 256 / 256 % 256) as u16,
+        cur: first as u16,
     }
 }

@@ -1,1 +1,2 @@
 pub mod Rule12Laws
+pub mod Tests

@@ -9,11 +9,10 @@
 --   rule12_at        ==  .. and at q exactly where q is the place of the first descriptor with an endless chain
 --   all_ordered, ordered_all  ==  each entity of the run is in the order exactly where the rule is kept
 --   rule12_ranks     ==  ranks exist exactly where the rule is kept
-use Rattle.std.specs.Prelude.{ℕ, ◌≤◌, ◌<◌, ◌≡◌, refl, Bool, true, false, not, ◌↔◌, List, [], length, get_or}
+use Rattle.std.specs.Prelude.{ℕ, ◌≤◌, ◌<◌, ◌≡◌, refl, Bool, true, false, not, ◌↔◌, List, [], length, get_or, Some, None}
 use Rattle.std.proofs.Common.{sym, ap, ◌∙◌}
 use mathlib.Core.List.Memᴰ
 use Rattle.std.proofs.Math.Nat.{min-le_right}
-use Rattle.ground.specs.declared.Place.TheVariants.{Nowhere, At}
 use Rattle.ground.specs.Pick.{Reads, reads_same, shows}
 use Rattle.ground.specs.Lists.{member_at, member_index}
 use Rattle.ground.specs.First.{Breaks}
@@ -24,7 +23,6 @@ use Rattle.graph.proofs.GrownLemmas.{order_grown}
 use Rattle.graph.specs.Ranked.{Distinct, Known, AllIn, Chain, Longer, ends, up}
 use Rattle.graph.proofs.RankedLemmas.{left_longer, in_longer, all_ranks, ranks_all}
 use Rattle.graph.specs.Ranked as ranked
-use Rattle.graph.proofs.RankedLemmas as ranked_laws
 use Rattle.edition.specs.Edition.{Edition, own_id, sources}
 use Rattle.entities.specs.declared.Run.{Run}
 use Rattle.entities.specs.Run.{most_entities, held, id_at, place_at, sources_at}
@@ -109,14 +107,14 @@ module _ {ed : Edition} {s : List ℕ} {p : ℕ} {ds : List (List ℕ)} {run : R
     abbrev out : ℕ → Bool
     out i = not (mem (id_at run i) (ids_of (ordered s run)))
 
-    pub rule12_nowhere : (breach12 run (ordered s run) ≡ Nowhere) ↔ Rule12 ed ds
+    pub rule12_nowhere : (breach12 run (ordered s run) ≡ None) ↔ Rule12 ed ds
     unfolding breach12
     rule12_nowhere =
         let b = breach_nowhere (held run) (place_at run) (λ i. Endless ed ds (get_or ds i [])) out left_out in
         let d = sound_each_of k (λ d. Endless ed ds d) in
         (λ e. d.0 (b.0 e), λ h. b.1 (d.1 h))
 
-    pub rule12_at : (q : ℕ) → (breach12 run (ordered s run) ≡ At q) ↔ Breaks (λ b d. Endless ed ds d) p ds q
+    pub rule12_at : (q : ℕ) → (breach12 run (ordered s run) ≡ Some q) ↔ Breaks (λ b d. Endless ed ds d) p ds q
     unfolding breach12
     rule12_at q =
         let b = breach_at (held run) (place_at run) (λ i. Endless ed ds (get_or ds i [])) out left_out q in

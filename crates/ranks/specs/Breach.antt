@@ -2,9 +2,7 @@
 --   ids_of run          ==  the IDs of the entities of the run
 --   borne_in run        ==  by ID, whether an entity of the run bears it
 --   breach12 run order ==  the place of the first entity of the run whose ID is not borne in the order
-use Rattle.std.specs.Prelude.{ℕ, Bool, not, List, map}
-use Rattle.ground.specs.declared.Place.{Place}
-use Rattle.ground.specs.declared.Place.TheVariants.{Nowhere, At}
+use Rattle.std.specs.Prelude.{ℕ, Bool, not, List, map, Option, Some, None}
 use Rattle.ground.specs.Places.{first_in}
 use Rattle.graph.specs.Members.{mem}
 use Rattle.graph.specs.Tables.{tabulate, below}
@@ -17,5 +15,5 @@ ids_of run = map (id_at run) (below (held run))
 unfoldable pub borne_in : Run → List Bool
 borne_in run = tabulate 256 (λ x. mem x (ids_of run))
 
-unfoldable pub breach12 : Run → Run → Place
-breach12 run order = first_in (λ i. not (mem (id_at run i) (ids_of order))) (λ i. At (place_at run i)) Nowhere 0 (held run)
+unfoldable pub breach12 : Run → Run → Option ℕ
+breach12 run order = first_in (λ i. not (mem (id_at run i) (ids_of order))) (λ i. Some (place_at run i)) None 0 (held run)

@@ -4,35 +4,26 @@
 // carries no meaning: a source that stands after its user costs another pass, nothing else. What this crate promises to the
 // layer above: each public function answers, for every configuration and every run whatever, as the definitions of specs/ say.
 ghost use Rattle.std.specs.Prelude.{◌≡◌};
-ghost use Rattle.graph.specs.Members.{all};
+ghost use Rattle.std.specs.List.{list_all};
 ghost use Rattle.ranks.specs.Order.{marked, fresh, ordered};
 ghost use Rattle.ranks.specs.Breach.{borne_in, breach12};
 
 use entities::{Node, Run};
-use ground::{Place, index_of};
+use ground::index_of;
 
 // Whether all these IDs are marked.
 fn all_marked(marks: &[bool; 256], ids: &[u8]) -> bool
-    ensures { result ≡ all (marked marks.now) ids.now }
+    ensures { result ≡ list_all (marked marks.now) ids.now }
 {
-    let mut k: usize = 0;
-    while k < ids.len() {
-        if !marks[index_of(ids[k])] {
-            return false;
-        }
-        k += 1;
-    }
-    true
+    ids.iter().all(|id| marks[index_of(*id)])
 }
 
 // Whether an entity may join: its ID is not borne in the order yet, and all its source IDs are.
+#[tactic(auto, using(crate::proofs::Tests::borne_already, crate::proofs::Tests::not_yet))]
 fn may_join(marks: &[bool; 256], config: &[u8], node: Node) -> bool
     ensures { result ≡ fresh marks.now config.now node }
 {
-    if marks[index_of(node.id)] {
-        return false;
-    }
-    all_marked(marks, entities::sources(config, node))
+    !marks[index_of(node.id)] && all_marked(marks, entities::sources(config, node))
 }
 
 // The entities of a run in an order in which each source comes before its user, and how many there are: the others have an endless
@@ -45,23 +36,18 @@ pub fn order_of(config: &[u8], run: Run) -> Run
     let mut nodes = [spare; 32];
     let mut marks = [false; 256];
     let mut count: usize = 0;
-    let mut before: usize = 0;
-    let mut i: usize = 0;
     while count < n {
-        if i < n {
-            let node = run.nodes[i];
-            if may_join(&marks, config, node) {
+        let before = count;
+        for node in &run.nodes[..n] {
+            if may_join(&marks, config, *node) {
                 marks[index_of(node.id)] = true;
-                nodes[count] = node;
+                // Stays: filled by a count, which with the array is the run that ordered says.
+                nodes[count] = *node;
                 count += 1;
             }
-            i += 1;
-        } else {
-            if count == before {
-                return Run { count, nodes };
-            }
-            before = count;
-            i = 0;
+        }
+        if count == before {
+            return Run { count, nodes };
         }
     }
     Run { count, nodes }
@@ -73,27 +59,22 @@ fn borne(run: Run) -> [bool; 256]
 {
     let n = entities::count(run);
     let mut marks = [false; 256];
-    let mut i: usize = 0;
-    while i < n {
-        marks[index_of(run.nodes[i].id)] = true;
-        i += 1;
+    for node in &run.nodes[..n] {
+        marks[index_of(node.id)] = true;
     }
     marks
 }
 
 // The first entity of a run that an order of it leaves out: the place where rule 12 is broken.
-pub fn check_ranks(run: Run, order: Run) -> Place
+pub fn check_ranks(run: Run, order: Run) -> Option<usize>
     ensures { result ≡ breach12 run order }
 {
     let n = entities::count(run);
     let marks = borne(order);
-    let mut i: usize = 0;
-    while i < n {
-        let node = run.nodes[i];
+    for node in &run.nodes[..n] {
         if !marks[index_of(node.id)] {
-            return Place::At(node.place);
+            return Some(node.place);
         }
-        i += 1;
     }
-    Place::Nowhere
+    None
 }

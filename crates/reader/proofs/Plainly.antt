@@ -20,7 +20,7 @@ use lib.Dec.{eqb}
 use native.Mathlib.Omega.{arith}
 use Rattle.ground.specs.Pick.{decided, true≠false, reads_eq}
 use Rattle.ground.specs.Numbers.{byte}
-use Rattle.ground.specs.Lists.{Some, reads_any}
+use Rattle.ground.specs.Lists.{SomeOf, reads_any}
 use Rattle.graph.specs.Members.{◌∈◌, along}
 use Rattle.layout.specs.declared.Cluster.{Cluster}
 use Rattle.layout.specs.declared.Entity.{Entity}
@@ -295,7 +295,7 @@ module _ (ds : List (List ℕ)) (laid : (e : List ℕ) → e ∈ ds → LaidOut 
   named_plainly : (x : ℕ) → (WrongSource audio ds x → ⊥) → SourceNamed ds x
   named_plainly x n = (λ z. n (zero_source z), record { one = b.one; among = b.among; has = (b.has, λ k. n (no_output b.one b.among b.has (output_feeds b.one k))) })
     where
-      b : Some (λ e. own_id e ≡ x) ds
+      b : SomeOf (λ e. own_id e ≡ x) ds
       b =
           ⊎_elim (λ h. h) (λ none. absurd (n (unknown (λ e m q. none (record { one = e; among = m; has = q })))))
           (decided _ (reads_any (λ e. eqb (own_id e) x) (λ e. own_id e ≡ x) (λ e. reads_eq (own_id e) x) ds))

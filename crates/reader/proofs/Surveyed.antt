@@ -1,7 +1,7 @@
 -- What the survey holds where the rules 1 to 9 are kept: the control's number, the header's place and the entities are those of the
 -- cutting, the header and the run that keep them.
 --   entities_of k   ==  the entities of the run, as the reader hands them on
---   survey_with, kept_survey k  ==  a survey that refuses nothing; the one of that control, header and run
+--   survey_with, kept_survey k  ==  a survey; the one of that control, header and run
 --   survey_kept    ==  the survey is that control's number, that header's place and those entities
 --   run_stands     ==  from that place on the configuration's bytes are those of the run, then those of the descriptors behind it
 --   run_cut        ==  each of the run is one of the cutting's descriptors
@@ -35,7 +35,7 @@ abbrev pub entities_of : {s : List ℕ} → Kept s → Run
 entities_of k = run_in audio (place_of_run k) k.rule6.run
 
 abbrev pub survey_with : ℕ → ℕ → ℕ → List (List ℕ) → Survey
-survey_with control header place ds = record { refusal = none; control = control; header = header; run = run_in audio place ds }
+survey_with control header place ds = record { control = control; header = header; run = run_in audio place ds }
 
 abbrev pub kept_survey : {s : List ℕ} → Kept s → Survey
 kept_survey k = survey_with (byte k.opened.control 2) (header_place k.opened) (place_of_run k) k.rule6.run
@@ -51,7 +51,7 @@ module _ (s : List ℕ) (k : Kept s) where
 
   pub survey_kept : survey_of s ≡ kept_survey k
   unfolding survey_of
-  survey_kept = yes _ _ (eq-eqb _ _ (ap (λ (r : Refusal). r.number) ((verdict_kept s).1 k))) ∙ surveyed_kept
+  survey_kept = surveyed_kept
 
   abbrev pub behind : List (List ℕ)
   behind = k.rule6.later ++ k.rule6.after

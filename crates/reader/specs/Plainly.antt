@@ -19,7 +19,7 @@
 --                          at its user, and a channel cluster on each entity's output, that keep every rule"; rule 9, and so 17, is in Plainly
 use Rattle.std.specs.Prelude.{ℕ, ◌+◌, ◌≤◌, ◌<◌, ◌≡◌, List, map, length, take, drop}
 use Rattle.ground.specs.Numbers.{byte}
-use Rattle.ground.specs.Lists.{Some}
+use Rattle.ground.specs.Lists.{SomeOf}
 use Rattle.graph.specs.Members.{◌∈◌}
 use Rattle.layout.specs.declared.Cluster.{Cluster}
 use Rattle.layout.specs.Layout.{Pins, cluster_at}
@@ -41,7 +41,7 @@ abbrev pub SourceId : List ℕ → ℕ → Type 0
 SourceId d x = (k p : ℕ) × SourcesAt d k p × x ∈ take p (drop k d)
 
 abbrev pub SourceNamed : List (List ℕ) → ℕ → Type 0
-SourceNamed ds x = (x ≡ 0 → ⊥) × Some (λ e. (own_id e ≡ x) × (byte e 2 ≡ 3 → ⊥)) ds
+SourceNamed ds x = (x ≡ 0 → ⊥) × SomeOf (λ e. (own_id e ≡ x) × (byte e 2 ≡ 3 → ⊥)) ds
 
 pub data LaidPlainly (d : List ℕ) : Type 0 where
   input : byte d 2 ≡ 2 → length d ≡ 12 → LaidPlainly d

@@ -5,85 +5,51 @@
 ghost use Rattle.std.specs.Prelude.{◌≡◌};
 ghost use Rattle.single.specs.Tests.{narrow_of, sound_yes_no, sound_pin, sound_ranged, sound_control};
 
-use setting::{Range, Sort};
+use setting::Sort;
 use table::{Control, Sense};
 
 // The last channel that a control may have: row 30 has something against "a channel over 16".
 const LAST_CHANNEL: u8 = 16;
 
 // Whether no number of the control is too wide for one byte.
+#[tactic(auto, unfolding(crate::specs::Tests::narrow_of))]
 fn narrow(control: Control) -> bool
     ensures { result ≡ narrow_of control }
 {
-    if 255 < control.min {
-        return false;
-    }
-    if 255 < control.max {
-        return false;
-    }
-    if 255 < control.res {
-        return false;
-    }
-    control.cur <= 255
+    control.min <= 255 && control.max <= 255 && control.res <= 255 && control.cur <= 255
 }
 
+#[tactic(auto, unfolding(crate::specs::Tests::sound_yes_no))]
 fn sound_yes_no(control: Control) -> bool
     ensures { result ≡ sound_yes_no control }
 {
-    if LAST_CHANNEL < control.channel {
-        return false;
-    }
-    if !narrow(control) {
-        return false;
-    }
-    control.cur <= 1
+    control.channel <= LAST_CHANNEL && narrow(control) && control.cur <= 1
 }
 
+#[tactic(auto, unfolding(crate::specs::Tests::sound_pin))]
 fn sound_pin(control: Control) -> bool
     ensures { result ≡ sound_pin control }
 {
-    if 0 < control.channel {
-        return false;
-    }
-    if control.pins < 1 {
-        return false;
-    }
-    if layout::MOST_PINS < control.pins {
-        return false;
-    }
-    if !narrow(control) {
-        return false;
-    }
-    if control.cur < 1 {
-        return false;
-    }
-    control.cur <= control.pins as u16
+    control.channel == 0
+        && (1..=layout::MOST_PINS).contains(&control.pins)
+        && narrow(control)
+        && (1..=control.pins as u16).contains(&control.cur)
 }
 
+#[tactic(auto, unfolding(crate::specs::Tests::sound_ranged))]
 fn sound_ranged(sort: Sort, control: Control) -> bool
     ensures { result ≡ sound_ranged sort control }
 {
-    if LAST_CHANNEL < control.channel {
-        return false;
-    }
-    if !control.loaded {
-        return true;
-    }
-    let range = Range {
-        min: control.min,
-        max: control.max,
-        res: control.res,
-    };
-    if !setting::legal(sort, range) {
-        return false;
-    }
-    if !setting::fits(sort, control.cur) {
-        return false;
-    }
-    setting::available(sort, range, control.cur)
+    let range = control.range();
+    control.channel <= LAST_CHANNEL
+        && (!control.loaded
+            || (setting::legal(sort, range)
+                && setting::fits(sort, control.cur)
+                && setting::available(sort, range, control.cur)))
 }
 
 // Whether refusal 30 has nothing against this control by itself.
+#[tactic(auto, unfolding(crate::specs::Tests::sound_control, crate::specs::Tests::sound_by))]
 pub fn sound_control(control: Control) -> bool
     ensures { result ≡ sound_control control }
 {

@@ -14,7 +14,7 @@ use table::{Control, Table};
 pub fn key_of(control: Control) -> u32
     ensures { Keyed control result }
 {
-    control.unit as u32 * 65536 + control.channel as u32 * 256 + control.selector as u32
+    u32::from_be_bytes([0, control.unit, control.channel, control.selector])
 }
 
 // Whether the key is one of the first n.
@@ -22,14 +22,7 @@ fn among(keys: &[u32; table::CONTROLS], n: usize, wanted: u32) -> bool
     requires { n ≤ most_controls }
     ensures { result ≡ key_among keys.now n wanted }
 {
-    let mut earlier = 0;
-    while earlier < n {
-        if keys[earlier] == wanted {
-            return true;
-        }
-        earlier += 1;
-    }
-    false
+    keys[..n].contains(&wanted)
 }
 
 // As `sound`, for a table in any order: each control's key is looked for among those of all earlier ones.
@@ -39,20 +32,16 @@ pub fn sound_any_order(table: Table) -> bool
     if table::CONTROLS < table.count {
         return false;
     }
-    let count = table.count;
     let mut keys = [0u32; table::CONTROLS];
-    let mut index = 0;
-    while index < count {
-        let control = table.controls[index];
-        if !single::sound_control(control) {
+    for (index, control) in table.controls[..table.count].iter().enumerate() {
+        if !single::sound_control(*control) {
             return false;
         }
-        let key = key_of(control);
+        let key = key_of(*control);
         if among(&keys, index, key) {
             return false;
         }
         keys[index] = key;
-        index += 1;
     }
     true
 }
@@ -68,19 +57,16 @@ pub fn sound(table: Table) -> bool
         return false;
     }
     let mut tops = [0u32; 256];
-    let mut index = 0;
-    while index < count {
-        let control = table.controls[index];
-        if !single::sound_control(control) {
+    for control in &table.controls[..count] {
+        if !single::sound_control(*control) {
             return false;
         }
         let own = ground::index_of(control.unit);
-        let key = key_of(control);
+        let key = key_of(*control);
         if key < tops[own] {
             return sound_any_order(table);
         }
         tops[own] = key + 1;
-        index += 1;
     }
     true
 }

@@ -5,7 +5,7 @@
 --   WrongSources ed ds d  ==  a source ID of d is such
 --   Rule11 ed ds        ==  of no descriptor of the run is it so
 use Rattle.std.specs.Prelude.{ℕ, ◌≡◌, false, List}
-use Rattle.ground.specs.Lists.{Some}
+use Rattle.ground.specs.Lists.{SomeOf}
 use Rattle.graph.specs.Members.{◌∈◌}
 use Rattle.edition.specs.Edition.{Edition, own_id, sources}
 
@@ -15,7 +15,7 @@ pub data WrongSource (ed : Edition) (ds : List (List ℕ)) (x : ℕ) : Type 0 wh
   no_output : (d : List ℕ) → d ∈ ds → own_id d ≡ x → ed.feeds d ≡ false → WrongSource ed ds x
 
 abbrev pub WrongSources : Edition → List (List ℕ) → List ℕ → Type 0
-WrongSources ed ds d = Some (WrongSource ed ds) (sources ed d)
+WrongSources ed ds d = SomeOf (WrongSource ed ds) (sources ed d)
 
 abbrev pub Rule11 : Edition → List (List ℕ) → Type 0
 Rule11 ed ds = (d : List ℕ) → d ∈ ds → WrongSources ed ds d → ⊥

@@ -3,14 +3,13 @@
 --   reads_source, reads_sources  ==  the test of a source ID, and of the source IDs at an index, decides the rule's sentence
 --   rule11_nowhere, rule11_at  ==  breach11 is nowhere exactly where rule 11 is kept, and at q exactly where q is the place of the first
 --                        descriptor that has a source ID that is 0, unknown, or borne by an entity with no output
-use Rattle.std.specs.Prelude.{ℕ, ◌<◌, ◌≡◌, Bool, false, ◌⊎◌, ◌↔◌, eqb}
+use Rattle.std.specs.Prelude.{ℕ, ◌<◌, ◌≡◌, Bool, false, ◌⊎◌, ◌↔◌, Option, Some, None, eqb}
 use Rattle.std.proofs.Math.Path.{sym, ap}
 use Rattle.std.proofs.Common.{◌∙◌}
 use Rattle.std.proofs.Math.Logic.{inl, inr, ⊎_elim}
 use mathlib.Core.List.{List, []}
 use Rattle.std.proofs.Math.ListN.{get_or}
 use borrow.Author.Tests.{eqb-true, eqb-false, not-true, not-false}
-use Rattle.ground.specs.declared.Place.TheVariants.{Nowhere, At}
 use Rattle.ground.specs.Pick.{Reads, reads_eq, reads_or, reads_same, true≠false}
 use Rattle.ground.specs.Lists.{any, reads_any, member_at}
 use Rattle.ground.specs.First.{Breaks}
@@ -26,8 +25,6 @@ use Rattle.ids.specs.Rule10.{Rule10}
 use Rattle.ids.specs.Breach.{bears}
 use Rattle.ids.specs.OwnIds.{own_one}
 use Rattle.ids.specs.Rule10Laws.{inside, borne_at}
-use Rattle.sources.specs.declared.Found.{Found}
-use Rattle.sources.specs.declared.Found.TheVariants.{Nothing, Entity}
 use Rattle.sources.specs.Rule11.{WrongSource, zero_source, unknown, no_output, WrongSources, Rule11}
 use Rattle.sources.specs.Lookup.{lookup_below, source_number}
 use Rattle.sources.specs.Breach.{refuses, wrong_source, breach11}
@@ -39,7 +36,7 @@ module _ {ed : Edition} {s : List ℕ} {p : ℕ} {ds : List (List ℕ)} {run : R
     abbrev Useless : ℕ → Type 0
     Useless x = ((d : List ℕ) → d ∈ ds → own_id d ≡ x → ⊥) ⊎ ((d : List ℕ) × d ∈ ds × (own_id d ≡ x) × (ed.feeds d ≡ false))
 
-    useless : (x : ℕ) {r : Found} → Finding (bears run x) (λ i. Entity (feeds_at run i)) Nothing (held run) r → Reads (refuses r) (Useless x)
+    useless : (x : ℕ) {r : Option Bool} → Finding (bears run x) (λ i. Some (feeds_at run i)) None (held run) r → Reads (refuses r) (Useless x)
     unfolding source_number
     useless x (nothing h) = record {
       says = λ e. inl (λ d m q. let j = (borne_at k x).1 (d, m, q) in eqb-false _ _ (h j.0 j.1) j.2);
@@ -63,7 +60,7 @@ module _ {ed : Edition} {s : List ℕ} {p : ℕ} {ds : List (List ℕ)} {run : R
     pub reads_source : (x : ℕ) → Reads (wrong_source run x) (WrongSource ed ds x)
     unfolding wrong_source lookup_below
     reads_source x =
-        let found = finding (bears run x) (λ i. Entity (feeds_at run i)) Nothing (held run) in
+        let found = finding (bears run x) (λ i. Some (feeds_at run i)) None (held run) in
         reads_same (reads_or (eqb x 0) _ (reads_eq x 0) (useless x found)) to of
       where
         to : (x ≡ 0) ⊎ Useless x → WrongSource ed ds x
@@ -83,14 +80,14 @@ module _ {ed : Edition} {s : List ℕ} {p : ℕ} {ds : List (List ℕ)} {run : R
     abbrev wrong : ℕ → Bool
     wrong i = any (wrong_source run) (sources_at s run i)
 
-    pub rule11_nowhere : (breach11 s run ≡ Nowhere) ↔ Rule11 ed ds
+    pub rule11_nowhere : (breach11 s run ≡ None) ↔ Rule11 ed ds
     unfolding breach11
     rule11_nowhere =
         let b = breach_nowhere (held run) (place_at run) (λ i. WrongSources ed ds (get_or ds i [])) wrong reads_sources in
         let c = sound_each_of k (WrongSources ed ds) in
         (λ e. c.0 (b.0 e), λ r. b.1 (c.1 r))
 
-    pub rule11_at : (q : ℕ) → (breach11 s run ≡ At q) ↔ Breaks (λ b d. WrongSources ed ds d) p ds q
+    pub rule11_at : (q : ℕ) → (breach11 s run ≡ Some q) ↔ Breaks (λ b d. WrongSources ed ds d) p ds q
     unfolding breach11
     rule11_at q =
         let b = breach_at (held run) (place_at run) (λ i. WrongSources ed ds (get_or ds i [])) wrong reads_sources q in

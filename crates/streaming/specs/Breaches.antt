@@ -2,15 +2,14 @@
 --   WrongStream b i       ==  i, behind b in the cutting ds, opens a streaming group that breaks the rule
 --   rule14_kept           ==  the reader answers nowhere exactly where each streaming group keeps the rule
 --   rule14_broken         ==  it answers a place exactly where that is the first offender's
-use Rattle.std.specs.Prelude.{ℕ, suc, ◌+◌, ◌<◌, ◌≡◌, refl, Bool, true, false, not, ◌↔◌, get_or, drop, eqb}
+use Rattle.std.specs.Prelude.{ℕ, suc, ◌+◌, ◌<◌, ◌≡◌, refl, Bool, true, false, not, ◌↔◌, get_or, drop, eqb, Some, None}
 use Rattle.std.proofs.Common.{sym, ◌∙◌, ⊎_elim, arith}
 use Rattle.std.proofs.Math.Path.{ap}
 use mathlib.Core.List.{List, [], ◌∷◌, ◌++◌, append_assoc, head-eq_of_cons-eq, tail-eq_of_cons-eq}
 use Rattle.std.proofs.Math.ListN.{length, length-append}
-use Rattle.ground.specs.declared.Place.TheVariants.{Nowhere, At}
 use Rattle.ground.specs.Pick.{pick, Reads, decided, reads_eq, reads_and, reads_not, reads_contrary, reads_same}
 use Rattle.ground.specs.Numbers.{byte}
-use Rattle.ground.specs.Lists.{Some}
+use Rattle.ground.specs.Lists.{SomeOf}
 use Rattle.ground.specs.First.{Sound, Breaks, first_nowhere, first_at}
 use Rattle.layout.specs.declared.Cluster.{Cluster}
 use Rattle.scan.specs.Cutting.{Cutting, rest}
@@ -39,7 +38,7 @@ module _ (run : List (List ℕ)) (cluster : ℕ → Cluster) (i : List ℕ) wher
   kept_described after n (no_endpoints e h) = absurd (n e)
   kept_described after n (endpoints m k) = k
 
-  kept_silent : {ms : List (List ℕ)} → byte i 4 ≡ 0 → StreamKept run cluster i ms → Some Class ms → ⊥
+  kept_silent : {ms : List (List ℕ)} → byte i 4 ≡ 0 → StreamKept run cluster i ms → SomeOf Class ms → ⊥
   kept_silent e (no_endpoints z h) s = h s.one s.among s.has
   kept_silent e (endpoints n k) s = n e
 
@@ -145,14 +144,14 @@ module _ (run : List (List ℕ)) (cluster : ℕ → Cluster) (ts : List Terminal
 
 -- THE LAWS, over the cutting
 module _ (run : List (List ℕ)) (cluster : ℕ → Cluster) (ts : List Terminal) (all : AreAll run cluster ts) (one : OneEach ts) (s : List ℕ) where
-  standing_kept : (breach14 ts s ≡ Nowhere) ↔ Rule14 run cluster (rest s 0)
+  standing_kept : (breach14 ts s ≡ None) ↔ Rule14 run cluster (rest s 0)
   unfolding breach14 first_broken searched
   standing_kept =
       let r = first_nowhere (wrong_stream (bearer_in ts) (rest s 0)) (WrongStream run cluster ts all one (rest s 0)) (reads_wrong run cluster ts all one (rest s 0)) 0 (rest s 0) in
       let q = rule_sound run cluster ts all one (rest s 0) in
       (λ e. q.1 (r.0 e), λ h. r.1 (q.0 h))
 
-  standing_broken : (p : ℕ) → (breach14 ts s ≡ At p) ↔ Breaks14 run cluster (rest s 0) p
+  standing_broken : (p : ℕ) → (breach14 ts s ≡ Some p) ↔ Breaks14 run cluster (rest s 0) p
   unfolding breach14 first_broken searched
   standing_broken p =
       let r = first_at (wrong_stream (bearer_in ts) (rest s 0)) (WrongStream run cluster ts all one (rest s 0)) (reads_wrong run cluster ts all one (rest s 0)) 0 (rest s 0) p in
@@ -160,8 +159,8 @@ module _ (run : List (List ℕ)) (cluster : ℕ → Cluster) (ts : List Terminal
       (λ e. q.1 (r.0 e), λ h. r.1 (q.0 h))
 
   module _ (ds : List (List ℕ)) (cut : Cutting s ds) where
-    pub rule14_kept : (breach14 ts s ≡ Nowhere) ↔ Rule14 run cluster ds
+    pub rule14_kept : (breach14 ts s ≡ None) ↔ Rule14 run cluster ds
     rule14_kept = rw (← (cutting_rest s ds cut)) standing_kept
 
-    pub rule14_broken : (p : ℕ) → (breach14 ts s ≡ At p) ↔ Breaks14 run cluster ds p
+    pub rule14_broken : (p : ℕ) → (breach14 ts s ≡ Some p) ↔ Breaks14 run cluster ds p
     rule14_broken p = rw (← (cutting_rest s ds cut)) (standing_broken p)

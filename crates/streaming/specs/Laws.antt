@@ -2,12 +2,10 @@
 --   strays_held  ==  the search for a type 24 descriptor or the group's end tells whether the group holds one
 --   behind_next  ==  what stands behind an element of a list
 --   broken_here  ==  the test of a group at its place, during the search, is the rule's own test
-use Rattle.std.specs.Prelude.{ℕ, suc, ◌+◌, ◌≤◌, ◌≡◌, Bool, true, false, not, ◌&&◌, ◌||◌, List, [], ◌∷◌, ◌++◌, length, get_or, drop, eqb}
+use Rattle.std.specs.Prelude.{ℕ, suc, ◌+◌, ◌≤◌, ◌≡◌, Bool, true, false, not, ◌&&◌, ◌||◌, List, [], ◌∷◌, ◌++◌, length, get_or, drop, eqb, Option, Some, None}
 use Rattle.std.proofs.Math.Path.{refl}
 use Rattle.std.proofs.Common.{sym, ap, ◌∙◌, ⊎_elim, add-one}
 use Rattle.std.proofs.Math.Seq.{drop-append-add}
-use Rattle.ground.specs.declared.Place.{Place}
-use Rattle.ground.specs.declared.Place.TheVariants.{Nowhere, At}
 use Rattle.ground.specs.Pick.{true≠false, decided, reads_eq}
 use Rattle.ground.specs.Numbers.{byte}
 use Rattle.ground.specs.Lists.{part, part_none, any}
@@ -37,7 +35,7 @@ second_stands s at = ⊎_elim
     (decided (eqb (end_at s at) at) (reads_eq _ _))
 
 -- the reader's test at a place is the test by what stands behind it
-module _ (find : ℕ → Bearer) (s : List ℕ) where
+module _ (find : ℕ → Option Bearer) (s : List ℕ) where
   described_here : (from : ℕ) → described_at find s from ≡ described_by find (get_or (rest s from) 0 []) (get_or (rest s from) 1 [])
   unfolding described_at
   described_here from = rw (first_stands s from, second_stands s from) refl
@@ -75,9 +73,9 @@ strays_held : (s : List ℕ) (e : ℕ) → e ≤ length s → strays_from s e �
 unfolding strays_from is_class
 strays_held s e l = go (found_from s e want.ClassOrInterface) refl
   where
-    go : (r : Place) → found_from s e want.ClassOrInterface ≡ r → elim r [ Nowhere ↦ false | At q ↦ eqb (byte s (q + 1)) 0x24 ] ≡ holds_class (rest s e)
-    go Nowhere h = sym (nothing_held (rest s e) (found_none want.ClassOrInterface s e h))
-    go (At q) h =
+    go : (r : Option ℕ) → found_from s e want.ClassOrInterface ≡ r → elim r [ None ↦ false | Some q ↦ eqb (byte s (q + 1)) 0x24 ] ≡ holds_class (rest s e)
+    go None h = sym (nothing_held (rest s e) (found_none want.ClassOrInterface s e h))
+    go (Some q) h =
         let k = found want.ClassOrInterface s e q l h in
         ap (λ (b : ℕ). eqb b 0x24) (type_of s q k.wanted k.behind k.here)
         ∙ sym (ap holds_class k.whole ∙ held_at k.passed k.wanted k.behind k.none_passed k.meets)
@@ -85,7 +83,7 @@ strays_held s e l = go (found_from s e want.ClassOrInterface) refl
 pub behind_next : {A : Type 0} (x : List A) (d : A) (y : List A) → drop (suc (length x)) (x ++ d ∷ y) ≡ y
 behind_next x d y = rw (← (add-one (length x))) (drop-append-add x (d ∷ y) 1)
 
-module _ (find : ℕ → Bearer) (s : List ℕ) (at e : ℕ) (g : Passed (wrong_stream find (rest s 0)) s 0 at) (f : e ≡ end_at s at) (h : e ≡ at → ⊥) where
+module _ (find : ℕ → Option Bearer) (s : List ℕ) (at e : ℕ) (g : Passed (wrong_stream find (rest s 0)) s 0 at) (f : e ≡ end_at s at) (h : e ≡ at → ⊥) where
   rest_behind : drop (suc (length g.behind)) (rest s 0) ≡ rest s e
   rest_behind =
       let n : rest s at ≡ part s at e ∷ rest s e = rw f (rest_more s at (λ q. h (f ∙ q))) in

@@ -9,7 +9,7 @@ use Rattle.std.proofs.Common.{sym, ap, ◌∙◌, ⊎_elim, arith}
 use mathlib.Core.List.Memᴰ
 use mathlib.Core.List.{List, [], ◌∷◌, ◌++◌, Memᴰ}
 use Rattle.ground.specs.Pick.{pick, yes, no, Reads, shows, refutes, true≠false}
-use Rattle.ground.specs.Lists.{Some}
+use Rattle.ground.specs.Lists.{SomeOf}
 use Rattle.search.specs.Want.{Interface, Class, is_interface, is_class, reads_interface, reads_class}
 use Rattle.groups.specs.Rules5and6.{GroupEnds, last, next}
 use Rattle.streaming.specs.Tests.{holds_class}
@@ -62,13 +62,13 @@ pub class_inside : (d : List ℕ) → Class d → is_interface d ≡ false
 class_inside d h = refutes (reads_interface d) (λ i. omega arith)
 
 -- a type 24 descriptor before the next interface descriptor is one of the group's
-pub reads_held : (ds : List (List ℕ)) → Reads (holds_class ds) (Some Class (members_of ds))
+pub reads_held : (ds : List (List ℕ)) → Reads (holds_class ds) (SomeOf Class (members_of ds))
 unfolding holds_class members_of
 reads_held [] = record { says = λ e. absurd (true≠false (sym e)); denies = λ e h. Memᴰ.not-nil h.among }
 reads_held (d ∷ ds) = go (is_class d) (is_interface d) (reads_class d) (reads_interface d) (reads_held ds)
   where
-    go : (a b : Bool) → Reads a (Class d) → Reads b (Interface d) → Reads (holds_class ds) (Some Class (members_of ds))
-        → Reads (a || (not b && holds_class ds)) (Some Class (pick b [] (d ∷ members_of ds)))
+    go : (a b : Bool) → Reads a (Class d) → Reads b (Interface d) → Reads (holds_class ds) (SomeOf Class (members_of ds))
+        → Reads (a || (not b && holds_class ds)) (SomeOf Class (pick b [] (d ∷ members_of ds)))
     go true true r s ih = let k = r.says refl in let i = s.says refl in absurd (omega arith)
     go true false r s ih = record { says = λ e. record { one = d; among = Memᴰ.head refl; has = r.says refl }; denies = λ e. absurd (true≠false e) }
     go false true r s ih = record { says = λ e. absurd (true≠false (sym e)); denies = λ e h. Memᴰ.not-nil h.among }

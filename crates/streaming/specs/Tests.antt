@@ -9,8 +9,7 @@
 --   wrong_stream find ds b i ==  the same of i, which stands behind b in the cutting ds
 --   first_broken find s   ==  nowhere, or the place of the first streaming group's interface descriptor that breaks the rule
 --   breach14 ts s        ==  the same by the Terminals ts: an ID is borne by the first of them that has it
-use Rattle.std.specs.Prelude.{ℕ, suc, Bool, false, not, ◌&&◌, ◌||◌, List, [], ◌∷◌, length, get_or, drop, eqb}
-use Rattle.ground.specs.declared.Place.{Place}
+use Rattle.std.specs.Prelude.{ℕ, suc, Bool, false, not, ◌&&◌, ◌||◌, List, [], ◌∷◌, length, get_or, drop, eqb, Option}
 use Rattle.ground.specs.Pick.{pick}
 use Rattle.ground.specs.Numbers.{byte, word}
 use Rattle.ground.specs.Lists.{part}
@@ -22,16 +21,16 @@ use Rattle.formats.specs.Tests.{is_general, format_right}
 use Rattle.terminals.specs.declared.Bearer.{Bearer}
 use Rattle.terminals.specs.Terminals.{Terminal, bearer_in, terminal_number, channels_borne}
 
-unfoldable pub bearer_right : Bearer → List ℕ → List ℕ → Bool
+unfoldable pub bearer_right : Option Bearer → List ℕ → List ℕ → Bool
 bearer_right b g f = eqb (terminal_number b) 0 && format_right (word g 5) (channels_borne b) f
 
-unfoldable pub described_by : (ℕ → Bearer) → List ℕ → List ℕ → Bool
+unfoldable pub described_by : (ℕ → Option Bearer) → List ℕ → List ℕ → Bool
 described_by find g f = is_general g && bearer_right (find (byte g 3)) g f
 
-unfoldable pub described_at : (ℕ → Bearer) → List ℕ → ℕ → Bool
+unfoldable pub described_at : (ℕ → Option Bearer) → List ℕ → ℕ → Bool
 described_at find s from = described_by find (part s from (end_at s from)) (part s (end_at s from) (end_at s (end_at s from)))
 
-unfoldable pub broken_at : (ℕ → Bearer) → List ℕ → List ℕ → ℕ → Bool
+unfoldable pub broken_at : (ℕ → Option Bearer) → List ℕ → List ℕ → ℕ → Bool
 broken_at find s i from = is_audio 2 i && pick (eqb (byte i 4) 0) (strays_from s from) (not (described_at find s from))
 
 unfoldable pub holds_class : List (List ℕ) → Bool
@@ -39,15 +38,15 @@ holds_class [] = false
 holds_class (d ∷ ds) = is_class d || (not (is_interface d) && holds_class ds)
 
 -- "directly after the interface": the first and the second of what follows it
-unfoldable pub broken : (ℕ → Bearer) → List ℕ → List (List ℕ) → Bool
+unfoldable pub broken : (ℕ → Option Bearer) → List ℕ → List (List ℕ) → Bool
 broken find i tail =
     is_audio 2 i && pick (eqb (byte i 4) 0) (holds_class tail) (not (described_by find (get_or tail 0 []) (get_or tail 1 [])))
 
-unfoldable pub wrong_stream : (ℕ → Bearer) → List (List ℕ) → List (List ℕ) → List ℕ → Bool
+unfoldable pub wrong_stream : (ℕ → Option Bearer) → List (List ℕ) → List (List ℕ) → List ℕ → Bool
 wrong_stream find ds b i = broken find i (drop (suc (length b)) ds)
 
-unfoldable pub first_broken : (ℕ → Bearer) → List ℕ → Place
+unfoldable pub first_broken : (ℕ → Option Bearer) → List ℕ → Option ℕ
 first_broken find s = searched (wrong_stream find (rest s 0)) s 0
 
-unfoldable pub breach14 : List Terminal → List ℕ → Place
+unfoldable pub breach14 : List Terminal → List ℕ → Option ℕ
 breach14 ts s = first_broken (bearer_in ts) s

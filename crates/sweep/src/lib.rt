@@ -4,13 +4,14 @@
 ghost use Rattle.std.specs.Prelude.{◌≡◌};
 ghost use Rattle.pins.specs.Same.{numbers_at};
 ghost use Rattle.edition.specs.Audio.{named};
-ghost use Rattle.sweep.specs.Sweep.{cluster_by, cluster_on, first_by, gives_by, Sweeps, clusters_of};
+ghost use Rattle.sweep.specs.Sweep.{cluster_on, first_by, gives_by, Sweeps, clusters_of};
 
-use entities::{MOST_ENTITIES, Node, Run};
+use entities::{Node, Run};
 use ground::index_of;
 use layout::{Cluster, Entity};
 
 // What each ID gives out: by ID its channels, its locations and its first name index.
+// Stays: three arrays and not one of clusters, since swept says them one by one and pins::same reads one of them.
 #[derive(Clone, Copy)]
 pub struct Given {
     pub channels: [u8; 256],
@@ -18,27 +19,34 @@ pub struct Given {
     pub names: [u8; 256],
 }
 
-// The cluster that enters by pin 1; none where there is no pin.
-fn first_entering(
-    ids: &[u8],
-    channels: &[u8; 256],
-    locations: &[u16; 256],
-    names: &[u8; 256],
-) -> Cluster
-    ensures { result ≡ first_by (cluster_by channels.now locations.now names.now) ids.now }
-{
-    if ids.len() == 0 {
-        return Cluster {
-            channels: 0,
-            locations: 0,
-            names: 0,
-        };
+impl Given {
+    // The cluster that an ID gives out.
+    fn on(&self, id: u8) -> Cluster
+        ensures { result ≡ cluster_on self.now id }
+    {
+        let id = index_of(id);
+        Cluster {
+            channels: self.channels[id],
+            locations: self.locations[id],
+            names: self.names[id],
+        }
     }
-    let x = index_of(ids[0]);
-    Cluster {
-        channels: channels[x],
-        locations: locations[x],
-        names: names[x],
+}
+
+// No channels, and so no locations and no names.
+const NO_CLUSTER: Cluster = Cluster {
+    channels: 0,
+    locations: 0,
+    names: 0,
+};
+
+// The cluster that enters by pin 1; none where there is no pin.
+pub fn first_entering(ids: &[u8], given: &Given) -> Cluster
+    ensures { result ≡ first_by (cluster_on given.now) ids.now }
+{
+    match ids.first() {
+        Some(id) => given.on(*id),
+        None => NO_CLUSTER,
     }
 }
 
@@ -46,36 +54,30 @@ fn first_entering(
 fn selected(ids: &[u8], first: Cluster, names: &[u8; 256]) -> Cluster
     ensures { result ≡ named first (numbers_at names.now ids.now) }
 {
-    let mut name = 0;
-    if pins::same(ids, names) {
-        name = first.names;
-    }
+    let name = if pins::same(ids, names) {
+        first.names
+    } else {
+        0
+    };
     Cluster {
-        channels: first.channels,
-        locations: first.locations,
         names: name,
+        ..first
     }
 }
 
 // What an entity gives out, where these clusters enter by its pins.
-fn give_out(
-    config: &[u8],
-    node: Node,
-    channels: &[u8; 256],
-    locations: &[u16; 256],
-    names: &[u8; 256],
-) -> Cluster
-    ensures { result ≡ gives_by config.now node (cluster_by channels.now locations.now names.now) }
+fn give_out(config: &[u8], node: Node, given: &Given) -> Cluster
+    ensures { result ≡ gives_by config.now node (cluster_on given.now) }
 {
     let ids = entities::sources(config, node);
-    let first = first_entering(ids, channels, locations, names);
+    let first = first_entering(ids, given);
     let entity = layout::read(scan::descriptor_at(config, node.place));
     match entity {
         Entity::Unknown => first,
         Entity::Input { cluster, .. } => cluster,
         Entity::Output { .. } => first,
         Entity::Mixer { cluster, .. } => cluster,
-        Entity::Selector { .. } => selected(ids, first, names),
+        Entity::Selector { .. } => selected(ids, first, &given.names),
         Entity::Feature { .. } => first,
     }
 }
@@ -85,44 +87,28 @@ pub fn sweep(config: &[u8], run: Run) -> Given
     ensures { Sweeps config.now run result }
 {
     let n = entities::count(run);
-    let mut channels = [0u8; 256];
-    let mut locations = [0u16; 256];
-    let mut names = [0u8; 256];
-    let mut i: usize = 0;
-    while i < n {
-        let node = run.nodes[i];
-        let gives = give_out(config, node, &channels, &locations, &names);
+    let mut given = Given {
+        channels: [0; 256],
+        locations: [0; 256],
+        names: [0; 256],
+    };
+    for node in &run.nodes[..n] {
+        let gives = give_out(config, *node, &given);
         let id = index_of(node.id);
-        channels[id] = gives.channels;
-        locations[id] = gives.locations;
-        names[id] = gives.names;
-        i += 1;
+        given.channels[id] = gives.channels;
+        given.locations[id] = gives.locations;
+        given.names[id] = gives.names;
     }
-    Given {
-        channels,
-        locations,
-        names,
-    }
+    given
 }
 
 // The cluster of each entity of a run, by its index.
 pub fn by_index(run: Run, given: Given) -> [Cluster; 32]
     ensures { result ≡ clusters_of run (cluster_on given) }
 {
-    let mut clusters = [Cluster {
-        channels: 0,
-        locations: 0,
-        names: 0,
-    }; 32];
-    let mut i: usize = 0;
-    while i < MOST_ENTITIES {
-        let id = index_of(run.nodes[i].id);
-        clusters[i] = Cluster {
-            channels: given.channels[id],
-            locations: given.locations[id],
-            names: given.names[id],
-        };
-        i += 1;
+    let mut clusters = [NO_CLUSTER; 32];
+    for (i, node) in run.nodes.iter().enumerate() {
+        clusters[i] = given.on(node.id);
     }
     clusters
 }

@@ -5,12 +5,11 @@
 --   entry_at t x, entry_in t u ch s  ==  the same with the control that stands there
 --   entry_number e       ==  the paper's number for each case: 20 "no such ranged control" where there is none, 0 where it stands
 --   found_first, none_found  ==  a search that answers an index has its first there; one that answers none has none
-use Rattle.std.specs.Prelude.{ℕ, ◌<◌, min, ◌≡◌, Bool, false}
+use Rattle.std.specs.Prelude.{ℕ, ◌<◌, min, ◌≡◌, Bool, false, Option, None, Some}
 use Rattle.std.proofs.Common.{subst, arith}
 use Rattle.ground.specs.Places.{first_in, FirstAt, Finding, nothing, first, finding}
 use Rattle.table.specs.declared.Table.{Table}
-use Rattle.table.specs.declared.Entry.{Entry}
-use Rattle.table.specs.declared.Entry.TheVariants.{Nothing, At}
+use Rattle.table.specs.declared.Control.{Control}
 use Rattle.table.specs.Controls.{most_controls, at, answers_to}
 
 pub data Seat : Type 0 where
@@ -23,16 +22,16 @@ places t = min t.count most_controls
 unfoldable pub found_in : Table → ℕ → ℕ → ℕ → Seat
 found_in t u ch s = first_in (λ p. answers_to u ch s (at t p)) seat absent 0 (places t)
 
-abbrev pub entry_at : Table → Seat → Entry
-entry_at t absent = Nothing
-entry_at t (seat p) = At p (at t p)
+abbrev pub entry_at : Table → Seat → Option (ℕ × Control)
+entry_at t absent = None
+entry_at t (seat p) = Some (p, at t p)
 
-abbrev pub entry_in : Table → ℕ → ℕ → ℕ → Entry
+abbrev pub entry_in : Table → ℕ → ℕ → ℕ → Option (ℕ × Control)
 entry_in t u ch s = entry_at t (found_in t u ch s)
 
-abbrev pub entry_number : Entry → ℕ
-entry_number Nothing = 20
-entry_number (At p c) = 0
+abbrev pub entry_number : Option (ℕ × Control) → ℕ
+entry_number None = 20
+entry_number (Some found) = 0
 
 -- what the two answers say of the test
 module _ (t : ℕ → Bool) (n : ℕ) where

@@ -6,7 +6,7 @@
 use Rattle.std.specs.Prelude.{ℕ, ◌≡◌, ◌⊎◌, ◌↔◌}
 use mathlib.Core.List.{List, Memᴰ}
 use Rattle.ground.specs.Numbers.{byte, word}
-use Rattle.ground.specs.Lists.{Some}
+use Rattle.ground.specs.Lists.{SomeOf}
 use Rattle.layout.specs.declared.Cluster.{Cluster}
 use Rattle.edition.specs.Edition.{own_id}
 use Rattle.terminals.specs.Terminals.{Terminal}
@@ -18,7 +18,7 @@ pub record SaysTerminal (cluster : ℕ → Cluster) (t : Terminal) (d : List ℕ
   pub channels : t.channels ≡ (cluster (own_id d)).channels
 
 abbrev pub IsTerminal : List (List ℕ) → (ℕ → Cluster) → Terminal → Type 0
-IsTerminal run cluster t = Some (SaysTerminal cluster t) run
+IsTerminal run cluster t = SomeOf (SaysTerminal cluster t) run
 
 abbrev pub AreAll : List (List ℕ) → (ℕ → Cluster) → List Terminal → Type 0
 AreAll run cluster ts = (t : Terminal) → Memᴰ t ts ↔ IsTerminal run cluster t

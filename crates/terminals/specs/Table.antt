@@ -1,16 +1,16 @@
--- The Terminals of a run by ID, in two tables of numbers that are filled once: an ID's type, and its count, which is 0 where no Terminal
--- bears the ID and else one more than the channels. The first Terminal of the run that bears an ID is the one that is written.
---   bearer_at kinds counts id  ==  what the tables tell of an ID
---   or_else a b           ==  a, or b where a is nothing
---   kinds_with ts kinds counts, counts_with ts counts  ==  the tables with the Terminals ts written, each unless its ID is borne already
---   Entered ts kinds counts kinds' counts'  ==  kinds' and counts' are these: they tell what kinds and counts do, and of an ID that those
---                            tell nothing of, what the Terminals ts do
---   entered_none, entered_kept, entered_new  ==  no Terminal, or one whose ID is borne: the tables are left alone; and one that is written
---   Filling s r cs kinds counts i  ==  the tables hold the Terminals of the entities before the i-th
---   filling_start, filling_on, filled  ==  empty tables; the next entity's Terminal is entered; at the run's end the tables tell what its
+-- The Terminals of a run by ID, in a table that is filled once: of each ID what bears it, or nothing. The first Terminal of the run that bears
+-- an ID is the one that is written.
+--   bearer_at table id    ==  what the table tells of an ID
+--   table_with ts table   ==  the table with the Terminals ts written, each unless its ID is borne already
+--   Entered ts table table'  ==  table' is that: it tells what table does, and of an ID that this one tells nothing of, what the
+--                            Terminals ts do
+--   entered_none, entered_at  ==  no Terminal: the table is left alone; and one that is written unless its ID is borne
+--   Filling s r cs table i  ==  the table holds the Terminals of the entities before the i-th
+--   filling_start, filling_on, filled  ==  an empty table; the next entity's Terminal is entered; at the run's end the table tells what its
 --                            Terminals do
 use Prim.Native.Nat.{ℕ, suc, ◌+◌, ◌-◌, ◌≤◌, ◌<◌}
-use Rattle.std.specs.Prelude.{◌≡◌, Bool, true, false, ◌⊎◌, List, [], ◌∷◌, ◌++◌, set, replicate, eqb, ltb}
+use Rattle.std.specs.Prelude.{◌≡◌, Bool, true, false, ◌⊎◌, List, [], ◌∷◌, ◌++◌, set, replicate, eqb, ltb, Option, None, Some}
+use Rattle.std.specs.Option.{option_or}
 use Rattle.std.proofs.Math.Path.{refl, sym, ap, fun_ext}
 use Rattle.std.proofs.Common.{◌∙◌, inl, inr, get_or-set_other, add-one}
 use Rattle.std.proofs.Math.ListN.{length, get_or, length-set, length-replicate, get_or-eq_default}
@@ -23,178 +23,125 @@ use Rattle.layout.specs.declared.Cluster.{Cluster}
 use Rattle.entities.specs.declared.Run.{Run}
 use Rattle.entities.specs.Run.{held}
 use Rattle.terminals.specs.declared.Bearer.{Bearer}
-use Rattle.terminals.specs.declared.Bearer.TheVariants as bearer
-use Rattle.terminals.specs.Terminals.{Terminal, terminal_at, terminals_from, terminals_of, bearer_in}
+use Rattle.terminals.specs.Terminals.{Terminal, borne, terminal_at, terminals_from, terminals_of, bearer_in}
 
-unfoldable pub bearer_at : List ℕ → List ℕ → ℕ → Bearer
-bearer_at kinds counts id = pick (eqb (get_or counts id 0) 0) bearer.Nothing (bearer.Terminal (get_or kinds id 0) (get_or counts id 0 - 1))
+unfoldable pub bearer_at : List (Option Bearer) → ℕ → Option Bearer
+bearer_at table id = get_or table id None
 
-unfoldable pub or_else : Bearer → Bearer → Bearer
-or_else bearer.Nothing b = b
-or_else (bearer.Terminal k c) b = bearer.Terminal k c
+or_none : (a : Option Bearer) → option_or a None ≡ a
+or_none None = refl
+or_none (Some b) = refl
 
-else_nothing : (a : Bearer) → or_else a bearer.Nothing ≡ a
-unfolding or_else
-else_nothing bearer.Nothing = refl
-else_nothing (bearer.Terminal k c) = refl
-
-else_else : (a b c : Bearer) → or_else (or_else a b) c ≡ or_else a (or_else b c)
-unfolding or_else
-else_else bearer.Nothing b c = refl
-else_else (bearer.Terminal k n) b c = refl
+or_or : (a b c : Option Bearer) → option_or (option_or a b) c ≡ option_or a (option_or b c)
+or_or None b c = refl
+or_or (Some a) b c = refl
 
 -- of Terminals in two parts the first part's bears the ID where it has one that does, else the second's
-bearer_append : (ts us : List Terminal) (id : ℕ) → bearer_in (ts ++ us) id ≡ or_else (bearer_in ts id) (bearer_in us id)
-unfolding bearer_in or_else
+bearer_append : (ts us : List Terminal) (id : ℕ) → bearer_in (ts ++ us) id ≡ option_or (bearer_in ts id) (bearer_in us id)
+unfolding bearer_in
 bearer_append [] us id = refl
 bearer_append (t ∷ ts) us id = go (eqb t.id id) (bearer_append ts us id)
   where
-    this : Bearer
-    this = bearer.Terminal t.kind t.channels
-
-    go : (b : Bool) → bearer_in (ts ++ us) id ≡ or_else (bearer_in ts id) (bearer_in us id)
-        → pick b this (bearer_in (ts ++ us) id) ≡ or_else (pick b this (bearer_in ts id)) (bearer_in us id)
+    go : (b : Bool) → bearer_in (ts ++ us) id ≡ option_or (bearer_in ts id) (bearer_in us id)
+        → pick b (Some (borne t)) (bearer_in (ts ++ us) id) ≡ option_or (pick b (Some (borne t)) (bearer_in ts id)) (bearer_in us id)
     go true ih = refl
     go false ih = ih
 
-unfoldable pub counts_with : List Terminal → List ℕ → List ℕ
-counts_with [] counts = counts
-counts_with (t ∷ ts) counts = counts_with ts (pick (eqb (get_or counts t.id 0) 0) (set counts t.id (t.channels + 1)) counts)
+unfoldable pub table_with : List Terminal → List (Option Bearer) → List (Option Bearer)
+table_with [] table = table
+table_with (t ∷ ts) table = table_with ts (set table t.id (option_or (bearer_at table t.id) (Some (borne t))))
 
-unfoldable pub kinds_with : List Terminal → List ℕ → List ℕ → List ℕ
-kinds_with [] kinds counts = kinds
-kinds_with (t ∷ ts) kinds counts =
-    kinds_with ts (pick (eqb (get_or counts t.id 0) 0) (set kinds t.id t.kind) kinds) (counts_with (t ∷ []) counts)
+-- the table has 256 places
+pub record Entered (ts : List Terminal) (table table' : List (Option Bearer)) : Type 0 where
+  pub table_is : table' ≡ table_with ts table
+  pub long : length table' ≡ length table
+  pub tells : length table ≡ 256 → (id : ℕ) → bearer_at table' id ≡ option_or (bearer_at table id) (bearer_in ts id)
 
--- the tables have 256 places each
-pub record Entered (ts : List Terminal) (kinds counts kinds' counts' : List ℕ) : Type 0 where
-  pub kinds_are : kinds' ≡ kinds_with ts kinds counts
-  pub counts_are : counts' ≡ counts_with ts counts
-  pub long_kinds : length kinds' ≡ length kinds
-  pub long_counts : length counts' ≡ length counts
-  pub tells : length kinds ≡ 256 → length counts ≡ 256 → (id : ℕ)
-      → bearer_at kinds' counts' id ≡ or_else (bearer_at kinds counts id) (bearer_in ts id)
+module _ (table : List (Option Bearer)) where
+  pub entered_none : Entered [] table table
+  unfolding bearer_in table_with
+  entered_none = record { table_is = refl; long = refl; tells = λ a id. sym (or_none (bearer_at table id)) }
 
-module _ (kinds counts : List ℕ) where
-  pub entered_none : Entered [] kinds counts kinds counts
-  unfolding bearer_in kinds_with counts_with
-  entered_none = record { kinds_are = refl; counts_are = refl; long_kinds = refl; long_counts = refl; tells = λ a b id. sym (else_nothing (bearer_at kinds counts id)) }
+  module _ (t : Terminal) (l : t.id < 256) where
+    abbrev value : Option Bearer
+    value = option_or (bearer_at table t.id) (Some (borne t))
 
-  module _ (i k c : ℕ) where
-    abbrev this : List Terminal
-    this = record { id = i; kind = k; channels = c } ∷ []
-
-    other_id : (id : ℕ) → (i ≡ id → ⊥) → (a : Bearer) → or_else a (bearer_in this id) ≡ a
-    unfolding bearer_in
-    other_id id n a = ap (or_else a) (no _ _ (ne_eqb i id n)) ∙ else_nothing a
-
-    same_id : (a : Bearer) → or_else a (bearer_in this i) ≡ or_else a (bearer.Terminal k c)
-    unfolding bearer_in
-    same_id a = ap (or_else a) (yes _ _ (eq-eqb i i refl))
-
-    pub entered_kept : (get_or counts i 0 ≡ 0 → ⊥) → Entered this kinds counts kinds counts
-    unfolding bearer_at or_else kinds_with counts_with
-    entered_kept n = record { kinds_are = sym (no _ _ (ne_eqb _ _ n)); counts_are = sym (no _ _ (ne_eqb _ _ n)); long_kinds = refl; long_counts = refl; tells = λ a b id. sym (go id (decided (eqb i id) (reads_eq i id))) }
-      where
-        stays : or_else (bearer_at kinds counts i) (bearer.Terminal k c) ≡ bearer_at kinds counts i
-        stays = rw (ne_eqb (get_or counts i 0) 0 n) refl
-
-        go : (id : ℕ) → (i ≡ id) ⊎ (i ≡ id → ⊥)
-            → or_else (bearer_at kinds counts id) (bearer_in this id) ≡ bearer_at kinds counts id
-        go id (inl e) = rw (← e) (same_id (bearer_at kinds counts i) ∙ stays)
-        go id (inr m) = other_id id m (bearer_at kinds counts id)
-
-    pub entered_new : i < 256 → get_or counts i 0 ≡ 0 → Entered this kinds counts (set kinds i k) (set counts i (c + 1))
-    unfolding bearer_at or_else kinds_with counts_with
-    entered_new l z = record {
-      kinds_are = sym (yes _ _ (eq-eqb _ _ z));
-      counts_are = sym (yes _ _ (eq-eqb _ _ z));
-      long_kinds = length-set kinds i k;
-      long_counts = length-set counts i (c + 1);
-      tells = λ a b id. go a b id (decided (eqb i id) (reads_eq i id));
+    entered_one : Entered (t ∷ []) table (set table t.id value)
+    unfolding bearer_in bearer_at table_with
+    entered_one = record {
+      table_is = refl;
+      long = length-set table t.id value;
+      tells = λ a id. go a id (decided (eqb t.id id) (reads_eq t.id id));
     }
       where
-        written : length kinds ≡ 256 → length counts ≡ 256 → bearer_at (set kinds i k) (set counts i (c + 1)) i ≡ bearer.Terminal k c
-        written a b =
-            let x : get_or (set kinds i k) i 0 ≡ k = get_or-set_same kinds i k 0 (omega arith) in
-            let y : get_or (set counts i (c + 1)) i 0 ≡ c + 1 = get_or-set_same counts i (c + 1) 0 (omega arith) in
-            let m : c + 1 - 1 ≡ c = omega arith in
-            rw (x, y, ne_eqb (c + 1) 0 (λ e. omega arith), m) refl
+        go : length table ≡ 256 → (id : ℕ) → (t.id ≡ id) ⊎ (t.id ≡ id → ⊥)
+            → get_or (set table t.id value) id None ≡ option_or (get_or table id None) (bearer_in (t ∷ []) id)
+        go a id (inl e) =
+            rw (← e) (get_or-set_same table t.id value None (omega arith) ∙ ap (option_or (get_or table t.id None)) (sym (yes _ _ (eq-eqb t.id t.id refl))))
+        go a id (inr n) =
+            get_or-set_other table t.id id value None (λ e. n (sym e))
+            ∙ sym (ap (option_or (get_or table id None)) (no _ _ (ne_eqb t.id id n)) ∙ or_none (get_or table id None))
 
-        free : bearer_at kinds counts i ≡ bearer.Nothing
-        free = yes _ _ (eq-eqb _ _ z)
-
-        apart : (id : ℕ) → (i ≡ id → ⊥) → bearer_at (set kinds i k) (set counts i (c + 1)) id ≡ bearer_at kinds counts id
-        apart id n = rw (get_or-set_other kinds i id k 0 (λ e. n (sym e)), get_or-set_other counts i id (c + 1) 0 (λ e. n (sym e))) refl
-
-        go : length kinds ≡ 256 → length counts ≡ 256 → (id : ℕ) → (i ≡ id) ⊎ (i ≡ id → ⊥)
-            → bearer_at (set kinds i k) (set counts i (c + 1)) id ≡ or_else (bearer_at kinds counts id) (bearer_in this id)
-        go a b id (inl e) =
-            rw (← e)
-            (written a b ∙ sym (same_id (bearer_at kinds counts i) ∙ ap (λ (x : Bearer). or_else x (bearer.Terminal k c)) free))
-        go a b id (inr n) = apart id n ∙ sym (other_id id n (bearer_at kinds counts id))
+  -- at its ID's place, which the code has as a number of its own
+  pub entered_at : (i k c at : ℕ) (v : Option Bearer) → at ≡ i → at < 256 → v ≡ option_or (get_or table at None) (Some (record { kind = k; channels = c }))
+      → Entered (record { id = i; kind = k; channels = c } ∷ []) table (set table at v)
+  unfolding bearer_at
+  entered_at i k c at v e l f = rw (f, ← e) (entered_one (record { id = at; kind = k; channels = c }) l)
 
 module _ (s : List ℕ) (r : Run) (cs : List Cluster) where
   -- what bears an ID among the entities from the i-th on
-  abbrev later : ℕ → ℕ → Bearer
+  abbrev later : ℕ → ℕ → Option Bearer
   later i = bearer_in (terminals_from (held r - i) i s r cs)
 
-  pub record Filling (kinds counts : List ℕ) (i : ℕ) : Type 0 where
+  pub record Filling (table : List (Option Bearer)) (i : ℕ) : Type 0 where
     pub low : i ≤ held r
-    pub long_kinds : length kinds ≡ 256
-    pub long_counts : length counts ≡ 256
-    pub same : (id : ℕ) → bearer_in (terminals_of s r cs) id ≡ or_else (bearer_at kinds counts id) (later i id)
+    pub long : length table ≡ 256
+    pub same : (id : ℕ) → bearer_in (terminals_of s r cs) id ≡ option_or (bearer_at table id) (later i id)
 
   -- no Terminal, at any ID
-  abbrev blanks : List ℕ
-  blanks = replicate 256 0
+  abbrev blanks : List (Option Bearer)
+  blanks = replicate 256 None
 
-  pub filling_start : Filling blanks blanks 0
-  unfolding bearer_at or_else terminals_of
-  filling_start = record { low = omega arith; long_kinds = long; long_counts = long; same = start }
+  pub filling_start : Filling blanks 0
+  unfolding bearer_at terminals_of
+  filling_start = record { low = omega arith; long = long_blanks; same = start }
     where
-      long : length blanks ≡ 256
-      long = length-replicate {A = ℕ} 256 0
+      long_blanks : length blanks ≡ 256
+      long_blanks = length-replicate {A = Option Bearer} 256 None
 
-      blank : (id : ℕ) → get_or blanks id 0 ≡ 0
+      blank : (id : ℕ) → get_or blanks id None ≡ None
       blank id = go (decided (ltb id 256) (reads_lt id 256))
         where
-          go : (id < 256) ⊎ (id < 256 → ⊥) → get_or blanks id 0 ≡ 0
-          go (inl h) = get_or-replicate 256 id 0 0 h
-          go (inr h) = let l = long in let m : length blanks ≤ id = omega arith in get_or-eq_default blanks 0 m
+          go : (id < 256) ⊎ (id < 256 → ⊥) → get_or blanks id None ≡ None
+          go (inl h) = get_or-replicate 256 id None None h
+          go (inr h) = let l = long_blanks in let m : length blanks ≤ id = omega arith in get_or-eq_default blanks None m
 
-      empty : (id : ℕ) → bearer_at blanks blanks id ≡ bearer.Nothing
-      empty id = yes _ _ (eq-eqb _ _ (blank id))
+      start : (id : ℕ) → bearer_in (terminals_from (held r) 0 s r cs) id ≡ option_or (get_or blanks id None) (later 0 id)
+      start id = let z : held r - 0 ≡ held r = omega arith in rw (blank id, z) refl
 
-      start : (id : ℕ) → bearer_in (terminals_from (held r) 0 s r cs) id ≡ or_else (bearer_at blanks blanks id) (later 0 id)
-      start id = let z : held r - 0 ≡ held r = omega arith in rw (empty id, z) refl
-
-  module _ (kinds counts : List ℕ) (i : ℕ) (g : Filling kinds counts i) where
-    pub filling_on : i < held r → {kinds' counts' : List ℕ} → Entered (terminal_at s r cs i) kinds counts kinds' counts'
-        → Filling kinds' counts' (i + 1)
+  module _ (table : List (Option Bearer)) (i : ℕ) (g : Filling table i) where
+    pub filling_on : i < held r → {table' : List (Option Bearer)} → Entered (terminal_at s r cs i) table table' → Filling table' (i + 1)
     unfolding terminals_from
-    filling_on h {kinds'} {counts'} e =
-        let a = g.long_kinds in
-        let b = g.long_counts in
+    filling_on h {table'} e =
+        let a = g.long in
         record {
           low = omega arith;
-          long_kinds = e.long_kinds ∙ a;
-          long_counts = e.long_counts ∙ b;
+          long = e.long ∙ a;
           same = λ id.
               g.same id
-              ∙ ap (or_else (bearer_at kinds counts id)) (next id)
-              ∙ sym (else_else _ _ _)
-              ∙ ap (λ (x : Bearer). or_else x (later (i + 1) id)) (sym (e.tells a b id));
+              ∙ ap (option_or (bearer_at table id)) (next id)
+              ∙ sym (or_or (bearer_at table id) (bearer_in (terminal_at s r cs i) id) (later (i + 1) id))
+              ∙ ap (λ (x : Option Bearer). option_or x (later (i + 1) id)) (sym (e.tells a id));
         }
       where
-        next : (id : ℕ) → later i id ≡ or_else (bearer_in (terminal_at s r cs i) id) (later (i + 1) id)
+        next : (id : ℕ) → later i id ≡ option_or (bearer_in (terminal_at s r cs i) id) (later (i + 1) id)
         next id =
             let q : held r - i ≡ suc (held r - (i + 1)) = omega arith in
             rw (terminals_from, q, add-one) (bearer_append (terminal_at s r cs i) (terminals_from (held r - suc i) (suc i) s r cs) id)
 
-    pub filled : held r ≤ i → bearer_at kinds counts ≡ bearer_in (terminals_of s r cs)
+    pub filled : held r ≤ i → bearer_at table ≡ bearer_in (terminals_of s r cs)
     unfolding bearer_in terminals_from
-    filled h = fun_ext (λ id. sym (g.same id ∙ ap (or_else (bearer_at kinds counts id)) (none id) ∙ else_nothing _))
+    filled h = fun_ext (λ id. sym (g.same id ∙ ap (option_or (bearer_at table id)) (none id) ∙ or_none _))
       where
-        none : (id : ℕ) → later i id ≡ bearer.Nothing
+        none : (id : ℕ) → later i id ≡ None
         none id = let z : held r - i ≡ 0 = omega arith in rw (terminals_from, z) refl

@@ -6,11 +6,12 @@
 --                          clusters cs
 --   terminals_from k i s r cs  ==  those of the next k entities from the i-th on
 --   terminals_of s r cs ==  the Terminals of the run r in its order, with the clusters cs at its indices
+--   borne t            ==  type and channels of the Terminal t, which are what bears its ID
 --   bearer_in ts id     ==  type and channels of the first of the Terminals ts that bears the ID id, or nothing
 --   terminal_number b   ==  the number that refuses what bears an ID: 14 for nothing and for a Terminal of another type, 0 for a right one
 --   channels_borne b    ==  its channels c
 --   OneEach ts         ==  an ID is borne by one of the Terminals at most (rule 10 says so of all entities)
-use Rattle.std.specs.Prelude.{ℕ, zero, suc, ◌≡◌, get_or, eqb}
+use Rattle.std.specs.Prelude.{ℕ, zero, suc, ◌≡◌, get_or, eqb, Option, None, Some}
 use mathlib.Core.List.{List, [], ◌∷◌, ◌++◌, Memᴰ}
 use Rattle.ground.specs.Pick.{pick}
 use Rattle.layout.specs.declared.Cluster.{Cluster}
@@ -20,7 +21,6 @@ use Rattle.layout.specs.Layout.{entity_of, no_cluster}
 use Rattle.entities.specs.declared.Run.{Run}
 use Rattle.entities.specs.Run.{held, descriptor_at}
 use Rattle.terminals.specs.declared.Bearer.{Bearer}
-use Rattle.terminals.specs.declared.Bearer.TheVariants as bearer
 
 pub record Terminal : Type 0 where
   pub id : ℕ
@@ -45,17 +45,20 @@ terminals_from (suc k) i s r cs = terminal_at s r cs i ++ terminals_from k (suc 
 unfoldable pub terminals_of : List ℕ → Run → List Cluster → List Terminal
 terminals_of s r cs = terminals_from (held r) 0 s r cs
 
-unfoldable pub bearer_in : List Terminal → ℕ → Bearer
-bearer_in [] id = bearer.Nothing
-bearer_in (t ∷ ts) id = pick (eqb t.id id) (bearer.Terminal t.kind t.channels) (bearer_in ts id)
+abbrev pub borne : Terminal → Bearer
+borne t = record { kind = t.kind; channels = t.channels }
 
-unfoldable pub terminal_number : Bearer → ℕ
-terminal_number bearer.Nothing = 14
-terminal_number (bearer.Terminal k c) = pick (eqb k 0x0101) 0 14
+unfoldable pub bearer_in : List Terminal → ℕ → Option Bearer
+bearer_in [] id = None
+bearer_in (t ∷ ts) id = pick (eqb t.id id) (Some (borne t)) (bearer_in ts id)
 
-unfoldable pub channels_borne : Bearer → ℕ
-channels_borne bearer.Nothing = 0
-channels_borne (bearer.Terminal k c) = c
+unfoldable pub terminal_number : Option Bearer → ℕ
+terminal_number None = 14
+terminal_number (Some b) = pick (eqb b.kind 0x0101) 0 14
+
+unfoldable pub channels_borne : Option Bearer → ℕ
+channels_borne None = 0
+channels_borne (Some b) = b.channels
 
 abbrev pub OneEach : List Terminal → Type 0
 OneEach ts = (t u : Terminal) → Memᴰ t ts → Memᴰ u ts → t.id ≡ u.id → t ≡ u

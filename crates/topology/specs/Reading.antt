@@ -6,24 +6,22 @@
 --   judged_then s r          ==  the first of 1 to 9, 17 and 10 to 15 that applies to the configuration s; r where none does
 --   room_judged v room r     ==  the refusal 16, for a sheet of room bytes; r where it does not apply
 --   verdict_of s room        ==  the refusal of a configuration s with a sheet of room bytes lent; 0 and 0 for none
---   refused_finding r        ==  what is found where r is refused: nothing
 --   clusters_at s v          ==  the cluster of each entity of what v surveys, by index
 --   finding_with s v cs      ==  what is found where nothing is refused, with the clusters cs
---   found_by r ok            ==  what is found where r is judged: ok where r refuses nothing
 --   count_judged s v cs r    ==  the refusal 15; r where it does not apply
---   table_judged, survey_finding  ==  what is found of a survey: behind the rules 1 to 14, behind the rules 1 to 9
---   finding_of s             ==  what is found by the rules 1 to 15
+--   table_judged, survey_finding  ==  what is found of a survey, or the refusal: behind the rules 1 to 14, behind the rules 1 to 9
+--   found_in s               ==  what is found where nothing is refused
+--   finding_of s             ==  what is found by the rules 1 to 15, or the refusal
 --   refused_reading r        ==  the answer where r is refused: interface number 0, zero counts and an empty table
 --   taken_reading s v        ==  the answer where nothing is refused: the AudioControl number, the counts and the table
 --   reading_of s room        ==  the reader's answer
 --   sheet_of s d             ==  what the lent bytes d hold afterwards
-use Rattle.std.specs.Prelude.{ℕ, List, length, replicate, eqb}
+use Rattle.std.specs.Prelude.{ℕ, List, length, eqb, Result}
 use Rattle.ground.specs.declared.Refusal.{Refusal}
 use Rattle.ground.specs.Pick.{pick}
 use Rattle.ground.specs.Refuse.{none, refuse, kept_at}
+use Rattle.ground.specs.Told.{told}
 use Rattle.layout.specs.declared.Cluster.{Cluster}
-use Rattle.layout.specs.Layout.{no_cluster}
-use Rattle.entities.specs.Run.{most_entities, blank_node}
 use Rattle.cutting.specs.declared.Survey.{Survey}
 use Rattle.cutting.specs.Survey.{survey_of, verdict_then}
 use Rattle.connections.specs.Judgement.{judged, clusters_for}
@@ -58,34 +56,23 @@ room_judged v room r = refuse 16 (kept_at (room_for v.run room) v.header) r
 unfoldable pub verdict_of : List ℕ → ℕ → Refusal
 verdict_of s room = judged_then s (room_judged (survey_of s) room none)
 
-unfoldable pub refused_finding : Refusal → Finding
-refused_finding r = record {
-  refusal = r;
-  control = 0;
-  header = 0;
-  run = record { count = 0; nodes = replicate most_entities blank_node };
-  clusters = replicate most_entities no_cluster;
-  table = empty_table;
-}
-
 unfoldable pub finding_with : List ℕ → Survey → List Cluster → Finding
-finding_with s v cs = record { refusal = none; control = v.control; header = v.header; run = v.run; clusters = cs; table = table_for s v cs }
-
--- what is found where r is judged, and ok stands there where r refuses nothing
-unfoldable pub found_by : Refusal → Finding → Finding
-found_by r ok = pick (eqb r.number 0) ok (refused_finding r)
+finding_with s v cs = record { control = v.control; header = v.header; run = v.run; clusters = cs; table = table_for s v cs }
 
 abbrev pub count_judged : List ℕ → Survey → List Cluster → Refusal → Refusal
 count_judged s v cs r = refuse 15 (breach15 (table_for s v cs).count v.header) r
 
-unfoldable pub table_judged : List ℕ → Survey → List Cluster → Finding
-table_judged s v cs = found_by (count_judged s v cs none) (finding_with s v cs)
+unfoldable pub table_judged : List ℕ → Survey → List Cluster → Result Finding Refusal
+table_judged s v cs = told (count_judged s v cs none) (finding_with s v cs)
 
-unfoldable pub survey_finding : List ℕ → Survey → Finding
-survey_finding s v = found_by (survey_judged s v none) (finding_with s v (clusters_at s v))
+unfoldable pub survey_finding : List ℕ → Survey → Result Finding Refusal
+survey_finding s v = told (survey_judged s v none) (finding_with s v (clusters_at s v))
 
-unfoldable pub finding_of : List ℕ → Finding
-finding_of s = found_by (judged_then s none) (finding_with s (survey_of s) (clusters_at s (survey_of s)))
+abbrev pub found_in : List ℕ → Finding
+found_in s = finding_with s (survey_of s) (clusters_at s (survey_of s))
+
+unfoldable pub finding_of : List ℕ → Result Finding Refusal
+finding_of s = told (judged_then s none) (found_in s)
 
 unfoldable pub refused_reading : Refusal → Reading
 refused_reading r = record { number = r.number; place = r.place; control = 0; entities = 0; controls = 0; table = empty_table }

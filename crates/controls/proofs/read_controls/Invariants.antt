@@ -1,11 +1,9 @@
-use borrow.Author.Rules.{rules}
-use Prim.Native.Nat.{ℕ, ◌+◌, ◌*◌, ◌-◌, ◌≤◌, ◌<◌}
+use Prim.Native.Nat.{ℕ, ◌+◌, ◌*◌, ◌≤◌, ◌<◌}
 use mathlib.Core.Path.{◌≡◌, refl, ap, ◌∙◌}
-use mathlib.Core.Bool.{false}
 use mathlib.Core.List.{List, ◌++◌}
 use native.Mathlib.Omega.{arith}
 use native.Mathlib.Numerals.{add-one}
-use lib.ListN.{get_or, replicate, length-replicate}
+use lib.ListN.{length, get_or, replicate, length-replicate}
 use Rattle.ground.specs.Lists.{part}
 use Rattle.scan.specs.Cutting.{end_at}
 use Rattle.layout.specs.declared.Cluster.{Cluster}
@@ -19,10 +17,6 @@ use Rattle.controls.specs.Controls.{entity_controls, controls_to, controls_of_ru
 use Rattle.controls.specs.Growth.{grown, table_of, table_empty, table_grown}
 use Rattle.controls.specs.Told.{table_by, table_from, Come, Room, room_more, room_grown, notes_empty, notes_front}
 use Rattle.controls.proofs.read_controls.Given as goal
-
--- what is read past the array's end
-abbrev pub zeros : Node
-zeros = record { place = 0; first = 0; pins = 0; id = 0; kind = 0; feeds = false }
 
 module _ (s : List ℕ) (run : Run) (cs : List Cluster) where
   pub record Listed (t : Table) (n i : ℕ) : Type 0 where
@@ -49,10 +43,12 @@ module _ (s : List ℕ) (run : Run) (cs : List Cluster) where
     pub room_next : Room (table_by l m) 900000
     room_next = let f = g.few in let b = g.low in room_more (table_by l m) (1 + 2560 * i) 900000 g.room (omega arith)
 
-    pub on : (d x : List ℕ) (y : ℕ) → i < n → d ≡ part s (get_or run.nodes i zeros).place (end_at s (get_or run.nodes i zeros).place)
-        → Come l m (entity_controls (entity_of d) d (get_or cs i no_cluster).channels) 2560 x y → Listed (table_by x y) n (i + 1)
-    unfolding controls_to blank_node
-    on d x y h e f =
+    pub on : (node : Node) → node ≡ get_or run.nodes i blank_node → (cluster : Cluster) → cluster ≡ get_or cs i no_cluster → (d : List ℕ) → d ≡ part s node.place (end_at s node.place)
+        → (x : List ℕ) (y : ℕ) → i < n → Come l m (entity_controls (entity_of d) d cluster.channels) 2560 x y → Listed (table_by x y) n (i + 1)
+    unfolding controls_to
+    on node a cluster b d p x y h k =
+        let e : d ≡ part s (get_or run.nodes i blank_node).place (end_at s (get_or run.nodes i blank_node).place) = p ∙ ap (λ (w : Node). part s w.place (end_at s w.place)) a in
+        let f : Come l m (entity_controls (entity_of d) d (get_or cs i no_cluster).channels) 2560 x y = rw b at k in
         let z : 1 + 2560 * i + 2560 ≡ 1 + 2560 * (i + 1) = omega arith in
         record {
           low = omega arith;
@@ -75,8 +71,5 @@ module _ (s : List ℕ) (run : Run) (cs : List Cluster) where
       let z : i ≡ held run = omega arith in
       e ∙ notes_front l m (controls_to i s run cs) g.same ∙ ap (λ (j : ℕ). table_of (controls_to j s run cs)) z
 
-abbrev pub invariant-loop-i : goal.invariant-loop-i
-invariant-loop-i l = Listed l.config l.run l.clusters (table_by l.notes l.count) l.n l.i
-
-abbrev pub decreases-loop-i : goal.decreases-loop-i
-decreases-loop-i l = l.n - l.i
+abbrev pub invariant-loop-node : goal.invariant-loop-node
+invariant-loop-node l = Listed l.config l.fn.run l.fn.clusters (table_by l.notes.notes l.notes.count) l.n (length l.yielded)

@@ -1,44 +1,52 @@
-use borrow.Author.Rules.{rules}
-use Prim.Native.Nat.{ℕ, ◌+◌, ◌-◌, ◌≤◌, ◌<◌}
-use mathlib.Core.Path.{◌≡◌}
+use Prim.Native.Nat.{ℕ, ◌+◌, ◌≤◌, ◌<◌}
+use mathlib.Core.Path.{◌≡◌, ap, ◌∙◌}
 use mathlib.Core.Bool.{Bool, true, false}
 use mathlib.Core.List.{List}
-use native.Mathlib.Omega.{arith}
-use lib.ListN.{get_or, set, replicate}
-use Rattle.ground.specs.declared.Place.TheVariants.{Nowhere, At}
+use lib.ListN.{length, get_or, set, replicate, take}
+use Rattle.std.specs.Prelude.{Some, None}
 use Rattle.graph.specs.Borne.{Passed, passed_none, passed_over, passed_zero, passed_twice, passed_on}
+use Rattle.entities.specs.declared.Node.{Node}
 use Rattle.entities.specs.declared.Run.{Run}
 use Rattle.entities.specs.Run.{blank_node, held, id_at, place_at}
+use Rattle.entities.proofs.Looked.{item, inside}
+use Rattle.entities.proofs.Looked as looked
 use Rattle.ids.specs.Breach.{breach10}
 use Rattle.ids.proofs.check_ids.Given as goal
 
 module _ (run : Run) where
   abbrev pub Come : List Bool → ℕ → Type 0
-  Come = Passed (id_at run) (λ j. At (place_at run j)) Nowhere (held run)
+  Come = Passed (id_at run) (λ j. Some (place_at run j)) None (held run)
 
   pub start : Come (replicate 256 false) 0
-  start = passed_none (id_at run) (λ j. At (place_at run j)) Nowhere (held run)
+  start = passed_none (id_at run) (λ j. Some (place_at run j)) None (held run)
 
   module _ (n : ℕ) (m : n ≡ held run) (borne : List Bool) (i : ℕ) (g : Come borne i) where
-    pub over : n ≤ i → Nowhere ≡ breach10 run
+    pub over : length run.nodes ≡ 32 → length (take n run.nodes) ≤ i → None ≡ breach10 run
     unfolding breach10
-    over h = passed_over (id_at run) (λ j. At (place_at run j)) Nowhere (held run) borne i g (omega arith)
+    over w h = passed_over (id_at run) (λ j. Some (place_at run j)) None (held run) borne i g (looked.over run n i m w h)
 
-    module _ (h : i < n) (x : ℕ) (w : (x ≡ id_at run i) × (x < 256)) where
-      pub zero_id : x ≡ 0 → At (place_at run i) ≡ breach10 run
-      unfolding breach10
-      zero_id z = passed_zero (id_at run) (λ j. At (place_at run j)) Nowhere (held run) borne i g (omega arith) x w.0 w.1 z
+    module _ (h : i < length (take n run.nodes)) where
+      abbrev node : Node
+      node = get_or (take n run.nodes) i blank_node
 
-      module _ (z : x ≡ 0 → ⊥) where
-        pub twice : get_or borne x false ≡ true → At (place_at run i) ≡ breach10 run
+      found : Some node.place ≡ Some (place_at run i)
+      found = ap (λ (e : Node). Some e.place) (item run n i m h)
+
+      module _ (x : ℕ) (w : (x ≡ node.id) × (x < 256)) where
+        own : x ≡ id_at run i
+        own = w.0 ∙ ap (λ (e : Node). e.id) (item run n i m h)
+
+        pub zero_id : x ≡ 0 → Some node.place ≡ breach10 run
         unfolding breach10
-        twice y = passed_twice (id_at run) (λ j. At (place_at run j)) Nowhere (held run) borne i g (omega arith) x w.0 w.1 z y
+        zero_id z = found ∙ passed_zero (id_at run) (λ j. Some (place_at run j)) None (held run) borne i g (inside run n i m h) x own w.1 z
 
-        pub on : get_or borne x false ≡ false → Come (set borne x true) (i + 1)
-        on y = passed_on (id_at run) (λ j. At (place_at run j)) Nowhere (held run) borne i g (omega arith) x w.0 w.1 z y
+        module _ (z : x ≡ 0 → ⊥) where
+          pub twice : get_or borne x false ≡ true → Some node.place ≡ breach10 run
+          unfolding breach10
+          twice y = found ∙ passed_twice (id_at run) (λ j. Some (place_at run j)) None (held run) borne i g (inside run n i m h) x own w.1 z y
 
-abbrev pub invariant-loop-i : goal.invariant-loop-i
-invariant-loop-i l = Come l.run l.borne l.i
+          pub on : get_or borne x false ≡ false → Come (set borne x true) (i + 1)
+          on y = passed_on (id_at run) (λ j. Some (place_at run j)) None (held run) borne i g (inside run n i m h) x own w.1 z y
 
-abbrev pub decreases-loop-i : goal.decreases-loop-i
-decreases-loop-i l = l.n - l.i
+abbrev pub invariant-loop-node : goal.invariant-loop-node
+invariant-loop-node l = Come l.fn.run l.borne l.node-index

@@ -1,23 +1,12 @@
 -- A loop over the pins: the sum so far, and what is left to add, make the whole.
 use borrow.Author.Rules.{rules}
-use Prim.Native.Nat.{ℕ, ◌+◌, ◌-◌, ◌*◌, ◌≤◌, ◌<◌}
-use mathlib.Core.Path.{◌≡◌, refl, ap, ◌∙◌}
-use mathlib.Core.List.{List, map}
-use native.Mathlib.Omega.{arith}
-use native.Mathlib.Numerals.{add-one}
-use lib.ListN.{length, get_or, drop, drop_of_length-le}
-use lib.Seq.{drop-cons}
-use mir.Val.{Fits}
-use mir.Syntax.{w64}
-use Rattle.edition.specs.Audio.{channels_in}
-use Rattle.keeping.specs.Keeping.{channels_on, Entering}
-use Rattle.keeping.proofs.channels_in.Invariants.{entering, Gone, start, last, turn, fits, on}
+use Rattle.keeping.proofs.channels_in.Invariants.{start, last, fits, on}
 use Rattle.keeping.proofs.channels_in.Goals as goal
 
 ruleset laws = (start, last, fits, on, rules)
 
-pub loop-k-preserved : goal.loop-k-preserved
-loop-k-preserved c = search laws
+pub loop-id-preserved : goal.loop-id-preserved
+loop-id-preserved c = search laws
 
 pub returns : goal.returns
 returns c = search laws

@@ -1,5 +1,4 @@
-use borrow.Author.Rules.{rules}
-use Prim.Native.Nat.{ℕ, ◌+◌, ◌-◌, ◌*◌, ◌≤◌, ◌<◌}
+use Prim.Native.Nat.{ℕ, ◌+◌, ◌*◌, ◌≤◌, ◌<◌}
 use mathlib.Core.Path.{◌≡◌, refl, ap, ◌∙◌}
 use mathlib.Core.List.{List, map}
 use native.Mathlib.Omega.{arith}
@@ -49,8 +48,5 @@ module _ (ids counts : List ℕ) where
           let b = e.1 in
           record { low = omega arith; small = omega arith; same = omega arith }
 
-abbrev pub invariant-loop-k : goal.invariant-loop-k
-invariant-loop-k l = Gone l.ids l.counts l.sum l.k
-
-abbrev pub decreases-loop-k : goal.decreases-loop-k
-decreases-loop-k l = length l.ids - l.k
+abbrev pub invariant-loop-id : goal.invariant-loop-id
+invariant-loop-id l = Gone l.ids l.counts l.sum l.id-index

@@ -2,10 +2,9 @@
 use borrow.Author.Rules.{rules}
 use Prim.Native.Nat.{ℕ}
 use mathlib.Core.Path.{◌≡◌, refl, sym, ap, ◌∙◌}
-use mathlib.Core.Bool.{Bool, true, false, not, ◌&&◌}
+use mathlib.Core.Bool.{Bool, true, false, ◌&&◌}
 use mathlib.Core.List.{List, [], ◌∷◌, map}
 use lib.ListN.{get_or}
-use borrow.Author.Tests.{not-true, not-false}
 use Rattle.pins.specs.Same.{numbers_at, all_same}
 use Rattle.edition.specs.Audio.{channels_each, locations_each, alike}
 use Rattle.keeping.specs.Keeping.{content_on}
@@ -26,20 +25,20 @@ module _ (counts bitmaps : List ℕ) where
     same_channels : b ≡ all_same (channels_each (map (content_on counts bitmaps) ids))
     same_channels = e ∙ ap all_same (channels_on ids)
 
-    other_channels : not b ≡ true → false ≡ alike (map (content_on counts bitmaps) ids)
+    other_channels : b ≡ false → b ≡ alike (map (content_on counts bitmaps) ids)
     unfolding alike
-    other_channels h = sym (ap (λ (x : Bool). x && all_same (locations_each (map (content_on counts bitmaps) ids))) (sym same_channels ∙ not-true b h))
+    other_channels h = h ∙ sym (ap (λ (x : Bool). x && all_same (locations_each (map (content_on counts bitmaps) ids))) (sym same_channels ∙ h))
 
-    by_bitmaps : not b ≡ false → (d : Bool) → d ≡ all_same (numbers_at bitmaps ids) → d ≡ alike (map (content_on counts bitmaps) ids)
+    by_bitmaps : b ≡ true → (d : Bool) → d ≡ all_same (numbers_at bitmaps ids) → d ≡ alike (map (content_on counts bitmaps) ids)
     unfolding alike
     by_bitmaps h d f =
         f ∙ ap all_same (locations_on ids)
-        ∙ sym (ap (λ (x : Bool). x && all_same (locations_each (map (content_on counts bitmaps) ids))) (sym same_channels ∙ not-false b h))
+        ∙ sym (ap (λ (x : Bool). x && all_same (locations_each (map (content_on counts bitmaps) ids))) (sym same_channels ∙ h))
 
 ruleset laws = (other_channels, by_bitmaps, rules)
 
-pub returns-then-not-same : goal.returns-then-not-same
-returns-then-not-same c = search laws
+pub returns-then-same : goal.returns-then-same
+returns-then-same c = search laws
 
-pub returns : goal.returns
-returns c = search laws
+pub returns-else-same : goal.returns-else-same
+returns-else-same c = search laws

@@ -1,4 +1,3 @@
-use borrow.Author.Rules.{rules}
 use Prim.Native.Nat.{ℕ, suc, ◌+◌, ◌-◌, ◌*◌, ◌≤◌, ◌<◌}
 use mathlib.Core.Path.{◌≡◌, refl, sym, ap, ◌∙◌}
 use mathlib.Core.Bool.{Bool, true, false, not}
@@ -9,7 +8,9 @@ use lib.ListN.{length, get_or, take, drop, length-append, length-drop}
 use lib.Seq.{paste, take_at, take_all, drop_at, drop-drop}
 use mir.Val.{Fits}
 use mir.Syntax.{w64}
+use borrow.Rule.Slice.PartMut.{put_mid}
 use borrow.Author.Tests.{not-true, not-false, leb-true, le-leb}
+use Rattle.std.proofs.lemmas.Slice.{put_mid-paste}
 use Rattle.ground.specs.Pick.{yes, no}
 use Rattle.layout.specs.declared.Cluster.{Cluster}
 use Rattle.layout.specs.Layout.{no_cluster}
@@ -63,11 +64,12 @@ module _ (s : List ℕ) (run : Run) (cs : List Cluster) (d : List ℕ) where
     place_fits h = let f = g.few in record { fits = omega arith }
 
     -- past the array's end the model reads zeros, as a spare place is
-    pub on : (u : List ℕ) → i < n
-        → u ≡ paste t (i * record_size) (record_of s (get_or run.nodes i (record { place = 0; first = 0; pins = 0; id = 0; kind = 0; feeds = false })) (get_or cs i no_cluster)) record_size
-        → Shown u n (i + 1)
+    pub on : (v : List ℕ) → i < n
+        → v ≡ record_of s (get_or run.nodes i (record { place = 0; first = 0; pins = 0; id = 0; kind = 0; feeds = false })) (get_or cs i no_cluster)
+        → Shown (put_mid (i * record_size) (i * record_size + record_size - i * record_size) t v) n (i + 1)
     unfolding records_to blank_node
-    on u h f =
+    on v h f =
+        let k : record_size ≡ i * record_size + record_size - i * record_size = omega arith in
         let y : i * record_size + record_size ≡ suc i * record_size = omega arith in
         record {
           low = omega arith;
@@ -75,7 +77,7 @@ module _ (s : List ℕ) (run : Run) (cs : List Cluster) (d : List ℕ) where
           few = g.few;
           room = g.room;
           same =
-              f
+              put_mid-paste (i * record_size) (i * record_size + record_size - i * record_size) t v (record_of s (node_at run i) (get_or cs i no_cluster)) record_size f k (sym (record_length s (node_at run i) (get_or cs i no_cluster)))
               ∙ ap (λ (x : List ℕ). paste x (i * record_size) (record_of s (node_at run i) (get_or cs i no_cluster)) record_size) g.same
               ∙ grown (records_to i s run cs) d (record_of s (node_at run i) (get_or cs i no_cluster)) (i * record_size) record_size (records_length i s run cs) (record_length s (node_at run i) (get_or cs i no_cluster))
               ∙ rw add-one (ap (λ (j : ℕ). records_to i s run cs ++ record_of s (node_at run i) (get_or cs i no_cluster) ++ drop j d) y);
@@ -93,6 +95,3 @@ module _ (s : List ℕ) (run : Run) (cs : List Cluster) (d : List ℕ) where
 
 abbrev pub invariant-loop-i : goal.invariant-loop-i
 invariant-loop-i l = Shown l.config l.run l.clusters l.initial.sheet l.sheet l.n l.i
-
-abbrev pub decreases-loop-i : goal.decreases-loop-i
-decreases-loop-i l = l.n - l.i

@@ -8,11 +8,12 @@ use borrow.Author.Tests.{eq-eqb, ne_eqb, not-true, not-false}
 use Rattle.ground.specs.Numbers.{byte}
 use Rattle.search.specs.Want.{is_audio}
 use Rattle.groups.specs.Reading.{strays_from}
+use Rattle.std.specs.Prelude.{Option}
 use Rattle.terminals.specs.declared.Bearer.{Bearer}
 use Rattle.streaming.specs.Tests.{described_at, broken_at}
 use Rattle.streaming.proofs.is_broken.Goals as goal
 
-module _ (find : ℕ → Bearer) (s i : List ℕ) (from : ℕ) (a : Bool) (e : a ≡ is_audio 2 i) where
+module _ (find : ℕ → Option Bearer) (s i : List ℕ) (from : ℕ) (a : Bool) (e : a ≡ is_audio 2 i) where
   no_stream : not a ≡ true → false ≡ broken_at find s i from
   unfolding broken_at
   no_stream h = simp (sym e ∙ not-true a h)

@@ -1,31 +1,42 @@
 -- No pin, or pin 1.
 use borrow.Author.Rules.{rules}
-use Prim.Native.Nat.{ℕ, ◌<◌}
-use mathlib.Core.Path.{◌≡◌, refl, ap}
+use denote.Ref.{Bor}
+use Prim.Native.Nat.{ℕ}
+use mathlib.Core.Path.{◌≡◌, refl, sym, ap, ◌∙◌}
 use mathlib.Core.List.{List, [], ◌∷◌}
-use native.Mathlib.Omega.{arith}
-use lib.ListN.{length, get_or}
+use Rattle.std.specs.Prelude.{Option, Some, None}
+use Rattle.std.specs.List.{slice_get}
+use Rattle.std.specs.Option.{option_copied}
+use Rattle.layout.specs.declared.Cluster.{Cluster}
 use Rattle.layout.specs.Layout.{no_cluster}
 use Rattle.edition.specs.Audio.{first_of}
-use Rattle.sweep.specs.Sweep.{cluster_by, first_by}
+use Rattle.sweep.specs.Sweep.{first_by}
 use Rattle.sweep.proofs.first_entering.Goals as goal
 
-module _ (channels locations names : List ℕ) where
-  no_pin : (ids : List ℕ) → length ids ≡ 0 → no_cluster ≡ first_by (cluster_by channels locations names) ids
+module _ (cl : ℕ → Cluster) (r : Option (Bor ℕ)) where
+  no_pin : (ids : List ℕ) → option_copied r ≡ slice_get ids 0 → r ≡ None → no_cluster ≡ first_by cl ids
   unfolding first_by first_of
-  no_pin [] e = refl
-  no_pin (x ∷ ids) e = absurd (omega arith)
+  no_pin [] e h = refl
+  no_pin (x ∷ ids) e h = absurd (none≠some (sym (ap option_copied h) ∙ e))
+    where
+      none≠some : ◌≡◌ {A = Option ℕ} None (Some x) → ⊥
+      none≠some q = cc
 
-  pin_1 : (ids : List ℕ) → (length ids ≡ 0 → ⊥) → (x : ℕ) → (x ≡ get_or ids 0 0) × (x < 256)
-      → cluster_by channels locations names x ≡ first_by (cluster_by channels locations names) ids
+  pin_1 : (ids : List ℕ) → option_copied r ≡ slice_get ids 0 → (id : Bor ℕ) → r ≡ Some id → (c : Cluster) → c ≡ cl id.now → c ≡ first_by cl ids
   unfolding first_by first_of
-  pin_1 [] f x e = absurd (f refl)
-  pin_1 (y ∷ ids) f x e = ap (cluster_by channels locations names) e.0
+  pin_1 [] e id h c k = absurd (some≠none (sym (ap option_copied h) ∙ e))
+    where
+      some≠none : ◌≡◌ {A = Option ℕ} (Some id.now) None → ⊥
+      some≠none q = cc
+  pin_1 (x ∷ ids) e id h c k = k ∙ ap cl (same (sym (ap option_copied h) ∙ e))
+    where
+      same : ◌≡◌ {A = Option ℕ} (Some id.now) (Some x) → id.now ≡ x
+      same q = cc
 
 ruleset laws = (no_pin, pin_1, rules)
 
-pub returns-then-ids-eq0 : goal.returns-then-ids-eq0
-returns-then-ids-eq0 c = search laws
+pub returns-in-Some : goal.returns-in-Some
+returns-in-Some c = search laws
 
-pub returns : goal.returns
-returns c = search laws
+pub returns-in-None : goal.returns-in-None
+returns-in-None c = search laws
