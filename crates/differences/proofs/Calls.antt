@@ -1,6 +1,6 @@
 -- A caller that asks for the first line, and then for the first above the one that it was told, is told all lines, each once, and then that there is none.
 --   every_call  ==  THE LAW, for any bytes
-use Prim.Native.Nat.{ℕ, zero, suc, ◌+◌, ◌≤◌, ◌<◌}
+use Prim.Native.Nat.{ℕ, zero, suc, ◌≤◌, ◌<◌}
 use mathlib.Core.Path.{◌≡◌, refl, sym, ap, ◌∙◌}
 use mathlib.Core.Option.{Option}
 use mathlib.Core.Logic.{⊎_elim}

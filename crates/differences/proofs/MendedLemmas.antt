@@ -3,7 +3,7 @@
 use Rattle.std.specs.Prelude.{ℕ, ◌<◌, ◌≡◌, refl, Bool, true, false, ◌&&◌, ◌⊎◌, List, eqb, ltb, length, set}
 use Rattle.std.proofs.Common.{sym, ap, ◌∙◌, inl, inr, ⊎_elim, arith, length-set, get_or-set_same, get_or-set_other, ne_eqb}
 use Rattle.std.proofs.Math.ListN.{get_or-eq_default}
-use Rattle.ground.specs.Pick.{pick, no, Reads, reads_eq, reads_lt, reads_same, decided}
+use Rattle.ground.specs.Pick.{pick, no, Reads, reads_eq, reads_lt, decided}
 use Rattle.ground.specs.Numbers.{byte}
 use Rattle.legal.specs.Sheet.{id_of}
 use Rattle.differences.specs.Mended.{kind_byte, selector_kind, printed_kind, compared_as, mended}

@@ -11,7 +11,7 @@ use mathlib.Core.List.{List, [], ◌∷◌, ◌++◌, map}
 use lib.Dec.{eqb}
 use Rattle.ground.specs.Pick.{pick, Reads, reads_eq, refutes, true≠false}
 use Rattle.ground.specs.Numbers.{Bytes}
-use Rattle.ground.specs.Lists.{Some, reads_any}
+use Rattle.ground.specs.Lists.{SomeOf, reads_any}
 use Rattle.graph.specs.Members.{◌∈◌, along}
 use Rattle.legal.specs.Sheet.{records_in, id_of, Sheet}
 use Rattle.differences.specs.Mended.{mended}
@@ -76,7 +76,7 @@ module _ (l r : List ℕ) where
   hand x = record { line = x; after = record_bearing r (line_id x) }
 
   -- whether a line names the ID of a record
-  reads_touched : (a : List ℕ) → Reads (touched given a) (Some (λ h. line_id h.line ≡ id_of a) given)
+  reads_touched : (a : List ℕ) → Reads (touched given a) (SomeOf (λ h. line_id h.line ≡ id_of a) given)
   reads_touched a = reads_any (λ h. eqb (line_id h.line) (id_of a)) (λ h. line_id h.line ≡ id_of a) (λ h. reads_eq (line_id h.line) (id_of a)) given
 
   unnamed : (a : List ℕ) → touched given a ≡ false → (x : Line) → x ∈ lines_of l r → line_id x ≡ id_of a → ⊥
@@ -85,7 +85,7 @@ module _ (l r : List ℕ) where
   not_touched : (a : List ℕ) → ((x : Line) → x ∈ lines_of l r → line_id x ≡ id_of a → ⊥) → touched given a ≡ false
   not_touched a f = refutes (reads_touched a) no
     where
-      no : Some (λ h. line_id h.line ≡ id_of a) given → ⊥
+      no : SomeOf (λ h. line_id h.line ≡ id_of a) given → ⊥
       no s = let k = Memᴰ.of_map hand (lines_of l r) s.among in f k.0 k.1 (ap (λ (h : Handed). line_id h.line) k.2 ∙ s.has)
 
   -- the line of an ID, or that it has none

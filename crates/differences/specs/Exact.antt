@@ -13,7 +13,7 @@
 use Rattle.std.specs.Prelude.{ℕ, zero, suc, ◌≤◌, ◌<◌, ◌≡◌, ◌↔◌, List, [], ◌∷◌, map, length}
 use Rattle.std.proofs.Math.Option.{Option, none, some}
 use Rattle.ground.specs.Numbers.{byte}
-use Rattle.ground.specs.Lists.{Some}
+use Rattle.ground.specs.Lists.{SomeOf}
 use Rattle.ground.specs.Rising.{Rising}
 use Rattle.graph.specs.Members.{◌∈◌}
 use Rattle.records.specs.Records.{record_size}
@@ -23,7 +23,7 @@ use Rattle.differences.specs.Lines.{Line, line_id, last_id, lines_of, first_abov
 use Rattle.differences.specs.Lines.Line.{left_only, right_only, changed}
 
 abbrev pub HasId : List ℕ → ℕ → Type 0
-HasId s i = Some (λ a. id_of a ≡ i) (records_in s)
+HasId s i = SomeOf (λ a. id_of a ≡ i) (records_in s)
 
 pub record Differ (a b ns : List ℕ) : Type 0 where
   pub each : (n : ℕ) → n ∈ ns ↔ ((n < record_size) × (SameByte n (byte a n) (byte b n) → ⊥))

@@ -6,7 +6,7 @@
 --   turn_few         ==  where t gives at most one at a number, k numbers give at most k
 --   turn_rising      ==  where t gives at most one at a number, and its key is that number, the keys rise
 use Prim.Native.Nat.{ℕ, zero, suc, ◌+◌, ◌≤◌, ◌<◌}
-use Rattle.std.specs.Prelude.{◌≡◌, ◌⊎◌}
+use Rattle.std.specs.Prelude.{◌≡◌}
 use Rattle.std.proofs.Math.Path.{refl}
 use Rattle.std.proofs.Common.{sym, ap, eq-or-lt_of_le}
 use Rattle.std.proofs.Math.Logic.{⊎_elim}

@@ -26,6 +26,8 @@ use Rattle.ground.specs.Places.{first_in}
 use Rattle.graph.specs.Borne.{bears}
 use Rattle.records.specs.Records.{record_size}
 use Rattle.legal.specs.Sheet.{count_in, record_at, id_at, sheet_number}
+use Rattle.std.specs.declared.option.Option as answer
+use Rattle.std.specs.declared.option.Option.TheVariants.{None, Some}
 use Rattle.differences.specs.declared.Difference.{Difference}
 use Rattle.differences.specs.declared.Difference.TheVariants as difference
 use Rattle.differences.specs.InTurn.{in_turn}
@@ -77,11 +79,11 @@ unfoldable pub bits_set : List ℕ → ℕ
 bits_set [] = 0
 bits_set (n ∷ ns) = 2 ^ n + bits_set ns
 
-abbrev pub difference_of : Option Line → Difference
-difference_of none = difference.None
-difference_of (some (left_only i)) = difference.LeftOnly i
-difference_of (some (right_only i)) = difference.RightOnly i
-difference_of (some (changed i ns)) = difference.Changed i (bits_set ns)
+abbrev pub difference_of : Option Line → answer.Option Difference
+difference_of none = None
+difference_of (some (left_only i)) = Some (difference.LeftOnly i)
+difference_of (some (right_only i)) = Some (difference.RightOnly i)
+difference_of (some (changed i ns)) = Some (difference.Changed i (bits_set ns))
 
 abbrev pub has_bit : ℕ → ℕ → Bool
 has_bit m n = eqb (m / 2 ^ n % 2) 1
@@ -89,17 +91,17 @@ has_bit m n = eqb (m / 2 ^ n % 2) 1
 unfoldable pub numbers_of : ℕ → List ℕ
 numbers_of m = in_turn (λ n. pick (has_bit m n) (n ∷ []) []) 0 record_size
 
-abbrev pub line_told : Difference → Option Line
-line_told difference.None = none
-line_told (difference.LeftOnly i) = some (left_only i)
-line_told (difference.RightOnly i) = some (right_only i)
-line_told (difference.Changed i mask) = some (changed i (numbers_of mask))
+abbrev pub line_told : answer.Option Difference → Option Line
+line_told None = none
+line_told (Some (difference.LeftOnly i)) = some (left_only i)
+line_told (Some (difference.RightOnly i)) = some (right_only i)
+line_told (Some (difference.Changed i mask)) = some (changed i (numbers_of mask))
 
-abbrev pub id_told : Difference → ℕ
-id_told difference.None = 0
-id_told (difference.LeftOnly i) = i
-id_told (difference.RightOnly i) = i
-id_told (difference.Changed i mask) = i
+abbrev pub id_told : answer.Option Difference → ℕ
+id_told None = 0
+id_told (Some (difference.LeftOnly i)) = i
+id_told (Some (difference.RightOnly i)) = i
+id_told (Some (difference.Changed i mask)) = i
 
 unfoldable pub pair_number : List ℕ → List ℕ → ℕ
 pair_number l r = pick (eqb (sheet_number l) 0) (sheet_number r) (sheet_number l)

@@ -3,7 +3,8 @@
 --   line_own, line_few  ==  a line of an ID bears it, and an ID has at most one
 --   passed          ==  lines whose IDs are not above a number are passed over
 --   told_id         ==  what an answer tells as the ID of a line is that line's
---   above_id, told_above  ==  the line told has an ID above the number asked for, and an answer that tells an ID tells one above it
+--   above_id, told_above, told_higher  ==  the line told has an ID above the number asked for, and an answer that tells an ID tells one above it;
+--                   so does each difference that is answered
 --   none_above      ==  none is told exactly where no line's ID is above it
 --   lines_none, lines_some  ==  the first line above a number: there is none where no ID above it has one; the line of an ID where no ID
 --                           between them has one
@@ -25,6 +26,8 @@ use Rattle.graph.specs.Borne.{bears}
 use Rattle.layout.specs.FieldsLaws.{none_some, some_one}
 use Rattle.legal.specs.Sheet.{count_in, record_at, id_at}
 use Rattle.differences.specs.InTurn.{in_turn, AtMostOne}
+use Rattle.std.specs.declared.option.Option.TheVariants.{Some}
+use Rattle.differences.specs.declared.Difference.{Difference}
 use Rattle.differences.specs.InTurn.AtMostOne.{nothing, one}
 use Rattle.differences.specs.Lines.{Line, line_id, last_id, record_bearing, differing, changed_line, line_of, line_at, lines_of, first_above, difference_of, id_told}
 use Rattle.differences.specs.Lines.Line.{left_only, right_only, changed}
@@ -111,6 +114,13 @@ module _ (a : ℕ) where
       go : (o : Option Line) → ((x : Line) → o ≡ some x → a < line_id x) → (id_told (difference_of o) ≡ 0 → ⊥) → a < id_told (difference_of o)
       go none h n = absurd (n refl)
       go (some x) h n = rw (told_id x) (h x refl)
+
+  pub told_higher : (ls : List Line) (x : Difference) → Some x ≡ difference_of (first_above a ls) → a < id_told (Some x)
+  told_higher ls x = go (first_above a ls) (above_id ls)
+    where
+      go : (o : Option Line) → ((y : Line) → o ≡ some y → a < line_id y) → Some x ≡ difference_of o → a < id_told (Some x)
+      go none h e = let z : ◌≡◌ {A = ℕ} 0 1 = cc in absurd (omega arith)
+      go (some y) h e = let q : id_told (Some x) ≡ line_id y = ap id_told e ∙ told_id y in let m = h y refl in omega arith
 
   module _ (t : ℕ → List Line) (own : (i : ℕ) (x : Line) → x ∈ t i → line_id x ≡ i) where
     -- what an ID that is not above the number has is passed over

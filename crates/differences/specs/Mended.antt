@@ -6,12 +6,10 @@
 --   compared_as n x   ==  x as byte n is compared by
 --   same_compared, compared_same, reads_same_byte  ==  what is so compared is the same exactly where SameByte says so
 --   mended a         ==  the record a with a Selector's kind as 05
-use Rattle.std.specs.Prelude.{ℕ, ◌<◌, ◌≡◌, refl, Bool, true, false, ◌&&◌, ◌⊎◌, List, eqb, ltb, length, set}
-use Rattle.std.proofs.Common.{sym, ap, ◌∙◌, inl, inr, ⊎_elim, arith, length-set, get_or-set_same, get_or-set_other, ne_eqb}
-use Rattle.std.proofs.Math.ListN.{get_or-eq_default}
-use Rattle.ground.specs.Pick.{pick, no, Reads, reads_eq, reads_lt, reads_same, decided}
+use Rattle.std.specs.Prelude.{ℕ, ◌≡◌, refl, Bool, true, false, ◌&&◌, ◌⊎◌, List, eqb, set}
+use Rattle.std.proofs.Common.{sym, ap, ◌∙◌, inl, inr}
+use Rattle.ground.specs.Pick.{pick, Reads, reads_eq, reads_same}
 use Rattle.ground.specs.Numbers.{byte}
-use Rattle.legal.specs.Sheet.{id_of}
 
 abbrev pub kind_byte : ℕ
 kind_byte = 1

@@ -2,7 +2,7 @@
 // What changed between two sheets (document 02, No. 4). What it promises to the programs above: for every two slices, the number by which they
 // are refused as two sheets, 0 where they are; and, one after another by rising ID, each difference of their records and nothing else. Where
 // bytes are no sheet, an ID's record is the first that bears it, and the bytes behind the last whole record are in none.
-ghost use Rattle.std.specs.Prelude.{◌≡◌};
+ghost use Rattle.std.specs.Prelude.{◌≡◌, Some};
 ghost use Rattle.ground.specs.Numbers.{byte};
 ghost use Rattle.legal.specs.Sheet.{count_in, record_at, id_at};
 ghost use Rattle.differences.specs.Lines.{differs, differing, bits_set, lines_of, first_above, difference_of, id_told, pair_number};
@@ -25,8 +25,6 @@ const PRINTED: u8 = 0x15;
 // One ID's difference.
 #[derive(Clone, Copy)]
 pub enum Difference {
-    // No ID is left.
-    None,
     // This ID stands on the left only.
     LeftOnly(u8),
     // This ID stands on the right only.
@@ -36,17 +34,18 @@ pub enum Difference {
 }
 
 // The ID of a difference, 0 where there is none.
-pub fn id_of(difference: Difference) -> u8
+pub fn id_of(difference: Option<Difference>) -> u8
     ensures { result ≡ id_told difference }
 {
     match difference {
-        Difference::None => 0,
-        Difference::LeftOnly(id) => id,
-        Difference::RightOnly(id) => id,
-        Difference::Changed(id, _) => id,
+        None => 0,
+        Some(Difference::LeftOnly(id)) => id,
+        Some(Difference::RightOnly(id)) => id,
+        Some(Difference::Changed(id, _)) => id,
     }
 }
 
+// Stays: an ID above every other stands for none, so that two comparisons merge the sheets; an Option would need an arm for each pair of cases.
 // An ID and the first index at which it stands; NO_ID where there is none.
 #[derive(Clone, Copy)]
 struct Lowest {
@@ -54,6 +53,7 @@ struct Lowest {
     index: usize,
 }
 
+// Stays: `pair_number`, which the contract of `report::compare` names too, is 0 where both are sheets.
 // The refusal of two slices as two sheets: both of the left, then those of the right; 0 where both are sheets.
 pub fn check(left: &[u8], right: &[u8]) -> u8
     ensures { result ≡ pair_number left.now right.now }
@@ -88,11 +88,8 @@ fn lowest_above(s: &[u8], above: usize) -> Lowest
         id: NO_ID,
         index: 0,
     };
-    let mut i: usize = 0;
-    while i < n {
-        let next = lower(lowest, s[i * RECORD], i, above);
-        lowest = next;
-        i += 1;
+    for i in 0..n {
+        lowest = lower(lowest, s[i * RECORD], i, above);
     }
     lowest
 }
@@ -123,9 +120,7 @@ fn mask_of(a: &[u8], b: &[u8]) -> u32
     ensures { result ≡ bits_set (differing a.now b.now) }
 {
     let mut mask: u32 = 0;
-    let mut n = RECORD;
-    while 0 < n {
-        n -= 1;
+    for n in (0..RECORD).rev() {
         mask = mask * 2 + differs_at(a, b, n) as u32;
     }
     mask
@@ -143,8 +138,8 @@ fn changes(left: &[u8], i: usize, right: &[u8], j: usize) -> u32
     mask_of(&left[a..a_end], &right[b..b_end])
 }
 
-// The first difference whose ID is above a number.
-pub fn next(left: &[u8], right: &[u8], above: u8) -> Difference
+// The first difference whose ID is above a number; none where no ID is left.
+pub fn next(left: &[u8], right: &[u8], above: u8) -> Option<Difference>
     ensures { result ≡ difference_of (first_above above (lines_of left.now right.now)) }
 {
     let mut at = above as usize;
@@ -152,17 +147,17 @@ pub fn next(left: &[u8], right: &[u8], above: u8) -> Difference
         let l = lowest_above(left, at);
         let r = lowest_above(right, at);
         if l.id < r.id {
-            return Difference::LeftOnly(l.id as u8);
+            return Some(Difference::LeftOnly(l.id as u8));
         }
         if r.id < l.id {
-            return Difference::RightOnly(r.id as u8);
+            return Some(Difference::RightOnly(r.id as u8));
         }
         if l.id == NO_ID {
-            return Difference::None;
+            return None;
         }
         let mask = changes(left, l.index, right, r.index);
         if mask != 0 {
-            return Difference::Changed(l.id as u8, mask);
+            return Some(Difference::Changed(l.id as u8, mask));
         }
         at = l.id;
     }

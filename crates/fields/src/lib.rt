@@ -11,6 +11,7 @@ ghost use Rattle.fields.specs.Listed.{KindRead, ReadAs, blank_item};
 use layout::Entity;
 use scan::byte_at;
 
+// Stays: `blank_item`, which the lists of the layers above are filled up with, is an entity of no kind.
 // The numbers of a kind, in the order of its descriptor; the sources, the control bytes and the masks stand beside them.
 #[derive(Clone, Copy)]
 pub enum Numbers {
@@ -95,9 +96,7 @@ fn word_of(d: &[u8], at: usize) -> u16
     requires { at < 4096 }
     ensures { two_of result ≡ record { low = byte d.now at; high = byte d.now (at + 1) } }
 {
-    let low = byte_at(d, at) as u16;
-    let high = byte_at(d, at + 1) as u16;
-    low + high * 256
+    u16::from_le_bytes([byte_at(d, at), byte_at(d, at + 1)])
 }
 
 fn read_input(d: &[u8]) -> Item

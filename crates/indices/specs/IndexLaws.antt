@@ -2,7 +2,7 @@
 --   FirstIndex w ds q  ==  q is the index of the first of ds that is wrong by w
 --   indexed run r      ==  the refusal r, by the index of its entity
 --   indexed_refuse     ==  .. of refusals in a row
---   connected_refusal  ==  what connections answers is the first of 10 to 13 that applies
+--   connected_refusal, connected_kept  ==  what connections answers is the first of 10 to 13 that applies, or the clusters where none does
 --   indexed_judged     ==  so the rules 10 to 13 as connections computes them, by index, are connected_then
 --   index_own          ==  the index of an entity's place is its own, since places rise
 --   decides_index      ==  what decides a rule by place decides it by index
@@ -14,21 +14,19 @@
 use Prim.Native.Nat.{ℕ, ◌+◌, ◌≤◌, ◌<◌}
 use Rattle.std.proofs.Math.Path.{◌≡◌, refl, sym, ap}
 use Rattle.std.proofs.Common.{subst, ◌∙◌}
-use Rattle.std.specs.Prelude.{Bool, length, take}
-use Rattle.std.proofs.Math.Bool.{true, false}
+use Rattle.std.specs.Prelude.{length, take, Ok, Err, Option, Some, None}
 use mathlib.Core.List.{List, [], flatten, append-nil}
 use native.Mathlib.Omega.{arith}
 use Rattle.std.proofs.Math.Dec.{eqb}
-use borrow.Author.Tests.{eq-eqb, ne_eqb, eqb-true}
-use Rattle.ground.specs.declared.Place.{Place}
-use Rattle.ground.specs.declared.Place.TheVariants.{Nowhere, At}
+use borrow.Author.Tests.{eq-eqb, ne_eqb}
 use Rattle.ground.specs.declared.Refusal.{Refusal}
-use Rattle.ground.specs.Pick.{pick, yes, no}
+use Rattle.ground.specs.Pick.{pick, no}
 use Rattle.ground.specs.Lists.{total, total_rises}
 use Rattle.ground.specs.First.{Breaks, first_nowhere, first_at, sound_each}
 use Rattle.ground.specs.Places.{FirstPlace, first_some}
 use Rattle.ground.specs.Indexed.{WrongAt, breaks_index}
 use Rattle.ground.specs.Refuse.{none, refuse, Chain, chain_end, chain_more, chain_none}
+use Rattle.ground.specs.Told.{ok_told, err_told}
 use Rattle.ground.specs.Rows.{Rows, row, Decides, Answers}
 use Rattle.graph.specs.Members.{◌∈◌}
 use Rattle.scan.specs.Cutting.{Descriptor, rest}
@@ -55,8 +53,8 @@ use Rattle.ranks.specs.Order.{ordered}
 use Rattle.ranks.specs.Breach.{breach12}
 use Rattle.clusters.specs.Rule13.{Broken, Rule13}
 use Rattle.clusters.specs.Breach.{given_for, breach13}
-use Rattle.connections.specs.declared.Connected.{Connected}
-use Rattle.connections.specs.Judgement.{judged, connected_in, refused_by}
+use Rattle.layout.specs.declared.Cluster.{Cluster}
+use Rattle.connections.specs.Judgement.{judged, clusters_for, connected_in}
 use Rattle.connections.specs.JudgementLaws.{decides_10, decides_11, decides_12, decides_13, connected_chain}
 use Rattle.indices.specs.Indices.{index_at, index_in, connected_then, indexed_then}
 
@@ -66,19 +64,19 @@ FirstIndex Wrong ds q = FirstPlace (length ds) (λ i. i) (WrongAt Wrong ds) q
 abbrev pub indexed : Run → Refusal → Refusal
 indexed run r = pick (eqb r.number 0) r (record { number = r.number; place = index_at run r.place })
 
-pub indexed_refuse : (run : Run) (n : ℕ) → (n ≡ 0 → ⊥) → (b : Place) (r : Refusal) → indexed run (refuse n b r) ≡ refuse n (index_in run b) (indexed run r)
+pub indexed_refuse : (run : Run) (n : ℕ) → (n ≡ 0 → ⊥) → (b : Option ℕ) (r : Refusal) → indexed run (refuse n b r) ≡ refuse n (index_in run b) (indexed run r)
 unfolding refuse index_in
-indexed_refuse run n h Nowhere r = refl
-indexed_refuse run n h (At q) r = no _ _ (ne_eqb n 0 h)
+indexed_refuse run n h None r = refl
+indexed_refuse run n h (Some q) r = no _ _ (ne_eqb n 0 h)
 
 module _ (s : List ℕ) (run : Run) where
-  pub connected_refusal : (connected_in s run).refusal ≡ judged s run none
-  unfolding connected_in refused_by
-  connected_refusal = go (eqb (judged s run none).number 0) refl
-    where
-      go : (b : Bool) → eqb (judged s run none).number 0 ≡ b → (connected_in s run).refusal ≡ judged s run none
-      go true e = ap (λ (c : Connected). c.refusal) (yes _ _ e) ∙ sym (chain_none (judged s run) (connected_chain s run) (eqb-true _ _ e))
-      go false e = ap (λ (c : Connected). c.refusal) (no _ _ e)
+  pub connected_refusal : (q : Refusal) → Err q ≡ connected_in s run → (q.number ≡ 0 → ⊥) × (q ≡ judged s run none)
+  unfolding connected_in
+  connected_refusal q e = let m = err_told (judged s run none) (clusters_for s run) q e in (λ z. m.0 (ap (λ (r : Refusal). r.number) (sym m.1) ∙ z), m.1)
+
+  pub connected_kept : (cs : List Cluster) → Ok cs ≡ connected_in s run → judged s run none ≡ none
+  unfolding connected_in
+  connected_kept cs e = chain_none (judged s run) (connected_chain s run) (ok_told (judged s run none) (clusters_for s run) cs e).0
 
   pub indexed_judged : indexed run (judged s run none) ≡ connected_then s run none
   unfolding judged connected_then
@@ -102,28 +100,28 @@ module _ (ds : List (List ℕ)) (run : Run) (counted : held run ≡ length ds) (
         none_before = λ j l. ne_eqb (place_at run j) (0 + total (take i ds)) (λ e. let q = place j (omega arith) in let r = total_rises ds longer j i l (omega arith) in omega arith);
       })
 
-  module _ {b : Place} {K : Type 0} (Wrong : List (List ℕ) → List ℕ → Type 0) (t : Decides b K (Breaks Wrong 0 ds)) where
+  module _ {b : Option ℕ} {K : Type 0} (Wrong : List (List ℕ) → List ℕ → Type 0) (t : Decides b K (Breaks Wrong 0 ds)) where
     pub decides_index : Decides (index_in run b) K (FirstIndex Wrong ds)
     unfolding index_in
     decides_index = record { kept = (λ e. t.kept.0 (nowhere b e), λ h. ap (index_in run) (t.kept.1 h)); broken = λ q. (to q b refl, of q) }
       where
-        nowhere : (c : Place) → index_in run c ≡ Nowhere → c ≡ Nowhere
-        nowhere Nowhere e = refl
-        nowhere (At p) e = let z : ◌≡◌ {A = ℕ} 0 1 = cc in absurd (omega arith)
+        nowhere : (c : Option ℕ) → index_in run c ≡ None → c ≡ None
+        nowhere None e = refl
+        nowhere (Some p) e = let z : ◌≡◌ {A = ℕ} 0 1 = cc in absurd (omega arith)
 
-        to : (q : ℕ) (c : Place) → b ≡ c → index_in run c ≡ At q → FirstIndex Wrong ds q
-        to q Nowhere e f = let z : ◌≡◌ {A = ℕ} 0 1 = cc in absurd (omega arith)
-        to q (At p) e f =
+        to : (q : ℕ) (c : Option ℕ) → b ≡ c → index_in run c ≡ Some q → FirstIndex Wrong ds q
+        to q None e f = let z : ◌≡◌ {A = ℕ} 0 1 = cc in absurd (omega arith)
+        to q (Some p) e f =
             let w = (breaks_index Wrong 0 ds p).1 ((t.broken p).0 e) in
             let own : index_at run p ≡ w.offender = ap (index_at run) w.at ∙ index_own w.offender w.inside in
             let z : index_at run p ≡ q = cc in
             record { offender = w.offender; inside = w.inside; wrong = w.wrong; at = sym z ∙ own; none_before = w.none_before }
 
-        of : (q : ℕ) → FirstIndex Wrong ds q → index_in run b ≡ At q
+        of : (q : ℕ) → FirstIndex Wrong ds q → index_in run b ≡ Some q
         of q w =
             let p = 0 + total (take w.offender ds) in
-            let e : b ≡ At p = (t.broken p).1 ((breaks_index Wrong 0 ds p).0 (record { offender = w.offender; inside = w.inside; wrong = w.wrong; at = refl; none_before = w.none_before })) in
-            ap (index_in run) e ∙ ap At (index_own w.offender w.inside ∙ sym w.at)
+            let e : b ≡ Some p = (t.broken p).1 ((breaks_index Wrong 0 ds p).0 (record { offender = w.offender; inside = w.inside; wrong = w.wrong; at = refl; none_before = w.none_before })) in
+            ap (index_in run) e ∙ ap Some (index_own w.offender w.inside ∙ sym w.at)
 
 module _ (ds : List (List ℕ)) where
   abbrev pub indexed_rows : (Rule10 ds → Rule11 audio ds → Rule12 audio ds → Rule13 audio ds → Rows) → Rows
@@ -143,20 +141,20 @@ module _ (ds : List (List ℕ)) where
     all : rest s 0 ≡ ds
     all = cutting_rest s ds (record { whole = refl; each = cut })
 
-    first_wrong : searched (λ b d. is_wrong d) s 0 ≡ Nowhere
+    first_wrong : searched (λ b d. is_wrong d) s 0 ≡ None
     unfolding searched
     first_wrong = (first_nowhere (λ b d. is_wrong d) (λ b d. WrongLayout audio d) (λ b d. reads_wrong d) 0 (rest s 0)).1 (rw all ((sound_each (WrongLayout audio) ds).1 right))
 
     -- what has none of the layouts is the printed Selector, where nothing is wrong
     unlaid_printed : (walk_of s 0).unlaid ≡ searched (λ b d. is_printed d) s 0
     unfolding walk_of unlaid_refused refuse
-    unlaid_printed = go (searched (λ b d. is_unknown (entity_of d)) s 0) (searched (λ b d. is_printed d) s 0) (unlaid_judged s 0 ∙ ap (λ (w : Place). refuse 9 w (refuse 17 (searched (λ b d. is_printed d) s 0) none)) first_wrong)
+    unlaid_printed = go (searched (λ b d. is_unknown (entity_of d)) s 0) (searched (λ b d. is_printed d) s 0) (unlaid_judged s 0 ∙ ap (λ (w : Option ℕ). refuse 9 w (refuse 17 (searched (λ b d. is_printed d) s 0) none)) first_wrong)
       where
-        go : (u p : Place) → unlaid_refused s 0 u ≡ refuse 9 Nowhere (refuse 17 p none) → u ≡ p
-        go Nowhere Nowhere e = refl
-        go Nowhere (At q) e = let z : ◌≡◌ {A = ℕ} 0 17 = ap (λ (r : Refusal). r.number) e in absurd (omega arith)
-        go (At p) Nowhere e = let z : ◌≡◌ {A = ℕ} 17 0 = ap (λ (r : Refusal). r.number) (sym (ap (λ (w : Place). refuse 9 w (refuse 17 (At p) none)) first_wrong) ∙ e) in absurd (omega arith)
-        go (At p) (At q) e = ap At (ap (λ (r : Refusal). r.place) (sym (ap (λ (w : Place). refuse 9 w (refuse 17 (At p) none)) first_wrong) ∙ e))
+        go : (u p : Option ℕ) → unlaid_refused s 0 u ≡ refuse 9 None (refuse 17 p none) → u ≡ p
+        go None None e = refl
+        go None (Some q) e = let z : ◌≡◌ {A = ℕ} 0 17 = ap (λ (r : Refusal). r.number) e in absurd (omega arith)
+        go (Some p) None e = let z : ◌≡◌ {A = ℕ} 17 0 = ap (λ (r : Refusal). r.number) (sym (ap (λ (w : Option ℕ). refuse 9 w (refuse 17 (Some p) none)) first_wrong) ∙ e) in absurd (omega arith)
+        go (Some p) (Some q) e = ap Some (ap (λ (r : Refusal). r.place) (sym (ap (λ (w : Option ℕ). refuse 9 w (refuse 17 (Some p) none)) first_wrong) ∙ e))
 
     decides_17 : Decides (walk_of s 0).unlaid (NoneWithdrawn audio ds) (Breaks (λ b d. audio.Withdrawn d) 0 ds)
     unfolding searched
@@ -188,7 +186,7 @@ module _ (ds : List (List ℕ)) where
     unfolding indexed_then connected_then
     judged_rows_lem behind r h = rw run_read (index_in run (walk_of s 0).unlaid, connected_then s run r, refl, by_index (λ b d. audio.Withdrawn d) decides_17, λ w. connected w)
       where
-        by_index : {b : Place} {K : Type 0} (Wrong : List (List ℕ) → List ℕ → Type 0) → Decides b K (Breaks Wrong 0 ds) → Decides (index_in run b) K (FirstIndex Wrong ds)
+        by_index : {b : Option ℕ} {K : Type 0} (Wrong : List (List ℕ) → List ℕ → Type 0) → Decides b K (Breaks Wrong 0 ds) → Decides (index_in run b) K (FirstIndex Wrong ds)
         by_index Wrong t = decides_index ds run counted place cut Wrong t
 
         stands : NoneWithdrawn audio ds → Represents audio s 0 ds run

@@ -4,9 +4,7 @@
 --   connected_then s run r  ==  the first of 10 to 13 that applies to the run, which was read from s, so; r where none does
 --   indexed_then s r  ==  the first of 17 and 10 to 13 that applies to the descriptors that stand in s one behind another, at the index of its entity;
 --                       what r says where none does
-use Rattle.std.specs.Prelude.{ℕ, List, eqb}
-use Rattle.ground.specs.declared.Place.{Place}
-use Rattle.ground.specs.declared.Place.TheVariants.{Nowhere, At}
+use Rattle.std.specs.Prelude.{ℕ, List, eqb, Option, Some, None}
 use Rattle.ground.specs.declared.Refusal.{Refusal}
 use Rattle.ground.specs.Places.{first_in}
 use Rattle.ground.specs.Refuse.{refuse}
@@ -21,9 +19,9 @@ use Rattle.clusters.specs.Breach.{given_for, breach13}
 unfoldable pub index_at : Run → ℕ → ℕ
 index_at run q = first_in (λ i. eqb (place_at run i) q) (λ i. i) 0 0 (held run)
 
-unfoldable pub index_in : Run → Place → Place
-index_in run Nowhere = Nowhere
-index_in run (At q) = At (index_at run q)
+unfoldable pub index_in : Run → Option ℕ → Option ℕ
+index_in run None = None
+index_in run (Some q) = Some (index_at run q)
 
 -- the rules 10 to 13 of a run that was read from s
 unfoldable pub connected_then : List ℕ → Run → Refusal → Refusal

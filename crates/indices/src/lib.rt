@@ -7,43 +7,43 @@ ghost use Rattle.ground.specs.Refuse.{none};
 ghost use Rattle.indices.specs.Indices.{index_at, indexed_then};
 
 use entities::Run;
-use ground::{Place, Refusal};
+use ground::Refusal;
 
 // The index of the entity of a run that stands at a place.
+// Stays: 0 where none stands there, since index_at of specs/Indices is.
 fn index_at(run: Run, place: usize) -> usize
     ensures { result ≡ index_at run place }
 {
     let n = entities::count(run);
-    let mut i: usize = 0;
-    while i < n {
+    for i in 0..n {
         if run.nodes[i].place == place {
             return i;
         }
-        i += 1;
     }
     0
 }
 
 // The first of 17 and 10 to 13 that descriptors, one behind another, are refused by, at the index of its entity.
+// Stays: a Refusal that may refuse nothing, since the clause names indexed_then, which the writer's verdict is made of.
 pub fn judge(s: &[u8]) -> Refusal
     ensures { result ≡ indexed_then s.now none }
 {
     let walk = entities::read_run(s, 0);
     let run = walk.run;
-    let unlaid = walk.unlaid;
-    if let Place::At(place) = unlaid {
+    if let Some(place) = walk.unlaid {
         return Refusal {
             number: 17,
             place: index_at(run, place),
         };
     }
-    let connected = connections::judge(s, run);
-    let refusal = connected.refusal;
-    if refusal.number == 0 {
-        return refusal;
-    }
-    Refusal {
-        number: refusal.number,
-        place: index_at(run, refusal.place),
+    match connections::judge(s, run) {
+        Ok(_) => Refusal {
+            number: 0,
+            place: 0,
+        },
+        Err(refusal) => Refusal {
+            number: refusal.number,
+            place: index_at(run, refusal.place),
+        },
     }
 }

@@ -1,6 +1,6 @@
 -- Laws of laying: lengths by kind, what is pasted part by part, and the ways out.
 --   short_some, short_none  ==  a length up to 255, and one past it
---   short_told      ==  a length that is not 0 is the descriptor's, and no more than 255
+--   short_told, long_told  ==  a length that there is is the descriptor's, and no more than 255; where there is none it is more
 --   long_mixer, long_selector, long_feature, long_printed  ==  how long a descriptor is, by the kinds whose length varies
 --   pasted_two, pasted_three  ==  two, three stretches pasted one behind another are pasted together
 --   mixer_pasted    ==  a Mixer's parts pasted one behind another are its descriptor
@@ -13,28 +13,37 @@ use Rattle.std.proofs.Math.Path.{refl, sym}
 use mathlib.Core.List.{List, [], ◌∷◌, ◌++◌}
 use Rattle.std.proofs.Math.ListN.{length}
 use Rattle.std.proofs.lemmas.Bool.{lt-leb}
+use Rattle.std.specs.declared.option.Option.TheVariants.{None, Some}
 use Rattle.ground.specs.Pick.{pick, yes, no, Reads, shows, refutes, reads_and, reads_le}
 use Rattle.layout.specs.Format.{TwoBytes, two_of}
 use Rattle.layout.specs.Fields.{mixer, selector, feature, bytes_of}
 use Rattle.fields.specs.Listed.{printed, written_as}
-use Rattle.laying.specs.Paste.{pasted, pasted_in, pasted_append, pasted_length, pasted_none}
+use Rattle.laying.specs.Paste.{pasted, pasted_in, pasted_append, pasted_length}
 use Rattle.laying.specs.Laying.{short_of, fits_at, laid_size, laid_in, Lay}
 
-pub short_some : (n : ℕ) → n ≤ 255 → n ≡ short_of n
+pub short_some : (n : ℕ) → n ≤ 255 → Some n ≡ short_of n
 unfolding short_of
 short_some n h = sym (yes _ _ (le-leb _ _ h))
 
-pub short_none : (n : ℕ) → 255 < n → 0 ≡ short_of n
+pub short_none : (n : ℕ) → 255 < n → None ≡ short_of n
 unfolding short_of
 short_none n h = sym (no _ _ (lt-leb _ _ h))
 
-pub short_told : (n r : ℕ) → r ≡ short_of n → (r ≡ 0 → ⊥) → (r ≡ n) × (n ≤ 255)
+pub short_told : (n r : ℕ) → Some r ≡ short_of n → (r ≡ n) × (n ≤ 255)
 unfolding short_of
-short_told n r e z = go (leb n 255) refl e
+short_told n r = go (leb n 255) refl
   where
-    go : (b : Bool) → leb n 255 ≡ b → r ≡ pick b n 0 → (r ≡ n) × (n ≤ 255)
-    go true t q = (q, leb-true _ _ t)
-    go false t q = absurd (z q)
+    go : (b : Bool) → leb n 255 ≡ b → Some r ≡ pick b (Some n) None → (r ≡ n) × (n ≤ 255)
+    go true t e = let q : r ≡ n = cc in (q, leb-true _ _ t)
+    go false t e = let z : ◌≡◌ {A = ℕ} 0 1 = cc in absurd (omega arith)
+
+pub long_told : (n : ℕ) → None ≡ short_of n → 255 < n
+unfolding short_of
+long_told n = go (leb n 255) refl
+  where
+    go : (b : Bool) → leb n 255 ≡ b → None ≡ pick b (Some n) None → 255 < n
+    go true t e = let z : ◌≡◌ {A = ℕ} 0 1 = cc in absurd (omega arith)
+    go false t e = leb-false _ _ t
 
 pub long_selector : (i n : ℕ) (s : List ℕ) → length (bytes_of (selector i s n)) ≡ 6 + length s
 long_selector i n s = let o = length-append s (n ∷ []) in omega arith
@@ -106,47 +115,24 @@ module _ (x : List ℕ) (at : ℕ) (d : List ℕ) where
   unfolding laid_size laid_in
   lay_nothing h = let t = refutes reads_fits h in record { size = sym (no _ _ t); lent = sym (no _ _ t) }
 
-  pub lay_none : (n : ℕ) → n ≡ short_of (length x) → n ≡ 0 → Lay x at d d 0
-  unfolding short_of laid_size laid_in fits_at
-  lay_none n e z = go (leb (length x) 255) refl (sym z ∙ e)
-    where
-      empty : (l : List ℕ) → 0 ≡ length l → l ≡ []
-      empty [] h = refl
-      empty (a ∷ l) h = absurd (omega arith)
+  pub lay_none : None ≡ short_of (length x) → Lay x at d d 0
+  lay_none e = let l = long_told (length x) e in lay_nothing (λ h. let m = h.0 in omega arith)
 
-      go : (b : Bool) → leb (length x) 255 ≡ b → 0 ≡ pick b (length x) 0 → Lay x at d d 0
-      go false t q = let l : 255 < length x = leb-false _ _ t in lay_nothing (λ h. let m = h.0 in omega arith)
-      go true t q = record { size = size; lent = lent }
-        where
-          size : 0 ≡ laid_size x at (length d)
-          size = zero_pick (fits_at x at (length d))
-            where
-              zero_pick : (b : Bool) → 0 ≡ pick b (length x) 0
-              zero_pick true = q
-              zero_pick false = refl
-
-          lent : d ≡ laid_in x at d
-          lent = same (fits_at x at (length d))
-            where
-              same : (b : Bool) → d ≡ pick b (pasted at x d) d
-              same true = sym (ap (λ (l : List ℕ). pasted at l d) (empty x q) ∙ pasted_none at d)
-              same false = refl
-
-  module _ (n : ℕ) (e : n ≡ short_of (length x)) (z : n ≡ 0 → ⊥) where
+  module _ (n : ℕ) (e : Some n ≡ short_of (length x)) where
     pub lay_short : length d < n → Lay x at d d 0
-    lay_short h = let t = short_told (length x) n e z in lay_nothing (λ k. let q = t.0 in let r = k.1 in omega arith)
+    lay_short h = let t = short_told (length x) n e in lay_nothing (λ k. let q = t.0 in let r = k.1 in omega arith)
 
     pub lay_behind : length d - n < at → Lay x at d d 0
-    lay_behind h = let t = short_told (length x) n e z in lay_nothing (λ k. let q = t.0 in let r = k.1 in omega arith)
+    lay_behind h = let t = short_told (length x) n e in lay_nothing (λ k. let q = t.0 in let r = k.1 in omega arith)
 
     pub lay_small : length x ≤ 255
-    lay_small = (short_told (length x) n e z).1
+    lay_small = (short_told (length x) n e).1
 
     pub lay_room : n ≤ length d → at ≤ length d - n → at + length x ≤ length d
-    lay_room h k = let t = (short_told (length x) n e z).0 in omega arith
+    lay_room h k = let t = (short_told (length x) n e).0 in omega arith
 
     pub lay_done : (g : List ℕ) → n ≤ length d → at ≤ length d - n → g ≡ pasted at x d → Lay x at d g n
     unfolding laid_size laid_in
     lay_done g h k p =
         let t = shows reads_fits (lay_small, lay_room h k) in
-        record { size = (short_told (length x) n e z).0 ∙ sym (yes _ _ t); lent = p ∙ sym (yes _ _ t) }
+        record { size = (short_told (length x) n e).0 ∙ sym (yes _ _ t); lent = p ∙ sym (yes _ _ t) }

@@ -22,11 +22,8 @@ fn put(from: &[u8], out: &mut [u8], at: usize)
     requires { at + length from.now ≤ length out.old }
     ensures { out.new ≡ pasted at from.now out.old }
 {
-    let mut i: usize = 0;
-    while i < from.len() {
-        out[at + i] = from[i];
-        i += 1;
-    }
+    let end = at + from.len();
+    out[at..end].copy_from_slice(from);
 }
 
 // Bytes put at a place of a buffer, or nothing where they do not fit from there on.
@@ -53,6 +50,7 @@ fn put_three(head: &[u8], varying: &[u8], tail: &[u8], out: &mut [u8], at: usize
     put(tail, out, behind + varying.len());
 }
 
+// Stays: a struct for the fields would be filled from `Numbers::Input` in `put_entity` and read here, once each.
 fn put_input(
     id: u8,
     terminal: u16,
@@ -67,10 +65,8 @@ fn put_input(
     requires { at + 12 ≤ length out.old }
     ensures { out.new ≡ pasted at (bytes_of (input id (two_of terminal) paired channels (two_of locations) names name)) out.old }
 {
-    let type_low = (terminal % 256) as u8;
-    let type_high = (terminal / 256) as u8;
-    let low = (locations % 256) as u8;
-    let high = (locations / 256) as u8;
+    let [type_low, type_high] = terminal.to_le_bytes();
+    let [low, high] = locations.to_le_bytes();
     let bytes = [
         12, CLASS, 2, id, type_low, type_high, paired, channels, low, high, names, name,
     ];
@@ -81,12 +77,12 @@ fn put_output(id: u8, terminal: u16, paired: u8, source: u8, name: u8, out: &mut
     requires { at + 9 ≤ length out.old }
     ensures { out.new ≡ pasted at (bytes_of (output id (two_of terminal) paired source name)) out.old }
 {
-    let low = (terminal % 256) as u8;
-    let high = (terminal / 256) as u8;
+    let [low, high] = terminal.to_le_bytes();
     let bytes = [9, CLASS, 3, id, low, high, paired, source, name];
     put(&bytes, out, at);
 }
 
+// Stays: a struct for the fields would be filled from `Numbers::Mixer` in `put_entity` and read here, once each.
 fn put_mixer(
     id: u8,
     sources: &[u8],
@@ -104,8 +100,7 @@ fn put_mixer(
 {
     let pins = sources.len();
     let n = 10 + pins + controls.len();
-    let low = (locations % 256) as u8;
-    let high = (locations / 256) as u8;
+    let [low, high] = locations.to_le_bytes();
     let head = [n as u8, CLASS, 4, id, pins as u8];
     let cluster = [channels, low, high, names];
     let tail = [name];
@@ -150,30 +145,30 @@ fn put_printed(id: u8, sources: &[u8], name: u8, out: &mut [u8], at: usize)
     put_three(&head, sources, &tail, out, at);
 }
 
-// A length of so many bytes and two stretches; 0 where it passes 255.
-fn sized(fixed: usize, first: usize, second: usize) -> usize
+// A length of so many bytes and two stretches; none where it passes 255.
+fn sized(fixed: usize, first: usize, second: usize) -> Option<usize>
     requires { fixed ≤ 12 }
     ensures { result ≡ short_of (fixed + first + second) }
 {
     if MOST_LONG < first {
-        return 0;
+        return None;
     }
     if MOST_LONG < second {
-        return 0;
+        return None;
     }
     let n = fixed + first + second;
     if MOST_LONG < n {
-        return 0;
+        return None;
     }
-    n
+    Some(n)
 }
 
-// The length of an entity's descriptor; 0 where it passes 255, and where there is none.
-fn size_of(numbers: Numbers, sources: &[u8], controls: &[u8]) -> usize
+// The length of an entity's descriptor; none where it passes 255. An entity of no kind has no bytes.
+fn size_of(numbers: Numbers, sources: &[u8], controls: &[u8]) -> Option<usize>
     ensures { result ≡ short_of (length (written_as (entity_from numbers sources.now controls.now))) }
 {
     match numbers {
-        Numbers::Unknown => 0,
+        Numbers::Unknown => sized(0, 0, 0),
         Numbers::Input { .. } => sized(12, 0, 0),
         Numbers::Output { .. } => sized(9, 0, 0),
         Numbers::Mixer { .. } => sized(10, sources.len(), controls.len()),
@@ -225,6 +220,7 @@ fn put_entity(numbers: Numbers, sources: &[u8], controls: &[u8], out: &mut [u8],
     }
 }
 
+// Stays: `Lay`, in this contract and the layer above, is over a number, 0 where nothing is laid.
 // Lays the descriptor of an entity, whose sources and control bytes or masks stand in a lent slice, at a place of the buffer, and answers how
 // many bytes it has: none, and the buffer as it stood, where they would pass 255 or have no room.
 pub fn lay(item: Item, varying: &[u8], out: &mut [u8], at: usize) -> usize
@@ -233,10 +229,9 @@ pub fn lay(item: Item, varying: &[u8], out: &mut [u8], at: usize) -> usize
     let sources = scan::stretch(varying, item.sources.from, item.sources.end);
     let controls = scan::stretch(varying, item.controls.from, item.controls.end);
     let numbers = item.numbers;
-    let n = size_of(numbers, sources, controls);
-    if n == 0 {
+    let Some(n) = size_of(numbers, sources, controls) else {
         return 0;
-    }
+    };
     if out.len() < n {
         return 0;
     }

@@ -24,6 +24,7 @@ pub const OLD_RECORD: usize = 16;
 pub const MOST_BYTES: usize = MOST_ENTITIES * RECORD;
 
 // The bytes of a record.
+#[tactic(auto, unfolding(crate::specs::Forms::record_size_of))]
 pub fn record_size(form: Form) -> usize
     ensures { result ≡ record_size_of form }
 {
@@ -34,6 +35,8 @@ pub fn record_size(form: Form) -> usize
 }
 
 // How many records stand in bytes.
+// Stays: a match, and in rest another: each arm divides by a constant, as the small box, which has no divider, asks of all code.
+#[tactic(auto, unfolding(crate::specs::Forms::record_size_of))]
 pub fn count(s: &[u8], form: Form) -> usize
     ensures { result ≡ count_by (record_size_of form) s.now }
 {
@@ -44,6 +47,7 @@ pub fn count(s: &[u8], form: Form) -> usize
 }
 
 // How many bytes stand behind the last whole record.
+#[tactic(auto, unfolding(crate::specs::Forms::record_size_of))]
 fn rest(s: &[u8], form: Form) -> usize
     ensures { result ≡ length s.now % record_size_of form }
 {
@@ -59,39 +63,34 @@ fn has_bad_id(s: &[u8], n: usize, size: usize) -> bool
     ensures { result ≡ bad_ids_by size s.now }
 {
     let mut borne = [false; 256];
-    let mut i: usize = 0;
-    while i < n {
+    for i in 0..n {
         let id = index_of(s[i * size]);
-        if id == 0 {
-            return true;
-        }
-        if borne[id] {
+        if id == 0 || borne[id] {
             return true;
         }
         borne[id] = true;
-        i += 1;
     }
     false
 }
 
 // The refusal of bytes as a sheet of a form: 41 or 42, 0 where they are one.
+// Stays: a number with 0 for none, no Result, for number_by of specs/Sheet is that number.
+#[tactic(auto, using(crate::specs::Forms::record_size_most, crate::proofs::NumberLemmas::number_tests))]
 pub fn refusal_in(s: &[u8], form: Form) -> u8
     ensures { result ≡ number_by (record_size_of form) s.now }
 {
     let size = record_size(form);
-    if MOST_ENTITIES * size < s.len() {
-        return 41;
+    if MOST_ENTITIES * size < s.len() || rest(s, form) != 0 {
+        41
+    } else if has_bad_id(s, count(s, form), size) {
+        42
+    } else {
+        0
     }
-    if rest(s, form) != 0 {
-        return 41;
-    }
-    if has_bad_id(s, count(s, form), size) {
-        return 42;
-    }
-    0
 }
 
 // .. of the form that the reader writes.
+#[tactic(auto, unfolding(crate::specs::Forms::record_size_of))]
 pub fn refusal(s: &[u8]) -> u8
     ensures { result ≡ sheet_number s.now }
 {

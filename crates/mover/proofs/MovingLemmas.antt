@@ -3,25 +3,23 @@
 --   moved_resized, moved_long  ==  the moved sheet as records of another size; its length
 --   move_judged, judged_move ==  THE LAW: the number is the one that the paper gives, and there is no other
 --   unrefused_short, unrefused_room  ==  what is moved is so, and has room
-use Rattle.std.specs.Prelude.{ℕ, ◌+◌, ◌*◌, ◌≤◌, ◌<◌, ◌≡◌, Bool, not, replicate, eqb, ltb}
+use Rattle.std.specs.Prelude.{ℕ, ◌*◌, ◌≤◌, ◌<◌, ◌≡◌, Bool, replicate, eqb, ltb}
 use Rattle.std.proofs.Math.Path.{refl, ap}
 use Rattle.std.proofs.Common.{sym, ◌∙◌, arith, take_all, eq-eqb, ne_eqb}
 use Rattle.std.proofs.Math.Bool.{true, false}
 use mathlib.Core.List.{List, ◌++◌, flatten}
 use Rattle.std.proofs.Math.ListN.{length}
-use Rattle.ground.specs.Pick.{pick, yes, no, Reads, shows, refutes, reads_lt, reads_eq, reads_not, true≠false}
-use Rattle.ground.specs.Numbers.{byte}
-use Rattle.ground.specs.Places.{reads_somewhere}
+use Rattle.ground.specs.Pick.{pick, yes, no, Reads, shows, refutes, reads_lt, reads_eq}
 use Rattle.ground.specs.Lists.{pad, pad_full, pad_more}
 use Rattle.graph.specs.Tables.{tabulate_same, map_tabulate}
 use Rattle.legal.specs.declared.Form.{Form}
 use Rattle.legal.specs.declared.Form.TheVariants.{Old, New}
-use Rattle.legal.specs.Forms.{old_size, record_size_of, record_size_most}
+use Rattle.legal.specs.Forms.{old_size, record_size_of}
 use Rattle.legal.specs.Sheet.JudgedBy.{sheet}
-use Rattle.legal.specs.Sheet.{most_sheet, count_in, count_by, record_at, record_by, records_by, SheetBy, number_by}
-use Rattle.legal.specs.SheetLaws.{sheet_judged, judged_one, sheet_given, record_long}
+use Rattle.legal.specs.Sheet.{most_sheet, count_by, record_by, records_by, SheetBy, number_by}
+use Rattle.legal.specs.SheetLaws.{sheet_judged, judged_one, record_long}
 use Rattle.mover.specs.Moving.JudgedMove.{by_form, by_more, by_room, moved}
-use Rattle.mover.specs.Moving.{other_of, more_bytes, record_to, moved_to, HasMore, LosesTo, JudgedMove, has_more, loses_more, loses_to, move_number}
+use Rattle.mover.specs.Moving.{other_of, more_bytes, record_to, moved_to, LosesTo, JudgedMove, loses_to, move_number}
 use Rattle.mover.specs.Laid.{resized, resized_long}
 use Rattle.mover.specs.MovingLaws.{reads_loses, short, moved_sheet}
 

@@ -2,26 +2,19 @@
 --   reads_more, reads_loses  ==  what the tests of 43 decide
 --   moved_short     ==  what is refused by neither 41 nor 42 is no longer than a sheet of the new form
 --   short, moved_sheet  ==  a sheet of the new form is no longer than the longest; what 41 does not refuse is a sheet of it
-use Rattle.std.specs.Prelude.{ℕ, ◌+◌, ◌*◌, ◌≤◌, ◌<◌, ◌≡◌, Bool, not, replicate, eqb, ltb}
-use Rattle.std.proofs.Math.Path.{refl, ap}
-use Rattle.std.proofs.Common.{sym, ◌∙◌, arith, take_all, eq-eqb, ne_eqb}
-use Rattle.std.proofs.Math.Bool.{true, false}
-use mathlib.Core.List.{List, ◌++◌, flatten}
+use Rattle.std.specs.Prelude.{ℕ, ◌+◌, ◌≤◌, ◌≡◌, not, eqb}
+use Rattle.std.proofs.Common.{sym, arith}
+use mathlib.Core.List.{List}
 use Rattle.std.proofs.Math.ListN.{length}
-use Rattle.ground.specs.Pick.{pick, yes, no, Reads, shows, refutes, reads_lt, reads_eq, reads_not, true≠false}
+use Rattle.ground.specs.Pick.{Reads, reads_eq, reads_not, true≠false}
 use Rattle.ground.specs.Numbers.{byte}
 use Rattle.ground.specs.Places.{reads_somewhere}
-use Rattle.ground.specs.Lists.{pad, pad_full, pad_more}
-use Rattle.graph.specs.Tables.{tabulate_same, map_tabulate}
 use Rattle.legal.specs.declared.Form.{Form}
 use Rattle.legal.specs.declared.Form.TheVariants.{Old, New}
 use Rattle.legal.specs.Forms.{old_size, record_size_of, record_size_most}
-use Rattle.legal.specs.Sheet.JudgedBy.{sheet}
-use Rattle.legal.specs.Sheet.{most_sheet, count_in, count_by, record_at, record_by, records_by, SheetBy, number_by}
-use Rattle.legal.specs.SheetLaws.{sheet_judged, judged_one, sheet_given, record_long}
-use Rattle.mover.specs.Moving.JudgedMove.{by_form, by_more, by_room, moved}
-use Rattle.mover.specs.Moving.{other_of, more_bytes, record_to, moved_to, HasMore, LosesTo, JudgedMove, has_more, loses_more, loses_to, move_number}
-use Rattle.mover.specs.Laid.{resized, resized_long}
+use Rattle.legal.specs.Sheet.{most_sheet, count_in, record_at, SheetBy, number_by}
+use Rattle.legal.specs.SheetLaws.{sheet_judged, sheet_given}
+use Rattle.mover.specs.Moving.{other_of, more_bytes, HasMore, LosesTo, has_more, loses_more, loses_to}
 
 pub reads_more : (a : List ℕ) → Reads (has_more a) (HasMore a)
 unfolding has_more

@@ -2,18 +2,16 @@
 // "A mover turns an old sheet into a new one and back" (document 02, No. 7). What it promises to the programs above: for every form, sheet and
 // lent room, the number by which the move is refused, 0 where it is not; the moved sheet in the front of the room, whose bytes past it stay; and
 // how many bytes were written. A refusal writes nothing.
-ghost use Rattle.std.specs.Prelude.{◌≡◌, ◌*◌, ◌≤◌, ◌++◌, length, drop};
+ghost use Rattle.std.specs.Prelude.{◌≡◌, ◌==◌, ◌*◌, ◌≤◌, ◌++◌, not, length, drop};
+ghost use Rattle.std.specs.List.{list_any};
 ghost use Rattle.legal.specs.Sheet.{most_sheet};
 ghost use Rattle.mover.specs.Moving.{other_of, has_more, loses_more, loses_to, moved_to, move_number, Move};
 ghost use Rattle.mover.specs.Laid.{Room, resized};
 
 use legal::{Form, OLD_RECORD};
 use records::RECORD;
-use scan::byte_at;
 
-// The bytes that a record of the new form has more.
-const MORE: usize = RECORD - OLD_RECORD;
-
+// Stays: `Move`, the contract of `move_to`, tells the number, 0 of no refusal, and the bytes written.
 // What a move answers: the number of its refusal, 0 where there is none, and how many bytes of the room it wrote.
 #[derive(Clone, Copy)]
 pub struct Moved {
@@ -31,18 +29,18 @@ fn other(form: Form) -> Form
     }
 }
 
+// Whether one of some bytes is other than 00.
+fn any_set(bytes: &[u8]) -> bool
+    ensures { result ≡ list_any (λ x. not (x == 0)) bytes.now }
+{
+    bytes.iter().any(|byte| *byte != 0)
+}
+
 // Whether a record of the new form has a byte other than 00 in its last sixteen.
 fn has_more(a: &[u8]) -> bool
     ensures { result ≡ has_more a.now }
 {
-    let mut n: usize = 0;
-    while n < MORE {
-        if byte_at(a, OLD_RECORD + n) != 0 {
-            return true;
-        }
-        n += 1;
-    }
-    false
+    any_set(scan::stretch(a, OLD_RECORD, RECORD))
 }
 
 // .. whether some record has.
@@ -50,14 +48,12 @@ fn loses_more(s: &[u8]) -> bool
     ensures { result ≡ loses_more s.now }
 {
     let n = s.len() / RECORD;
-    let mut i: usize = 0;
-    while i < n {
+    for i in 0..n {
         let at = i * RECORD;
         let end = at + RECORD;
         if has_more(&s[at..end]) {
             return true;
         }
-        i += 1;
     }
     false
 }
@@ -80,6 +76,7 @@ fn moved_size(form: Form, s: &[u8]) -> usize
     legal::count(s, other(form)) * legal::record_size(form)
 }
 
+// Stays: `Move` tells this very number, 0 of no refusal, as `move_number` does, so that a Result would only be turned back into it.
 // The refusal of a move with so many bytes lent.
 fn number_of(form: Form, s: &[u8], room: usize) -> u8
     ensures { result ≡ move_number form s.now room }
@@ -103,14 +100,12 @@ fn put_records(s: &[u8], from: usize, room: &mut [u8], to: usize, n: usize)
     requires { Room (length s.now) from (length room.old) to n }
     ensures { room.new ≡ resized from to s.now n ++ drop (n * to) room.old }
 {
-    let mut i: usize = 0;
-    while i < n {
+    for i in 0..n {
         let taken = i * from;
         let put = i * to;
         let taken_end = taken + from;
         let put_end = put + to;
         records::fill(&mut room[put..put_end], &s[taken..taken_end]);
-        i += 1;
     }
 }
 

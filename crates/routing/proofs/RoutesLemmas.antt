@@ -2,25 +2,18 @@
 --   ways_only, ways_each  ==  the ways upstream of an entity, and its routes
 --   listed_one      ==  two lists of each route exactly once, in the order of pins, are the same
 --   route_upstream  ==  a route is a chain of sources
-use Prim.Native.Nat.{ℕ, zero, suc, ◌-◌, ◌≤◌, ◌<◌}
-use Rattle.std.specs.Prelude.{◌≡◌, true, ◌↔◌}
+use Prim.Native.Nat.{ℕ, zero, suc, ◌≤◌, ◌<◌}
+use Rattle.std.specs.Prelude.{◌≡◌}
 use Rattle.std.proofs.Math.Path.{refl, sym, ap, subst}
 use Rattle.std.proofs.Common.{◌∙◌, zero-add, le_of_suc-le-suc}
-use Rattle.std.proofs.Math.Bool.{false}
 use Rattle.std.proofs.Math.Logic.{⊎_elim}
 use mathlib.Core.List.Memᴰ
 use mathlib.Core.List.{List, [], ◌∷◌}
 use native.Mathlib.Omega.{arith}
 use Rattle.std.proofs.Math.ListN.{length, get_or}
-use Rattle.ground.specs.Pick.{true≠false}
-use Rattle.ground.specs.Lists.{Some, member_at}
+use Rattle.ground.specs.Lists.{SomeOf, member_at}
 use Rattle.graph.specs.Members.{◌∈◌}
-use Rattle.layout.specs.declared.Entity.{Entity}
-use Rattle.layout.specs.Layout.{entity_of, LaidOut}
-use Rattle.layout.specs.LayoutLaws.{Told, unknown, input, output, mixer, selector, feature}
-use Rattle.layout.proofs.LayoutLemmas.{told}
-use Rattle.kinds.specs.Sources.{pins_of, feeds_of}
-use Rattle.kinds.specs.SourcesLaws.{ids_length}
+use Rattle.layout.specs.Layout.{LaidOut}
 use Rattle.edition.specs.Edition.{own_id, sources}
 use Rattle.edition.specs.Audio.{audio}
 use Rattle.ranks.specs.Rule12.{Upstream}
@@ -33,7 +26,7 @@ use Rattle.routing.proofs.WaysLemmas.{pins_rise_one}
 use Rattle.routing.specs.RoutesLaws.{no_pins}
 
 module _ (ds : List (List ℕ)) (laid : (d : List ℕ) → d ∈ ds → LaidOut d) (named : ℕ → List ℕ) (own : (d : List ℕ) → d ∈ ds → named (own_id d) ≡ sources audio d) where
-  module _ (known : (d : List ℕ) → d ∈ ds → (x : ℕ) → x ∈ sources audio d → Some (λ e. own_id e ≡ x) ds) where
+  module _ (known : (d : List ℕ) → d ∈ ds → (x : ℕ) → x ∈ sources audio d → SomeOf (λ e. own_id e ≡ x) ds) where
     pub ways_only : (n : ℕ) (d : List ℕ) → d ∈ ds → (w : Way) → w ∈ ways_up named n (own_id d) → Route ds d w
     unfolding ways_up of_entity
     ways_only zero d m w a = absurd (Memᴰ.not-nil a)

@@ -1,9 +1,9 @@
 -- Laws of what stands beside it in specs.
 --   pins_rise_one       ==  two lists that rise and have the same members are the same
 --   ways_rise        ==  the ways upstream rise
-use Prim.Native.Nat.{ℕ, zero, suc, ◌+◌, ◌<◌}
-use Rattle.std.specs.Prelude.{◌≡◌, refl, ◌⊎◌, length, get_or}
-use Rattle.std.proofs.Common.{sym, ◌∙◌, inl, inr, add-zero, le_of_suc-le-suc}
+use Prim.Native.Nat.{ℕ, zero, suc}
+use Rattle.std.specs.Prelude.{◌≡◌, refl, ◌⊎◌}
+use Rattle.std.proofs.Common.{sym, ◌∙◌, inl, inr}
 use Rattle.std.proofs.Math.Path.{ap, subst}
 use Rattle.std.proofs.Math.Logic.{⊎_elim}
 use mathlib.Core.List.Memᴰ

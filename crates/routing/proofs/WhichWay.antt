@@ -11,8 +11,7 @@ use lib.ListN.{length, drop}
 use borrow.Author.Tests.{eq-eqb, ne_eqb, lt-ltb, le-ltb}
 use Rattle.ground.specs.declared.Refusal.{Refusal}
 use Rattle.ground.specs.Pick.{Reads, pick, yes, no, shows, refutes, decided, reads_eq, reads_lt}
-use Rattle.ground.specs.declared.Place.{Place}
-use Rattle.ground.specs.declared.Place.TheVariants.{Nowhere, At}
+use Rattle.std.specs.Prelude.{Option, Some, None}
 use Rattle.ground.specs.Refuse.{none, refuse}
 use Rattle.ground.specs.Lists.{member_index}
 use Rattle.graph.specs.Members.{◌∈◌}
@@ -190,10 +189,10 @@ module _ (s : List ℕ) (x room : ℕ) where
   one_answer r (statement.all_routes c f h b) = told s c x f h room b
 
   -- behind the other rows only 16 is left
-  sixteen : (b : Place) (n p : ℕ) → (n ≡ 0 → ⊥) → (n ≡ 16 → ⊥) → refuse 16 b none ≡ record { number = n; place = p } → ⊥
+  sixteen : (b : Option ℕ) (n p : ℕ) → (n ≡ 0 → ⊥) → (n ≡ 16 → ⊥) → refuse 16 b none ≡ record { number = n; place = p } → ⊥
   unfolding refuse
-  sixteen Nowhere n p z f e = z (sym (ap (λ (r : Refusal). r.number) e))
-  sixteen (At q) n p z f e = f (sym (ap (λ (r : Refusal). r.number) e))
+  sixteen None n p z f e = z (sym (ap (λ (r : Refusal). r.number) e))
+  sixteen (Some q) n p z f e = f (sym (ap (λ (r : Refusal). r.number) e))
 
   but_16 : (sheet n p : ℕ) → (n ≡ 0 → ⊥) → (n ≡ 16 → ⊥) → Refused s sheet n p → listing_of s x room ≡ refused_with n p
   unfolding verdict_of room_judged

@@ -1,33 +1,24 @@
 -- The ways upstream are the routes: by right sources each way is a route, and each route that is not longer than the depth is among them. In a run whose
 -- entities have ranks no route has more than 32 IDs, so that the depth never cuts one off.
 --   no_pins, no_output  ==  of a right layout: it has no source exactly where it is an Input Terminal, and no output exactly where it is an Output Terminal
-use Prim.Native.Nat.{ℕ, zero, suc, ◌-◌, ◌≤◌, ◌<◌}
-use Rattle.std.specs.Prelude.{◌≡◌, true, ◌↔◌}
-use Rattle.std.proofs.Math.Path.{refl, sym, ap, subst}
-use Rattle.std.proofs.Common.{◌∙◌, zero-add, le_of_suc-le-suc}
+use Prim.Native.Nat.{ℕ}
+use Rattle.std.specs.Prelude.{◌≡◌, ◌↔◌}
+use Rattle.std.proofs.Math.Path.{refl, sym, ap}
+use Rattle.std.proofs.Common.{◌∙◌}
 use Rattle.std.proofs.Math.Bool.{false}
-use Rattle.std.proofs.Math.Logic.{⊎_elim}
-use mathlib.Core.List.Memᴰ
 use mathlib.Core.List.{List, [], ◌∷◌}
 use native.Mathlib.Omega.{arith}
-use Rattle.std.proofs.Math.ListN.{length, get_or}
+use Rattle.std.proofs.Math.ListN.{length}
 use Rattle.ground.specs.Pick.{true≠false}
-use Rattle.ground.specs.Lists.{Some, member_at}
-use Rattle.graph.specs.Members.{◌∈◌}
 use Rattle.layout.specs.declared.Entity.{Entity}
 use Rattle.layout.specs.Layout.{entity_of, LaidOut}
 use Rattle.layout.specs.LayoutLaws.{Told, unknown, input, output, mixer, selector, feature}
 use Rattle.layout.proofs.LayoutLemmas.{told}
 use Rattle.kinds.specs.Sources.{pins_of, feeds_of}
 use Rattle.kinds.specs.SourcesLaws.{ids_length}
-use Rattle.edition.specs.Edition.{own_id, sources}
+use Rattle.edition.specs.Edition.{sources}
 use Rattle.edition.specs.Audio.{audio}
-use Rattle.ranks.specs.Rule12.{Upstream}
-use Rattle.ranks.specs.Rule12 as rules
-use Rattle.upstream.specs.Ways.{Way, ended, via, by_pins, of_entity, ways_up}
-use Rattle.routing.specs.Routes.{InputTerminal, OutputTerminal, Route, EachOnce}
-use Rattle.routing.specs.Routes as routes
-use Rattle.routing.specs.WaysLaws.{ByPin, pins_has, pins_in}
+use Rattle.routing.specs.Routes.{InputTerminal, OutputTerminal}
 
 module _ (d : List ℕ) (l : LaidOut d) where
   pins_input : (pins_of (entity_of d) ≡ 0) ↔ InputTerminal d

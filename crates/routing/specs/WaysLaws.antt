@@ -3,8 +3,8 @@
 --   pins_has, pins_in  ==  what is behind an entity's pins: by a pin of it, and what is behind that
 --   ways_same        ==  sources that agree on bytes, and are bytes, have the same ways upstream from a byte
 use Prim.Native.Nat.{ℕ, zero, suc, ◌+◌, ◌<◌}
-use Rattle.std.specs.Prelude.{◌≡◌, refl, ◌⊎◌, length, get_or}
-use Rattle.std.proofs.Common.{sym, ◌∙◌, inl, inr, add-zero, le_of_suc-le-suc}
+use Rattle.std.specs.Prelude.{◌≡◌, refl, length, get_or}
+use Rattle.std.proofs.Common.{sym, ◌∙◌, add-zero, le_of_suc-le-suc}
 use Rattle.std.proofs.Math.Path.{ap, subst}
 use Rattle.std.proofs.Math.Logic.{⊎_elim}
 use mathlib.Core.List.Memᴰ
@@ -12,7 +12,6 @@ use mathlib.Core.List.{List, [], ◌∷◌, ◌++◌, map}
 use native.Mathlib.Omega.{arith}
 use Rattle.graph.specs.Members.{◌∈◌}
 use Rattle.upstream.specs.Ways.{Way, via, by_pins, of_entity, ways_up}
-use Rattle.routing.specs.Routes.{PinsBefore, here, later, PinsRise}
 
 module _ (ask : ℕ → List Way) (x : ℕ) where
   -- w goes by the j-th of the pins whose sources are ys, the first of which is pin k

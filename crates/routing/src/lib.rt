@@ -10,6 +10,7 @@ use ground::index_of;
 use upstream::Listing;
 
 // By ID, where the source IDs of the entity that bears it stand, and how many there are.
+// Stays: two arrays, since source_places_of says them one by one, and upstream::list_ways takes them so.
 #[derive(Clone, Copy)]
 pub struct SourcePlaces {
     pub firsts: [usize; 256],
@@ -22,13 +23,10 @@ fn source_places(run: Run) -> SourcePlaces
     let n = entities::count(run);
     let mut firsts = [0usize; 256];
     let mut counts = [0u8; 256];
-    let mut i: usize = 0;
-    while i < n {
-        let node = run.nodes[i];
+    for node in &run.nodes[..n] {
         let at = index_of(node.id);
         firsts[at] = node.first;
         counts[at] = node.pins;
-        i += 1;
     }
     SourcePlaces { firsts, counts }
 }
@@ -38,13 +36,10 @@ fn is_output(run: Run, id: u8) -> bool
     ensures { result ≡ is_output run id }
 {
     let n = entities::count(run);
-    let mut i: usize = 0;
-    while i < n {
-        let node = run.nodes[i];
+    for node in &run.nodes[..n] {
         if node.id == id {
             return !node.feeds;
         }
-        i += 1;
     }
     false
 }
@@ -66,10 +61,8 @@ pub fn list_routes(config: &[u8], id: u8, list: &mut [u8]) -> Listing
     ensures value { result ≡ listing_of config.now id (length list.old) }
     ensures list_after { list.new ≡ list_after config.now id list.old }
 {
-    let found = topology::judge(config);
-    let refusal = found.refusal;
-    if refusal.number != 0 {
-        return upstream::refused(refusal.number, refusal.place);
+    match topology::judge(config) {
+        Err(refusal) => upstream::refused(refusal.number, refusal.place),
+        Ok(found) => list_run(config, found.run, id, list),
     }
-    list_run(config, found.run, id, list)
 }

@@ -2,7 +2,7 @@
 -- where they have room the list holds them in front.
 --   counted            ==  what a walk that told all ways says of them
 --   refused_many, refused_room, taken  ==  the answer and the list, from the count
-use Rattle.std.specs.Prelude.{ℕ, suc, ◌+◌, ◌-◌, ◌≤◌, ◌<◌, ◌≡◌, refl, List, [], ◌∷◌, ◌++◌, ltb}
+use Rattle.std.specs.Prelude.{ℕ, suc, ◌+◌, ◌≤◌, ◌<◌, ◌≡◌, refl, List, [], ◌∷◌, ◌++◌, ltb}
 use Rattle.std.proofs.Math.Path.{sym, ap}
 use Rattle.std.proofs.Common.{◌∙◌, subst, add-zero, length-append}
 use Rattle.std.proofs.Math.Logic.{⊎_elim}

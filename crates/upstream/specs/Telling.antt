@@ -1,5 +1,6 @@
 -- What the walk has told, way by way.
 --   sources_by s f c x  ==  the source IDs of the ID x in the configuration s, by the tables of where the first stands and how many there are
+--   sources_in t x    ==  .. in the configuration and by the tables t
 --   most_depth        ==  the most entities of a way: 32
 --   most_routes       ==  the most routes that are listed: 256
 --   path_of p         ==  the IDs of a path
@@ -14,11 +15,15 @@ use Rattle.std.specs.Prelude.{ℕ, ◌+◌, ◌-◌, ◌*◌, ◌≤◌, ◌≡�
 use Rattle.std.proofs.lemmas.List.Edits.{sets}
 use Rattle.ground.specs.Pick.{pick}
 use Rattle.upstream.specs.declared.Path.{Path}
+use Rattle.upstream.specs.declared.Tables.{Tables}
 use Rattle.upstream.specs.declared.Tally.{Tally}
 use Rattle.upstream.specs.Ways.{Way}
 
 unfoldable pub sources_by : List ℕ → List ℕ → List ℕ → ℕ → List ℕ
 sources_by s firsts counts x = take (get_or counts x 0) (drop (get_or firsts x 0) s)
+
+abbrev pub sources_in : Tables → ℕ → List ℕ
+sources_in t = sources_by t.config.now t.firsts.now t.counts.now
 
 abbrev pub most_depth : ℕ
 most_depth = 32

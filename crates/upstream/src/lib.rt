@@ -4,7 +4,7 @@
 // another, how many they are and how many bytes they take, or the refusal 46 or 49 and the list as it stood.
 ghost use Rattle.std.specs.Prelude.{◌≡◌, ◌+◌, ◌*◌, ◌≤◌, ◌^◌, ◌<◌, [], ◌∷◌, ◌++◌, length};
 ghost use Rattle.upstream.specs.Ways.{ways_up, behind_all};
-ghost use Rattle.upstream.specs.Telling.{sources_by, most_depth, most_routes, path_of, Standing, Further, Ready, so_far, put_in, tell, tell_all};
+ghost use Rattle.upstream.specs.Telling.{sources_by, sources_in, most_depth, most_routes, path_of, Standing, Further, Ready, so_far, put_in, tell, tell_all};
 ghost use Rattle.upstream.specs.Listing.{Counted, refused_with, ways_listing, ways_list};
 
 use entities::Node;
@@ -23,6 +23,7 @@ pub struct Tally {
     pub written: usize,
 }
 
+// Stays: `ways_listing`, in the contract of `list_ways`, tells number and place, 0 and 0 of no refusal, beside the counts.
 // What a listing answers: the number and place of a refusal, 0 and 0 where there is none; how many routes, and how many bytes were written.
 #[derive(Clone, Copy)]
 pub struct Listing {
@@ -33,23 +34,32 @@ pub struct Listing {
 }
 
 // The IDs from the output to the entity that is asked, and how many more may follow.
+// Stays: no heap; a path is a value of its own for each pin, and `path_of` reads as many of its IDs as are taken.
 #[derive(Clone, Copy)]
 pub struct Path {
     pub ids: [u8; 32],
     pub left: usize,
 }
 
+// A configuration and the tables by ID: where an entity's source IDs stand in it, and how many there are.
+#[derive(Clone, Copy)]
+struct Tables<'a> {
+    config: &'a [u8],
+    firsts: &'a [usize; 256],
+    counts: &'a [u8; 256],
+}
+
 // The source IDs of the entity that bears an ID, by where the first stands and how many there are; of a node nothing else is read.
-fn sources_of<'a>(config: &'a [u8], firsts: &[usize; 256], counts: &[u8; 256], id: u8) -> &'a [u8]
-    ensures { result.now ≡ sources_by config.now firsts.now counts.now id }
+fn sources_of(tables: Tables<'_>, id: u8) -> &[u8]
+    ensures { result.now ≡ sources_in tables.entry id }
 {
     let at = index_of(id);
     entities::sources(
-        config,
+        tables.config,
         Node {
             place: 0,
-            first: firsts[at],
-            pins: counts[at],
+            first: tables.firsts[at],
+            pins: tables.counts[at],
             id,
             kind: 0,
             feeds: true,
@@ -81,12 +91,9 @@ fn put_route(list: &mut [u8], at: usize, path: Path)
     if list.len() < at + n + 1 {
         return;
     }
-    let mut i: usize = 0;
-    while i < n {
-        list[at + i] = path.ids[i];
-        i += 1;
-    }
-    list[at + n] = 0;
+    let end = at + n;
+    list[at..end].copy_from_slice(&path.ids[..n]);
+    list[end] = 0;
 }
 
 // One route more is counted, also where it has no room: the walk that counts is lent nothing.
@@ -104,17 +111,9 @@ fn tell_route(path: Path, told: Tally, list: &mut [u8]) -> Tally
 
 // An entity asks its pins; one that has none is where a route ends. One route more than are listed is enough.
 #[cycle(asking)]
-fn ask_entity(
-    config: &[u8],
-    firsts: &[usize; 256],
-    counts: &[u8; 256],
-    id: u8,
-    path: Path,
-    told: Tally,
-    list: &mut [u8],
-) -> Tally
+fn ask_entity(tables: Tables<'_>, id: u8, path: Path, told: Tally, list: &mut [u8]) -> Tally
     requires { Ready path told }
-    ensures { so_far result list.new ≡ tell_all (path_of path) (so_far told list.old) (ways_up (sources_by config.now firsts.now counts.now) path.left id) }
+    ensures { so_far result list.new ≡ tell_all (path_of path) (so_far told list.old) (ways_up (sources_in tables.entry) path.left id) }
 {
     if path.left == 0 {
         return told;
@@ -122,38 +121,30 @@ fn ask_entity(
     if MOST_ROUTES < told.routes {
         return told;
     }
-    let sources = sources_of(config, firsts, counts, id);
+    let sources = sources_of(tables, id);
     let here = step(path, id);
     if sources.len() == 0 {
         return tell_route(here, told, list);
     }
-    ask_pins(config, firsts, counts, sources, here, told, list)
+    ask_pins(tables, sources, here, told, list)
 }
 
 // Each pin asks the entity behind it, the first pin first.
 #[cycle(asking)]
-fn ask_pins(
-    config: &[u8],
-    firsts: &[usize; 256],
-    counts: &[u8; 256],
-    sources: &[u8],
-    path: Path,
-    told: Tally,
-    list: &mut [u8],
-) -> Tally
+fn ask_pins(tables: Tables<'_>, sources: &[u8], path: Path, told: Tally, list: &mut [u8]) -> Tally
     requires { Ready path told }
-    ensures { so_far result list.new ≡ tell_all (path_of path) (so_far told list.old) (behind_all (ways_up (sources_by config.now firsts.now counts.now) path.left) sources.now) }
+    ensures { so_far result list.new ≡ tell_all (path_of path) (so_far told list.old) (behind_all (ways_up (sources_in tables.entry) path.left) sources.now) }
 {
-    if sources.len() == 0 {
-        return told;
+    let mut next = told;
+    for source in sources {
+        next = ask_entity(tables, *source, path, next, list);
     }
-    let next = ask_entity(config, firsts, counts, sources[0], path, told, list);
-    ask_pins(config, firsts, counts, &sources[1..], path, next, list)
+    next
 }
 
-// Tells every way upstream from an ID, by the tables of where the source IDs stand and how many there are.
-fn walk(config: &[u8], firsts: &[usize; 256], counts: &[u8; 256], id: u8, list: &mut [u8]) -> Tally
-    ensures { so_far result list.new ≡ tell_all [] (so_far (record { routes = 0; written = 0 }) list.old) (ways_up (sources_by config.now firsts.now counts.now) most_depth id) }
+// Tells every way upstream from an ID.
+fn walk(tables: Tables<'_>, id: u8, list: &mut [u8]) -> Tally
+    ensures { so_far result list.new ≡ tell_all [] (so_far (record { routes = 0; written = 0 }) list.old) (ways_up (sources_in tables.entry) most_depth id) }
 {
     let start = Path {
         ids: [0u8; 32],
@@ -163,7 +154,7 @@ fn walk(config: &[u8], firsts: &[usize; 256], counts: &[u8; 256], id: u8, list: 
         routes: 0,
         written: 0,
     };
-    ask_entity(config, firsts, counts, id, start, none, list)
+    ask_entity(tables, id, start, none, list)
 }
 
 // A refused listing: no routes, nothing written.
@@ -179,11 +170,11 @@ pub fn refused(number: u8, place: usize) -> Listing
 }
 
 // How many ways there are, and how many bytes they take, as far as 257 of them: a walk with nothing lent.
-fn count(config: &[u8], firsts: &[usize; 256], counts: &[u8; 256], id: u8) -> Tally
-    ensures { Counted (ways_up (sources_by config.now firsts.now counts.now) most_depth id) result }
+fn count(tables: Tables<'_>, id: u8) -> Tally
+    ensures { Counted (ways_up (sources_in tables.entry) most_depth id) result }
 {
     let mut none = [0u8; 1];
-    walk(config, firsts, counts, id, &mut none[..0])
+    walk(tables, id, &mut none[..0])
 }
 
 // Lists every way upstream from an ID. One walk counts, another then writes. Every input is taken; of tables that no reader made, in which no way
@@ -198,14 +189,19 @@ pub fn list_ways<'a>(
     ensures value { result ≡ ways_listing (ways_up (sources_by config.now firsts.now counts.now) most_depth id) (length list.old) }
     ensures list_after { list.new ≡ ways_list (ways_up (sources_by config.now firsts.now counts.now) most_depth id) list.old }
 {
-    let all = count(config, firsts, counts, id);
+    let tables = Tables {
+        config,
+        firsts,
+        counts,
+    };
+    let all = count(tables, id);
     if MOST_ROUTES < all.routes {
         return refused(46, 0);
     }
     if list.len() < all.written {
         return refused(49, 0);
     }
-    walk(config, firsts, counts, id, list);
+    walk(tables, id, list);
     Listing {
         number: 0,
         place: 0,

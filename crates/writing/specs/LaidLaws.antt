@@ -6,7 +6,7 @@
 --   too_long, wrong_here, laying_on  ==  a turn: the next descriptor passes 255 bytes or has none, has a wrong layout, or is laid behind the others
 --   laid_long        ==  the buffer stays as long as it was
 --   turn_room, turn_fits  ==  where it is laid, it ends inside the buffer, which has 8,160 bytes
-use Rattle.std.specs.Prelude.{ℕ, suc, ◌+◌, ◌-◌, ◌*◌, ◌≤◌, ◌<◌, Bool, ◌||◌, ◌⊎◌, get_or}
+use Rattle.std.specs.Prelude.{ℕ, suc, ◌+◌, ◌-◌, ◌*◌, ◌≤◌, ◌<◌, Bool, ◌||◌, get_or, Some, None}
 use Rattle.std.proofs.Math.Path.{◌≡◌, refl, sym, ap}
 use Rattle.std.proofs.Common.{◌∙◌, inr, ⊎_elim, add-one, take-suc}
 use Rattle.std.proofs.Math.Bool.{true, false}
@@ -16,7 +16,6 @@ use Rattle.std.proofs.Math.ListN.{length, take, drop, length-append, get_or-map}
 use Rattle.std.proofs.lemmas.List.{length-map}
 use Rattle.std.proofs.Math.Seq.{take_at, drop_at, take_all, length-take-le}
 use Rattle.std.proofs.Math.Dec.{ltb}
-use Rattle.ground.specs.declared.Place.TheVariants.{Nowhere, At}
 use Rattle.ground.specs.Pick.{pick, Reads, shows, refutes, reads_same, reads_or, reads_lt, reads_and, reads_le}
 use Rattle.ground.specs.Lists.{part, pad, pad_length, pad_at, total, total_one, flatten_append}
 use Rattle.ground.specs.Places.{Come, come_none, come_over, come_here, come_more}
@@ -62,7 +61,7 @@ module _ (at : ℕ) (d out : List ℕ) (h : at + length d ≤ length out) where
       rw (append_assoc (take at out) d (drop (at + length d) out), drop_at (take at out) (d ++ drop (at + length d) out) at n, k) (take_at d (drop (at + length d) out) (length d) refl)
 
 pub record Laying (ds : List (List ℕ)) (out : List ℕ) (at i : ℕ) : Type 0 where
-  pub come : Come (λ j. wrong_in (get_or ds j [])) (λ j. At j) Nowhere (length ds) i
+  pub come : Come (λ j. wrong_in (get_or ds j [])) (λ j. Some j) None (length ds) i
   pub place : at ≡ total (take i ds)
   pub small : at ≤ i * 255
   pub front : take at out ≡ flatten (take i ds)
@@ -74,10 +73,10 @@ module _ (v : List ℕ) (l : EntityList) (few : l.count ≤ 32) where
 
   pub laying_start : (out : List ℕ) → length out ≡ most_run → Laying ds out 0 0
   unfolding total flatten
-  laying_start out h = record { come = come_none (λ j. wrong_in (get_or ds j [])) (λ j. At j) Nowhere (length ds); place = refl; small = omega arith; front = refl; long = h }
+  laying_start out h = record { come = come_none (λ j. wrong_in (get_or ds j [])) (λ j. Some j) None (length ds); place = refl; small = omega arith; front = refl; long = h }
 
   module _ (out : List ℕ) (at i : ℕ) (g : Laying ds out at i) where
-    pub laying_over : l.count ≤ i → LaidRun ds out Nowhere at
+    pub laying_over : l.count ≤ i → LaidRun ds out None at
     unfolding breach9
     laying_over h =
         let n = listed_count v l in
@@ -85,7 +84,7 @@ module _ (v : List ℕ) (l : EntityList) (few : l.count ≤ 32) where
         let small = g.small in
         let long = g.long in
         let all : take i ds ≡ ds = take_all i ds (omega arith) in
-        record { first = come_over (λ j. wrong_in (get_or ds j [])) (λ j. At j) Nowhere (length ds) i g.come (omega arith); bytes = λ e. let z : at - 0 ≡ at = omega arith in ap (λ (k : ℕ). take k out) z ∙ g.front ∙ ap flatten all; room = omega arith; long = long }
+        record { first = come_over (λ j. wrong_in (get_or ds j [])) (λ j. Some j) None (length ds) i g.come (omega arith); bytes = λ e. let z : at - 0 ≡ at = omega arith in ap (λ (k : ℕ). take k out) z ∙ g.front ∙ ap flatten all; room = omega arith; long = long }
 
     module _ (h : i < l.count) where
       abbrev d : List ℕ
@@ -94,12 +93,12 @@ module _ (v : List ℕ) (l : EntityList) (few : l.count ≤ 32) where
       here : get_or ds i [] ≡ d
       here = listed_at v l i h
 
-      wrong_at : (after : List ℕ) → length after ≡ most_run → wrong_in d ≡ true → LaidRun ds after (At i) 0
+      wrong_at : (after : List ℕ) → length after ≡ most_run → wrong_in d ≡ true → LaidRun ds after (Some i) 0
       unfolding breach9
       wrong_at after n w =
           let m = listed_count v l in
           record {
-            first = come_here (λ j. wrong_in (get_or ds j [])) (λ j. At j) Nowhere (length ds) i g.come (omega arith) (wrong_in d) (ap wrong_in (sym here)) w;
+            first = come_here (λ j. wrong_in (get_or ds j [])) (λ j. Some j) None (length ds) i g.come (omega arith) (wrong_in d) (ap wrong_in (sym here)) w;
             bytes = λ e. let z : ◌≡◌ {A = ℕ} 0 1 = cc in absurd (omega arith);
             room = omega arith;
             long = n;
@@ -132,7 +131,7 @@ module _ (v : List ℕ) (l : EntityList) (few : l.count ≤ 32) where
         pub laid_long : length after ≡ length out
         laid_long = after_long ∙ sym g.long
 
-        pub too_long : size ≡ 0 → LaidRun ds after (At i) 0
+        pub too_long : size ≡ 0 → LaidRun ds after (Some i) 0
         unfolding laid_size
         too_long z = wrong_at after after_long (go (fits_at d at (length out)) reads_fits (sym z ∙ t.size))
           where
@@ -163,7 +162,7 @@ module _ (v : List ℕ) (l : EntityList) (few : l.count ≤ 32) where
           same = rw (told.0, told.2) (pasted_part at d out room)
 
           module _ (b : Bool) (w : b ≡ is_wrong (part after at (at + size))) where
-            pub wrong_here : b ≡ true → LaidRun ds after (At i) 0
+            pub wrong_here : b ≡ true → LaidRun ds after (Some i) 0
             unfolding wrong_in
             wrong_here e = wrong_at after after_long (ap (λ (x : Bool). x || ltb most_long (length d)) (sym (ap is_wrong same) ∙ sym w ∙ e))
 
@@ -183,7 +182,7 @@ module _ (v : List ℕ) (l : EntityList) (few : l.count ≤ 32) where
                 ap (λ (x : ℕ). take (at + x) after) q ∙ ap (take (at + length d)) told.2 ∙ pasted_front at d out room ∙ ap (λ (x : List ℕ). x ++ d) g.front
                 ∙ sym (rw (add-one i) (ap flatten (take-suc ds i [] (omega arith)) ∙ flatten_append (take i ds) (get_or ds i [] ∷ []) ∙ ap (λ (x : List ℕ). flatten (take i ds) ++ (x ++ [])) here ∙ ap (λ (x : List ℕ). flatten (take i ds) ++ x) (append-nil d))) in
                 record {
-                  come = come_more (λ j. wrong_in (get_or ds j [])) (λ j. At j) Nowhere (length ds) i g.come (omega arith) (wrong_in d) (ap wrong_in (sym here)) right;
+                  come = come_more (λ j. wrong_in (get_or ds j [])) (λ j. Some j) None (length ds) i g.come (omega arith) (wrong_in d) (ap wrong_in (sym here)) right;
                   place = pl;
                   small = omega arith;
                   front = fr;

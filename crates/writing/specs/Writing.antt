@@ -15,15 +15,16 @@
 --   WroteBy v w b a r   ==  the lent buffer b became a, and the answer is r, by the verdict v and the bytes w: in front where nothing is refused, the
 --                        bytes past them as they stood; all of them as they stood where something is
 --   Writes ls cs b a r  ==  .. by the list and the collection list
+--   wrong_told r, refusal_told r, size_told r  ==  what such a result says: the place of the first wrong layout; the refusal; how many bytes, 0 of none
 --   LaidRun, JudgedRun  ==  what is known of the run's bytes once the list was laid out, once it was judged
 -- THE ROWS, in the reader's words:
 --   entity_rows ds behind  ==  the rows 8, 9, 17 and 10 to 13, of the descriptors of a list, and the rows behind them
 --   room_rows cs run m  ==  the rows 47 and 48
 --   writer_rows ls cs m  ==  all of them, and 47 and 48
-use Rattle.std.specs.Prelude.{ℕ, ◌+◌, ◌*◌, ◌/◌, ◌%◌, ◌≤◌, ◌<◌, ◌≡◌, Bool, ◌||◌, ◌⊎◌, length, get_or, drop, eqb, ltb, leb}
+use Rattle.std.specs.Prelude.{ℕ, ◌+◌, ◌*◌, ◌/◌, ◌%◌, ◌≤◌, ◌<◌, ◌≡◌, Bool, ◌||◌, ◌⊎◌, length, get_or, drop, eqb, ltb, leb, Option, Some, None}
+use Rattle.std.specs.declared.result.Result.{Result}
+use Rattle.std.specs.declared.result.Result.TheVariants.{Ok, Err}
 use mathlib.Core.List.{List, [], ◌∷◌, ◌++◌, map, flatten}
-use Rattle.ground.specs.declared.Place.{Place}
-use Rattle.ground.specs.declared.Place.TheVariants.{Nowhere, At}
 use Rattle.ground.specs.declared.Refusal.{Refusal}
 use Rattle.ground.specs.Pick.{pick, within}
 use Rattle.ground.specs.Lists.{pad, part}
@@ -76,19 +77,19 @@ WrongIn d = WrongLayout audio d ⊎ TooLong d
 unfoldable pub wrong_in : List ℕ → Bool
 wrong_in d = is_wrong d || ltb most_long (length d)
 
-unfoldable pub breach8 : List (List ℕ) → Place
+unfoldable pub breach8 : List (List ℕ) → Option ℕ
 breach8 ds = kept_at (within 1 (length ds) most_entities) 0
 
-unfoldable pub breach9 : List (List ℕ) → Place
-breach9 ds = first_in (λ i. wrong_in (get_or ds i [])) (λ i. At i) Nowhere 0 (length ds)
+unfoldable pub breach9 : List (List ℕ) → Option ℕ
+breach9 ds = first_in (λ i. wrong_in (get_or ds i [])) (λ i. Some i) None 0 (length ds)
 
 unfoldable pub entities_then : List (List ℕ) → Refusal → Refusal
 entities_then ds r = refuse 8 (breach8 ds) (refuse 9 (breach9 ds) (indexed_then (flatten ds) r))
 
-unfoldable pub breach47 : List ℕ → Place
+unfoldable pub breach47 : List ℕ → Option ℕ
 breach47 cs = kept_at (leb (length cs) most_numbers) 0
 
-unfoldable pub breach48 : List ℕ → List ℕ → ℕ → Place
+unfoldable pub breach48 : List ℕ → List ℕ → ℕ → Option ℕ
 breach48 cs run m = kept_at (leb (length (whole_of cs run)) m) 0
 
 unfoldable pub room_then : List ℕ → List ℕ → ℕ → Refusal
@@ -112,9 +113,21 @@ Writes ls cs before after r = WroteBy (writer_verdict ls cs (length before)) (wr
 
 -- ---- on the way to it
 
-pub record LaidRun (ds : List (List ℕ)) (after : List ℕ) (wrong : Place) (size : ℕ) : Type 0 where
+abbrev pub wrong_told : Result ℕ ℕ → Option ℕ
+wrong_told (Ok n) = None
+wrong_told (Err i) = Some i
+
+abbrev pub refusal_told : Result ℕ Refusal → Refusal
+refusal_told (Ok n) = none
+refusal_told (Err r) = r
+
+abbrev pub size_told : {E : Type 0} → Result ℕ E → ℕ
+size_told (Ok n) = n
+size_told (Err e) = 0
+
+pub record LaidRun (ds : List (List ℕ)) (after : List ℕ) (wrong : Option ℕ) (size : ℕ) : Type 0 where
   pub first : wrong ≡ breach9 ds
-  pub bytes : wrong ≡ Nowhere → part after 0 size ≡ flatten ds
+  pub bytes : wrong ≡ None → part after 0 size ≡ flatten ds
   pub room : size ≤ length after
   pub long : length after ≡ most_run
 

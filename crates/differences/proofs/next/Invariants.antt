@@ -1,4 +1,3 @@
-use borrow.Author.Rules.{rules}
 use Prim.Native.Nat.{ℕ, ◌-◌, ◌≤◌, ◌<◌}
 use mathlib.Core.Path.{◌≡◌, refl, sym, ap, ◌∙◌}
 use mathlib.Core.Option.{Option, none, some}
@@ -8,6 +7,7 @@ use native.Mathlib.Omega.{arith}
 use lib.Dec.{ltb}
 use Rattle.ground.specs.Pick.{decided, reads_lt}
 use Rattle.legal.specs.Sheet.{count_in, record_at, id_at}
+use Rattle.std.specs.declared.option.Option.TheVariants.{None, Some}
 use Rattle.differences.specs.declared.Difference.TheVariants as difference
 use Rattle.differences.specs.Lines.{Line, last_id, record_bearing, differing, changed_line, line_of, line_at, lines_of, first_above, bits_set, difference_of}
 use Rattle.differences.specs.Lines.Line.{left_only, right_only, changed}
@@ -53,7 +53,7 @@ module _ (l r : List ℕ) where
         pub left_small : x < y → x < no_id
         left_small h = let n = R.low in omega arith
 
-        pub left_only_lem : x < y → difference.LeftOnly x ≡ difference_of (first_above above (lines_of l r))
+        pub left_only_lem : x < y → Some (difference.LeftOnly x) ≡ difference_of (first_above above (lines_of l r))
         left_only_lem h =
             let s = left_small h in
             let p = L.above s in
@@ -63,14 +63,14 @@ module _ (l r : List ℕ) where
           pub right_small : y < x → y < no_id
           right_small h = let n = L.low in omega arith
 
-          pub right_only_lem : y < x → difference.RightOnly y ≡ difference_of (first_above above (lines_of l r))
+          pub right_only_lem : y < x → Some (difference.RightOnly y) ≡ difference_of (first_above above (lines_of l r))
           right_only_lem h =
               let s = right_small h in
               let p = R.above s in
               found y (right_only y) p s (line_by y (absent l at x k L y p h) (present r at y m R s)) (λ j o q. neither j o (omega arith) q)
 
           module _ (h : x ≤ y) where
-            pub over : x ≡ no_id → difference.None ≡ difference_of (first_above above (lines_of l r))
+            pub over : x ≡ no_id → None ≡ difference_of (first_above above (lines_of l r))
             over e =
                 let b : (j : ℕ) → above < j → j < no_id → line_at l r j ≡ [] = before no_id (λ j o q. neither j o (omega arith) (omega arith)) in
                 ap difference_of (sym (lines_none l r above (λ j p q. b j p (omega arith))))
@@ -88,10 +88,10 @@ module _ (l r : List ℕ) where
                   line_by x (present l at x k L small) (ap (record_bearing r) q ∙ present r at y m R (omega (arith, small)))
 
               module _ (mask : ℕ) (d : mask ≡ bits_set (differing (record_at l k) (record_at r m))) where
-                pub differ : (mask ≡ 0 → ⊥) → difference.Changed x mask ≡ difference_of (first_above above (lines_of l r))
-                differ n = ap (difference.Changed x) d ∙ go (differing (record_at l k) (record_at r m)) (λ z. n (d ∙ (mask_zero _).1 z)) line_both
+                pub differ : (mask ≡ 0 → ⊥) → Some (difference.Changed x mask) ≡ difference_of (first_above above (lines_of l r))
+                differ n = ap (λ (m : ℕ). Some (difference.Changed x m)) d ∙ go (differing (record_at l k) (record_at r m)) (λ z. n (d ∙ (mask_zero _).1 z)) line_both
                   where
-                    go : (ns : List ℕ) → (ns ≡ [] → ⊥) → line_at l r x ≡ changed_line x ns → difference.Changed x (bits_set ns) ≡ difference_of (first_above above (lines_of l r))
+                    go : (ns : List ℕ) → (ns ≡ [] → ⊥) → line_at l r x ≡ changed_line x ns → Some (difference.Changed x (bits_set ns)) ≡ difference_of (first_above above (lines_of l r))
                     go [] z b = absurd (z refl)
                     go (n ∷ ns) z b = found x (changed x (n ∷ ns)) (L.above small) small b (λ j o q. neither j o q (omega arith))
 

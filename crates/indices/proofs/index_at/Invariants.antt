@@ -1,5 +1,4 @@
-use borrow.Author.Rules.{rules}
-use Prim.Native.Nat.{ℕ, ◌+◌, ◌-◌, ◌≤◌, ◌<◌}
+use Prim.Native.Nat.{ℕ, ◌+◌, ◌≤◌, ◌<◌}
 use mathlib.Core.Path.{◌≡◌, refl}
 use mathlib.Core.Bool.{Bool}
 use native.Mathlib.Omega.{arith}
@@ -7,7 +6,7 @@ use lib.Dec.{eqb}
 use borrow.Author.Tests.{eq-eqb, ne_eqb}
 use Rattle.ground.specs.Places.{Come, come_none, come_over, come_here, come_more}
 use Rattle.entities.specs.declared.Run.{Run}
-use Rattle.entities.specs.Run.{blank_node, held, place_at}
+use Rattle.entities.specs.Run.{held, place_at}
 use Rattle.indices.specs.Indices.{index_at}
 use Rattle.indices.proofs.index_at.Given as goal
 
@@ -36,6 +35,3 @@ module _ (run : Run) (q : ℕ) where
 
 abbrev pub invariant-loop-i : goal.invariant-loop-i
 invariant-loop-i l = Seen l.run l.place l.i
-
-abbrev pub decreases-loop-i : goal.decreases-loop-i
-decreases-loop-i l = l.n - l.i

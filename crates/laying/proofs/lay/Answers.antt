@@ -1,9 +1,11 @@
 -- Four ways out: no descriptor of at most 255 bytes, fewer bytes in the buffer, no room from the place on, or it is put.
 use borrow.Author.Rules.{rules}
-use Prim.Native.Nat.{ℕ, ◌-◌, ◌≤◌, ◌<◌}
-use mathlib.Core.Path.{◌≡◌, refl}
+use Prim.Native.Nat.{ℕ, ◌-◌, ◌+◌, ◌≤◌, ◌<◌}
+use mathlib.Core.Path.{◌≡◌, refl, sym, ◌∙◌}
 use mathlib.Core.List.{List}
 use lib.ListN.{length}
+use Rattle.std.specs.declared.option.Option.{Option}
+use Rattle.std.specs.declared.option.Option.TheVariants.{None, Some}
 use Rattle.ground.specs.Lists.{part}
 use Rattle.fields.specs.declared.Item.{Item}
 use Rattle.fields.specs.Listed.{written_as, entity_from, listed_with}
@@ -19,24 +21,30 @@ module _ (x : Item) (v s k : List ℕ) (p : s ≡ part v x.sources.from x.source
   same : bytes ≡ written_as (listed_with v x)
   same = rw (p, q) refl
 
-  module _ (at : ℕ) (d : List ℕ) (n : ℕ) (e : n ≡ short_of (length bytes)) where
-    none : n ≡ 0 → Lay (written_as (listed_with v x)) at d d 0
-    none z = rw same at (lay_none bytes at d n e z)
+  module _ (at : ℕ) (d : List ℕ) (o : Option ℕ) (e : o ≡ short_of (length bytes)) where
+    none : o ≡ None → Lay (written_as (listed_with v x)) at d d 0
+    none z = rw same at (lay_none bytes at d (sym z ∙ e))
 
-    module _ (z : n ≡ 0 → ⊥) where
+    module _ (n : ℕ) (z : o ≡ Some n) where
       short : length d < n → Lay (written_as (listed_with v x)) at d d 0
-      short h = rw same at (lay_short bytes at d n e z h)
+      short h = rw same at (lay_short bytes at d n (sym z ∙ e) h)
 
       behind : length d - n < at → Lay (written_as (listed_with v x)) at d d 0
-      behind h = rw same at (lay_behind bytes at d n e z h)
+      behind h = rw same at (lay_behind bytes at d n (sym z ∙ e) h)
+
+      small : length bytes ≤ 255
+      small = lay_small bytes at d n (sym z ∙ e)
+
+      room : n ≤ length d → at ≤ length d - n → at + length bytes ≤ length d
+      room = lay_room bytes at d n (sym z ∙ e)
 
       done : (g : List ℕ) → n ≤ length d → at ≤ length d - n → g ≡ pasted at bytes d → Lay (written_as (listed_with v x)) at d g n
-      done g h l j = rw same at (lay_done bytes at d n e z g h l j)
+      done g h l j = rw same at (lay_done bytes at d n (sym z ∙ e) g h l j)
 
-ruleset laws = (none, short, behind, lay_small, lay_room, done, rules)
+ruleset laws = (none, short, behind, small, room, done, rules)
 
-pub returns-then-n-eq0 : goal.returns-then-n-eq0
-returns-then-n-eq0 c = search laws
+pub returns-in_default : goal.returns-in_default
+returns-in_default c = search laws
 
 pub returns-then-out-n : goal.returns-then-out-n
 returns-then-out-n c = search laws

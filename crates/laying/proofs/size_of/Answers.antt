@@ -1,10 +1,11 @@
 -- Each kind's length is what its layout says.
 use borrow.Author.Rules.{rules}
 use Prim.Native.Nat.{ℕ, ◌+◌}
-use mathlib.Core.Path.{◌≡◌, refl, sym, ap, ◌∙◌}
+use mathlib.Core.Path.{◌≡◌, sym, ap, ◌∙◌}
 use mathlib.Core.List.{List}
 use lib.ListN.{length}
 use native.Mathlib.Nat.{add-zero}
+use Rattle.std.specs.declared.option.Option.{Option}
 use Rattle.layout.specs.Format.{two_of}
 use Rattle.fields.specs.declared.Numbers.{Numbers}
 use Rattle.fields.specs.declared.Numbers.TheVariants.{Unknown, Input, Output, Mixer, Selector, Feature, Printed}
@@ -17,11 +18,10 @@ module _ (x : Numbers) (s k : List ℕ) where
   abbrev size : ℕ
   size = length (written_as (entity_from x s k))
 
-  of_unknown : x ≡ Unknown → 0 ≡ short_of size
-  unfolding short_of
-  of_unknown e = rw e refl
+  module _ (r : Option ℕ) where
+    of_unknown : x ≡ Unknown → r ≡ short_of (0 + 0 + 0) → r ≡ short_of size
+    of_unknown e h = rw e h
 
-  module _ (r : ℕ) where
     of_input : (i t a c l m n : ℕ) → x ≡ Input i t a c l m n → r ≡ short_of (12 + 0 + 0) → r ≡ short_of size
     of_input i t a c l m n e h = rw e h
 

@@ -3,14 +3,15 @@ use borrow.Author.Rules.{rules}
 use Prim.Native.Nat.{ℕ, ◌+◌, ◌<◌}
 use mathlib.Core.Path.{◌≡◌}
 use native.Mathlib.Omega.{arith}
+use Rattle.std.specs.declared.option.Option.TheVariants.{None}
 use Rattle.laying.specs.Laying.{short_of}
 use Rattle.laying.specs.LayingLaws.{short_some, short_none}
 use Rattle.laying.proofs.sized.Goals as goal
 
-first_long : (a b c : ℕ) → 255 < b → 0 ≡ short_of (a + b + c)
+first_long : (a b c : ℕ) → 255 < b → None ≡ short_of (a + b + c)
 first_long a b c h = short_none (a + b + c) (omega arith)
 
-second_long : (a b c : ℕ) → 255 < c → 0 ≡ short_of (a + b + c)
+second_long : (a b c : ℕ) → 255 < c → None ≡ short_of (a + b + c)
 second_long a b c h = short_none (a + b + c) (omega arith)
 
 ruleset laws = (first_long, second_long, short_some, short_none, rules)

@@ -1,12 +1,12 @@
-use borrow.Author.Rules.{rules}
-use Prim.Native.Nat.{ℕ, ◌+◌, ◌-◌, ◌≤◌, ◌<◌}
+use Prim.Native.Nat.{ℕ, ◌+◌, ◌≤◌, ◌<◌}
 use mathlib.Core.Path.{◌≡◌, refl, sym, ap, ◌∙◌}
 use mathlib.Core.List.{List}
 use mathlib.Core.Logic.{⊎_elim}
 use native.Mathlib.Omega.{arith}
 use native.Mathlib.Numerals.{add-one}
 use lib.Dec.{eqb}
-use lib.ListN.{length, get_or, set, replicate, length-set, length-replicate, get_or-replicate}
+use Rattle.std.proofs.Common.{length-take, get_or-take}
+use lib.ListN.{length, get_or, set, take, replicate, length-set, length-replicate, get_or-replicate}
 use lib.Seq.{get_or-set_same, get_or-set_other}
 use borrow.Author.Tests.{eq-eqb, ne_eqb}
 use Rattle.ground.specs.Pick.{yes, no, reads_eq, decided}
@@ -56,6 +56,17 @@ module _ (run : Run) where
           sym (tabulate_get_d table 0) ∙ ap (λ (k : ℕ). tabulate k (λ x. get_or table x 0)) g.long
           ∙ tabulate_same 256 (λ x. get_or table x 0) (λ x. number (bearer run x)) (λ x l. g.at x l ∙ ap (λ (k : ℕ). number (bearer_below run k x)) e)
 
+  -- the entities that are looked at, taken one by one: the one come to is the run's
+  module _ (n i : ℕ) (m : n ≡ held run) where
+    item : i < length (take n run.nodes) → get_or (take n run.nodes) i blank_node ≡ node_at run i
+    item h = let l = length-take n run.nodes in get_or-take n run.nodes i blank_node (omega arith)
+
+    inside : i < length (take n run.nodes) → i < held run
+    inside h = let l = length-take n run.nodes in omega arith
+
+    none_left : length run.nodes ≡ 32 → length (take n run.nodes) ≤ i → held run ≤ i
+    none_left w h = let l = length-take n run.nodes in omega arith
+
   abbrev pub first_of : Node → ℕ
   first_of n = n.first
 
@@ -71,24 +82,30 @@ module _ (run : Run) where
   unfolding blank_node
   start = record { low = omega arith; firsts_are = noted_none first_of refl; counts_are = noted_none pins_of refl }
 
-  module _ (firsts counts : List ℕ) (i : ℕ) (g : Both firsts counts i) where
-    pub on : (x : ℕ) → (x ≡ id_at run i) × (x < 256) → (n : ℕ) → n ≡ held run → i < n
-        → Both (set firsts x (node_at run i).first) (set counts x (node_at run i).pins) (i + 1)
-    on x w n m h = record {
-      low = omega arith;
-      firsts_are = noted_more first_of firsts i g.firsts_are x w.0 w.1;
-      counts_are = noted_more pins_of counts i g.counts_are x w.0 w.1;
-    }
+  module _ (firsts counts : List ℕ) (i : ℕ) (g : Both firsts counts i) (n : ℕ) (m : n ≡ held run) where
+    module _ (h : i < length (take n run.nodes)) where
+      abbrev node : Node
+      node = get_or (take n run.nodes) i blank_node
 
-    pub over : (n : ℕ) → n ≡ held run → n ≤ i → record { firsts = firsts; counts = counts } ≡ source_places_of run
+      pub on : (x : ℕ) → (x ≡ node.id) × (x < 256) → Both (set firsts x node.first) (set counts x node.pins) (i + 1)
+      on x w =
+          let e = item n i m h in
+          let q : x ≡ id_at run i = w.0 ∙ ap (λ (o : Node). o.id) e in
+          let l = inside n i m h in
+          rw e
+          (record {
+            low = omega arith;
+            firsts_are = noted_more first_of firsts i g.firsts_are x q w.1;
+            counts_are = noted_more pins_of counts i g.counts_are x q w.1;
+          })
+
+    pub over : length run.nodes ≡ 32 → length (take n run.nodes) ≤ i → record { firsts = firsts; counts = counts } ≡ source_places_of run
     unfolding source_places_of
-    over n m h =
+    over w h =
         let l = g.low in
+        let k = none_left n i m w h in
         let e : i ≡ held run = omega arith in
         rw (noted_all first_of firsts i g.firsts_are e, noted_all pins_of counts i g.counts_are e) refl
 
-abbrev pub invariant-loop-i : goal.invariant-loop-i
-invariant-loop-i l = Both l.run l.firsts l.counts l.i
-
-abbrev pub decreases-loop-i : goal.decreases-loop-i
-decreases-loop-i l = l.n - l.i
+abbrev pub invariant-loop-node : goal.invariant-loop-node
+invariant-loop-node l = Both l.fn.run l.firsts l.counts l.node-index
