@@ -4,7 +4,7 @@
 --   addressed_rising  ==  the channels of the addressed controls rise along the list
 --   addressed_few     ==  no more are addressed than most_addressed
 use Prim.Native.Nat.{ℕ, zero, suc, ◌+◌, ◌≤◌, ◌<◌}
-use Rattle.std.specs.Prelude.{◌≡◌, Bool, true, false, ◌&&◌, ◌⊎◌, eqb, ltb, length}
+use Rattle.std.specs.Prelude.{◌≡◌, ◌⊎◌, eqb, length}
 use Rattle.std.proofs.Math.Path.{refl, sym, ap}
 use Rattle.std.proofs.Common.{◌∙◌, add-zero}
 use mathlib.Core.List.Memᴰ
@@ -12,19 +12,14 @@ use mathlib.Core.List.{List, ◌++◌, append_assoc, append-nil, Memᴰ}
 use Rattle.std.proofs.Math.Logic.{inl, inr, ⊎_elim}
 use native.Mathlib.Omega.{arith}
 use Rattle.std.proofs.Math.ListN.{length-append}
-use Rattle.ground.specs.Pick.{pick, Reads, decided, yes, reads_same, reads_true, reads_eq, reads_lt, reads_and}
+use Rattle.ground.specs.Pick.{decided, reads_eq}
 use Rattle.ground.specs.Rising.{Rising, none, more}
-use Rattle.table.specs.declared.Control.{Control}
 use Rattle.table.specs.declared.Table.{Table}
-use Rattle.table.specs.declared.Sense.{Sense}
-use Rattle.table.specs.declared.Sense.TheVariants.{Unknown, YesNo, Ranged, Pin}
-use Rattle.table.specs.Controls.{at, answers_to, sense_of}
-use Rattle.table.specs.First.{Seat, places, found_in, found_first, none_found}
+use Rattle.table.specs.Controls.{at, sense_of}
+use Rattle.table.specs.First.{Seat}
 use Rattle.table.specs.First.Seat.{absent, seat}
-use Rattle.table.specs.Keys.{Key, where_is, StandsAt}
-use Rattle.single.specs.Meaning.{SoundAs}
 use Rattle.sound.specs.Meaning.{Sound}
-use Rattle.address.specs.Addressed.{most_addressed, wants_channel, indices_of, seat_at, seats_from, addressed_in}
+use Rattle.address.specs.Addressed.{most_addressed, indices_of, seat_at, seats_from, addressed_in}
 use Rattle.address.specs.AddressedLaws.{sound_channel, Named, seat_named, named_seat, channel_at}
 
 -- the seats, whatever the table

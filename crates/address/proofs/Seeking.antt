@@ -5,6 +5,7 @@
 --   twice_unsound, sought_unsound  ==  what is answered where 30 has something against the table
 --   sought_in_order, sought_any_order  ==  where it has nothing, the seats have the addressed indices, and what they tell is answered
 use Prim.Native.Nat.{ℕ, zero, suc, ◌+◌, ◌-◌, ◌≤◌, ◌<◌}
+use Rattle.std.specs.Prelude.{Result, Err}
 use mathlib.Core.Path.{◌≡◌, refl, sym, ap, ◌∙◌, subst}
 use mathlib.Core.Bool.{Bool, true, false, not, ◌&&◌}
 use mathlib.Core.List.{List, ◌++◌}
@@ -31,7 +32,7 @@ use Rattle.address.specs.declared.Sought.{Sought}
 use Rattle.address.specs.Addressed.{most_addressed, indices_of, seat_at, seats_from, addressed_in, unit_in}
 use Rattle.address.specs.AddressedLaws.{sound_channel, is_named, Named, named_reads, SeatedOn, seat_named, named_seat}
 use Rattle.address.proofs.AddressedLemmas.{seats_on}
-use Rattle.address.specs.Sought.{none_sought, told_of, sought_for, sought_in}
+use Rattle.address.specs.Sought.{told_of, sought_for, sought_in}
 use Rattle.address.specs.Seats.{seat_of, seated_in}
 
 module _ (t : Table) (u ch s : ℕ) where
@@ -65,9 +66,9 @@ module _ (t : Table) (u ch s : ℕ) where
       nobody : {c : ℕ} → SeatIs c 0 0
       nobody = record { free = λ e p l. absurd (omega arith); taken = λ l. absurd (omega arith) }
 
-  pub sought_unsound : false ≡ sound_of t → (r : Sought) → r ≡ none_sought 30 → r ≡ sought_in t u ch s
+  pub sought_unsound : false ≡ sound_of t → (r : Result Sought ℕ) → r ≡ Err 30 → r ≡ sought_in t u ch s
   unfolding sought_in
-  sought_unsound e r f = f ∙ sym (no (sought_for t u (addressed_in t u ch s)) (none_sought 30) (sym e))
+  sought_unsound e r f = f ∙ sym (no (sought_for t u (addressed_in t u ch s)) (Err 30) (sym e))
 
   -- the pass
   module _ (tops seats : List ℕ) (rising : Bool) (n : ℕ) (g : Seeking tops seats rising n) where
@@ -200,7 +201,7 @@ module _ (t : Table) (u ch s : ℕ) where
           ∙ ap (λ (d : ℕ). seats_from t u ch s 0 c ++ indices_of (seat_at t u ch s d)) (sym (zero-add c))
           ∙ sym (seats_on t u ch s 0 c)
 
-      module _ (own : ℕ) (w : (own ≡ u) × (own < 256)) (r : Sought) (e : r ≡ told_of (ltb 0 (get_or tops own 0)) (seated_in seats most_addressed)) where
+      module _ (own : ℕ) (w : (own ≡ u) × (own < 256)) (r : Result Sought ℕ) (e : r ≡ told_of (ltb 0 (get_or tops own 0)) (seated_in seats most_addressed)) where
         sought : true ≡ sound_of t → r ≡ sought_in t u ch s
         unfolding sought_in
         sought ok =
@@ -208,7 +209,7 @@ module _ (t : Table) (u ch s : ℕ) where
             e
             ∙ ap (λ (b : Bool). told_of b (seated_in seats most_addressed)) o
             ∙ ap (sought_for t u) (seats_told ((sound_reads t).says (sym ok)) most_addressed)
-            ∙ sym (yes (sought_for t u (addressed_in t u ch s)) (none_sought 30) (sym ok))
+            ∙ sym (yes (sought_for t u (addressed_in t u ch s)) (Err 30) (sym ok))
 
         pub sought_in_order : not rising ≡ false → r ≡ sought_in t u ch s
         sought_in_order f = sought (rising_over t tops n (g.rises (not-false rising f)) over)

@@ -8,28 +8,24 @@
 --   is_named u ch s c, named_reads  ==  the test of that
 --   SeatedOn t u ch s c p  ==  .. and that is channel c; seat_named, named_seat: exactly that one has the channel's seat
 --   channel_at t p     ==  the channel of the control at index p
-use Prim.Native.Nat.{ℕ, zero, suc, ◌+◌, ◌≤◌, ◌<◌}
-use Rattle.std.specs.Prelude.{◌≡◌, Bool, true, false, ◌&&◌, ◌⊎◌, eqb, ltb, length}
+use Prim.Native.Nat.{ℕ, ◌<◌}
+use Rattle.std.specs.Prelude.{◌≡◌, Bool, true, false, ◌&&◌, eqb, ltb}
 use Rattle.std.proofs.Math.Path.{refl, sym, ap}
-use Rattle.std.proofs.Common.{◌∙◌, add-zero}
-use mathlib.Core.List.Memᴰ
-use mathlib.Core.List.{List, ◌++◌, append_assoc, append-nil, Memᴰ}
-use Rattle.std.proofs.Math.Logic.{inl, inr, ⊎_elim}
+use Rattle.std.proofs.Common.{◌∙◌}
+use Rattle.std.proofs.Math.Logic.{⊎_elim}
 use native.Mathlib.Omega.{arith}
-use Rattle.std.proofs.Math.ListN.{length-append}
 use Rattle.ground.specs.Pick.{pick, Reads, decided, yes, reads_same, reads_true, reads_eq, reads_lt, reads_and}
-use Rattle.ground.specs.Rising.{Rising, none, more}
 use Rattle.table.specs.declared.Control.{Control}
 use Rattle.table.specs.declared.Table.{Table}
 use Rattle.table.specs.declared.Sense.{Sense}
 use Rattle.table.specs.declared.Sense.TheVariants.{Unknown, YesNo, Ranged, Pin}
-use Rattle.table.specs.Controls.{at, answers_to, sense_of}
+use Rattle.table.specs.Controls.{at, answers_to}
 use Rattle.table.specs.First.{Seat, places, found_in, found_first, none_found}
 use Rattle.table.specs.First.Seat.{absent, seat}
 use Rattle.table.specs.Keys.{Key, where_is, StandsAt}
 use Rattle.single.specs.Meaning.{SoundAs}
 use Rattle.sound.specs.Meaning.{Sound}
-use Rattle.address.specs.Addressed.{most_addressed, wants_channel, indices_of, seat_at, seats_from, addressed_in}
+use Rattle.address.specs.Addressed.{most_addressed, wants_channel, seat_at}
 
 pub sound_channel : (k : Sense) (c : Control) → SoundAs k c → c.channel < most_addressed
 sound_channel Unknown c h = absurd h

@@ -9,7 +9,10 @@ use mathlib.Core.List.{List, ◌++◌}
 use native.Mathlib.Omega.{arith}
 use lib.ListN.{length, take, drop}
 use lib.Seq.{length-take-le}
+use borrow.Author.Tests.{eq-eqb, ne_eqb}
+use Rattle.std.specs.declared.result.Result.TheVariants.{Ok, Err}
 use Rattle.ground.specs.declared.Refusal.{Refusal}
+use Rattle.ground.specs.Pick.{yes, no}
 use Rattle.records.specs.Records.{record_size}
 use Rattle.records.specs.Sheet.{whole_sheet}
 use Rattle.topology.specs.declared.Reading.{Reading}
@@ -21,7 +24,7 @@ use Rattle.sides.specs.Sides.{admission_by}
 use Rattle.admission.specs.declared.Admission.{Admission}
 use Rattle.admission.specs.Plugging.{admitted_by, sheet_after}
 use Rattle.admission.specs.PluggingLaws.{Judged, judged}
-use Rattle.admission.specs.Admission.{admission_of, Admits}
+use Rattle.admission.specs.Admission.{Admits}
 use Rattle.admission.specs.Drafts.{Drafted}
 use Rattle.admission.proofs.Drafted.{draft_reading, records_inside, records_held, records_copied}
 
@@ -43,16 +46,16 @@ module _ (met : ℕ) (s z d : List ℕ) (long : length z ≡ whole_sheet) (q : P
   told = rw (f, reads) (judged met R)
 
   abbrev come : Admission
-  come = record { refusal = x; entities = q.reading.entities; controls = q.reading.controls; state = q.state }
+  come = record { entities = q.reading.entities; controls = q.reading.controls; state = q.state }
 
-  answered : come ≡ admission_of met R
-  answered =
-      ap (λ (t : Refusal). record { refusal = t; entities = q.reading.entities; controls = q.reading.controls; state = q.state }) f
-      ∙ ap (λ (t : Reading). record { refusal = admission_by t.number t.place t.controls met; entities = t.entities; controls = t.controls; state = q.state }) reads
-      ∙ ap (λ (t : State). record { refusal = (admission_of met R).refusal; entities = R.entities; controls = R.controls; state = t }) (p.state ∙ ap state_of same)
+  by : x ≡ admission_by R.number R.place R.controls met
+  by = f ∙ ap (λ (t : Reading). admission_by t.number t.place t.controls met) reads
 
-  pub away : (x.number ≡ 0 → ⊥) → Admits met s d come d
-  away n = record { result = answered; sheet = sym (ap (sheet_after s d) (told.refuses n)) }
+  pub away : (x.number ≡ 0 → ⊥) → Admits met s d (Err x) d
+  away n = record {
+    result = ap Err by ∙ sym (no _ _ (ne_eqb _ 0 (λ z. n (ap (λ (t : Refusal). t.number) by ∙ z))));
+    sheet = sym (ap (sheet_after s d) (told.refuses n));
+  }
 
   module _ (e : x.number ≡ 0) where
     front : length (take m z) ≡ m
@@ -70,9 +73,14 @@ module _ (met : ℕ) (s z d : List ℕ) (long : length z ≡ whole_sheet) (q : P
     pub draft_holds : q.reading.entities * record_size ≤ length y
     draft_holds = rw (entities, p.draft) (records_held s (take m z) (drop m z) accepted)
 
+    answered : come ≡ record { entities = R.entities; controls = R.controls; state = state_of R }
+    answered =
+        ap (λ (t : Reading). record { entities = t.entities; controls = t.controls; state = q.state }) reads
+        ∙ ap (λ (t : State). record { entities = R.entities; controls = R.controls; state = t }) (p.state ∙ ap state_of same)
+
     pub settled : (a : List ℕ) → a ≡ take (q.reading.entities * record_size) y ++ drop (q.reading.entities * record_size) d
-        → Admits met s d come a
-    settled a h = record { result = answered; sheet = h ∙ copied ∙ sym (ap (sheet_after s d) (told.accepts e).1) }
+        → Admits met s d (Ok come) a
+    settled a h = record { result = ap Ok answered ∙ sym (yes _ _ (eq-eqb _ 0 (sym (ap (λ (t : Refusal). t.number) by) ∙ e))); sheet = h ∙ copied ∙ sym (ap (sheet_after s d) (told.accepts e).1) }
       where
         copied : take (q.reading.entities * record_size) y ++ drop (q.reading.entities * record_size) d ≡ sheet_of s d
         copied =

@@ -2,26 +2,17 @@
 --   admitted_cases, plug_cases  ==  what a plug-in comes to, refusal by refusal in document 02's order
 --   Judged r o x    ==  the plug-in o of the reading r comes to what the refusal x says: 0 lets it in, and the reader accepts it then
 --   judged          ==  .. of admissionBy's refusal
-use Rattle.std.specs.Prelude.{ℕ, ◌+◌, ◌≡◌, Bool, List, eqb, leb, length}
+use Rattle.std.specs.Prelude.{ℕ, ◌+◌, ◌≡◌, Bool, eqb, leb}
 use Rattle.std.proofs.Math.Path.{refl}
-use Rattle.std.proofs.Common.{sym, ap, ◌∙◌, arith, eq-eqb, ne_eqb}
+use Rattle.std.proofs.Common.{eq-eqb, ne_eqb}
 use Rattle.std.proofs.Math.Bool.{true, false}
 use Rattle.ground.specs.declared.Refusal.{Refusal}
 use Rattle.ground.specs.Pick.{pick, yes, no, Reads, refutes, reads_eq}
 use Rattle.ground.specs.Refuse.{none}
 use Rattle.topology.specs.declared.Reading.{Reading}
-use Rattle.topology.specs.Reading.{reading_of}
-use Rattle.sides.specs.declared.Side.{Side}
 use Rattle.sides.specs.Sides.{most_together, admission_by}
-use Rattle.duet.specs.declared.Duet.{Duet}
-use Rattle.duet.specs.declared.Vacancy.{Vacancy}
-use Rattle.duet.specs.Box.{other_side, socket_of, controls_on, sound_duet}
-use Rattle.duet.specs.Coming.{barred_by, vacancy_of}
-use Rattle.admission.specs.declared.Admitted.{Admitted}
-use Rattle.admission.specs.declared.Admission.{Admission}
-use Rattle.admission.specs.Plugging.{Plugging, let_in_unless, admitted_by, plug_of, turned_away, plug_answer, sheet_after, PlugsIn}
+use Rattle.admission.specs.Plugging.{Plugging, let_in_unless, admitted_by}
 use Rattle.admission.specs.Plugging.Plugging.{refused, let_in}
-use Rattle.admission.specs.Admission.{welcomed, Admits}
 
 pub admitted_cases : (n : ℕ) (r : Reading)
     → admitted_by n r ≡ pick (eqb r.number 0) (pick (leb (n + r.controls) most_together) (let_in r) (refused 62 0)) (refused r.number r.place)

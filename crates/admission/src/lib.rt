@@ -19,6 +19,7 @@ use sides::Side;
 // The bytes of a sheet that holds the records of every configuration.
 const SHEET: usize = entities::MOST_ENTITIES * records::RECORD;
 
+// Stays: `PlugsIn`, the contract of `plug_in`, tells number and place, 0 and 0 of no refusal, beside the counts and the box.
 // What a plug-in comes to: 0 or the number of the refusal, with its place where it is the reader's; of an acceptance the microphone's own
 // AudioControl number and the counts of its entities and controls; and the box after it.
 #[derive(Clone, Copy)]
@@ -31,11 +32,9 @@ pub struct Admitted {
     pub duet: Duet,
 }
 
-// What comes of a microphone's reading: its refusal, the reader's or 62, 0 and 0 where it is let in; the counts of its entities and controls; and
-// the request layer's state of it.
+// What comes of a microphone that is let in: the counts of its entities and controls, and the request layer's state of it.
 #[derive(Clone, Copy)]
 struct Admission {
-    refusal: Refusal,
     entities: usize,
     controls: usize,
     state: State,
@@ -45,20 +44,7 @@ struct Admission {
 fn draft_room(bytes: usize) -> usize
     ensures { result ≡ min bytes whole_sheet }
 {
-    if bytes < SHEET { bytes } else { SHEET }
-}
-
-// The first n bytes written to the front of the sheet.
-fn copy_front(from: &[u8], n: usize, sheet: &mut [u8])
-    requires n_in_bounds { n ≤ length from.now }
-    requires n_in_bounds_2 { n ≤ length sheet.old }
-    ensures { sheet.new ≡ take n from.now ++ drop n sheet.old }
-{
-    let mut i: usize = 0;
-    while i < n {
-        sheet[i] = from[i];
-        i += 1;
-    }
+    bytes.min(SHEET)
 }
 
 // So many records of a draft written to the front of the sheet.
@@ -67,7 +53,8 @@ fn copy_records(draft: &[u8], count: usize, sheet: &mut [u8])
     requires record_size_in_bounds_2 { count * record_size ≤ length sheet.old }
     ensures { sheet.new ≡ take (count * record_size) draft.now ++ drop (count * record_size) sheet.old }
 {
-    copy_front(draft, count * records::RECORD, sheet);
+    let n = count * records::RECORD;
+    sheet[..n].copy_from_slice(&draft[..n]);
 }
 
 // A microphone read with a draft lent in the place of a sheet of that many bytes.
@@ -79,36 +66,32 @@ fn read_draft(config: &[u8], bytes: usize, draft: &mut [u8]) -> Plugged
     plug::plug_in(config, &mut draft[..room])
 }
 
-// A microphone read into the draft, and its records written to the sheet where it is let in.
-fn admit_by(config: &[u8], met: usize, draft: &mut [u8], sheet: &mut [u8]) -> Admission
+// A microphone read into the draft, and its records written to the sheet where it is let in; else the reader's refusal, or 62.
+fn admit_by(
+    config: &[u8],
+    met: usize,
+    draft: &mut [u8],
+    sheet: &mut [u8],
+) -> Result<Admission, Refusal>
     requires { length draft.old ≡ whole_sheet }
     ensures { Admits met config.now sheet.old result sheet.new }
 {
     let plugged = read_draft(config, sheet.len(), draft);
     let reading = plugged.reading;
     let refusal = sides::judge_reading(reading.number, reading.place, reading.controls, met);
-    let entities = reading.entities;
-    let controls = reading.controls;
-    let state = plugged.state;
     if refusal.number != 0 {
-        return Admission {
-            refusal,
-            entities,
-            controls,
-            state,
-        };
+        return Err(refusal);
     }
-    copy_records(draft, entities, sheet);
-    Admission {
-        refusal,
-        entities,
-        controls,
-        state,
-    }
+    copy_records(draft, reading.entities, sheet);
+    Ok(Admission {
+        entities: reading.entities,
+        controls: reading.controls,
+        state: plugged.state,
+    })
 }
 
 // A microphone read for a side, where the other side has so many controls.
-fn admit(config: &[u8], met: usize, sheet: &mut [u8]) -> Admission
+fn admit(config: &[u8], met: usize, sheet: &mut [u8]) -> Result<Admission, Refusal>
     ensures { Admits met config.now sheet.old result sheet.new }
 {
     let mut draft = [0u8; SHEET];
@@ -147,14 +130,12 @@ fn welcome(duet: Duet, side: Side, admission: Admission) -> Admitted
 pub fn plug_in(duet: Duet, side: Side, config: &[u8], sheet: &mut [u8]) -> Admitted
     ensures { PlugsIn duet side config.now sheet.old result sheet.new }
 {
-    let vacancy = duet::vacancy_on(duet, side);
-    if vacancy.number != 0 {
-        return turned_away(duet, vacancy.number, 0);
+    let met = match duet::vacancy_on(duet, side) {
+        Ok(met) => met,
+        Err(number) => return turned_away(duet, number, 0),
+    };
+    match admit(config, met, sheet) {
+        Ok(admission) => welcome(duet, side, admission),
+        Err(refusal) => turned_away(duet, refusal.number, refusal.place),
     }
-    let admission = admit(config, vacancy.met, sheet);
-    let refusal = admission.refusal;
-    if refusal.number != 0 {
-        return turned_away(duet, refusal.number, refusal.place);
-    }
-    welcome(duet, side, admission)
 }

@@ -2,24 +2,19 @@
 --   block_long           ==  a block has the bytes of all its controls; cut_long: and what is sent of it the lesser of those and wLength
 --   sizes_snoc, takes_snoc, sets_snoc, block_snoc  ==  sizes, 38, what is stored and the block, of one control more
 --   sets_long            ==  a Set leaves as many controls as there were
---   set_by_number, get_by_number  ==  a Set and a Get by the number of their refusal
+--   set_by_number, get_by_number  ==  a Set and a Get by the number of their refusal; denied_or o x: the refusal x, or o where none is given
 --   set_silent           ==  a Set writes nothing
-use Rattle.std.specs.Prelude.{ℕ, suc, ◌+◌, ◌*◌, ◌≤◌, min, ◌≡◌, refl, List, [], ◌∷◌, ◌++◌, Bool, true, false, ◌&&◌, length, get_or, take, drop, eqb, ltb}
-use Rattle.std.proofs.Common.{sym, ap, ◌∙◌, append-nil, append_assoc, add-zero, arith, length-append, length-take, get_or-drop, drop-drop}
+use Rattle.std.specs.Prelude.{ℕ, Option, None, Some, suc, ◌+◌, ◌*◌, ◌≤◌, min, ◌≡◌, refl, List, [], ◌∷◌, ◌++◌, Bool, true, false, ◌&&◌, length, drop, ltb}
+use Rattle.std.proofs.Common.{sym, ap, ◌∙◌, arith, length-append, length-take, drop-drop}
 use Rattle.std.proofs.Math.Bool.{and-true, and_assoc}
 use Rattle.ground.specs.Pick.{pick}
 use Rattle.ground.specs.Lists.{any}
-use Rattle.ground.specs.Numbers.{byte, word}
-use Rattle.setting.specs.declared.Sort.TheVariants.{Volume, Tone, Delay}
 use Rattle.table.specs.declared.Control.{Control}
-use Rattle.table.specs.declared.Sense.{Sense}
-use Rattle.table.specs.declared.Sense.TheVariants.{Unknown, YesNo, Ranged, Pin}
-use Rattle.table.specs.Controls.{size_of}
 use Rattle.setup.specs.declared.Part.{Part}
 use Rattle.deed.specs.Doing.{Doing, bytes_in}
 use Rattle.deed.specs.Reply.{low_first, low_first_long}
 use Rattle.deed.specs.Doing.Doing.{denied, given, changed}
-use Rattle.answers.specs.Held.{lacking, part_of, unready, value_in, takes, stored_for, with_cur}
+use Rattle.answers.specs.Held.{lacking, part_of, unready, takes, stored_for, with_cur}
 use Rattle.answers.specs.Answers.{held_by, size_in, sizes_of, sent_to, rest_of, all_take, all_set, block_of, misfits, cut_to, set_number, get_number, set_of, get_of}
 use Rattle.answers.specs.AnswersLaws.{size_most}
 
@@ -70,26 +65,34 @@ unfolding set_of
 set_silent cs n d = silent (any (λ c. unready (held_by c) c) cs) _ _ refl (silent (misfits cs n d) _ _ refl (silent (all_take cs d) _ _ refl refl))
 
 -- the rows, by their number
-set_picked : (u m t : Bool) (o : Doing) (n : ℕ) → n ≡ pick u 36 (pick m 37 (pick t 0 38)) → pick u (denied 36) (pick m (denied 37) (pick t o (denied 38))) ≡ pick (eqb n 0) o (denied n)
-set_picked true m t o n e = rw e
-set_picked false true t o n e = rw e
-set_picked false false true o n e = rw e
-set_picked false false false o n e = rw e
+abbrev pub denied_or : Doing → Option ℕ → Doing
+denied_or o None = o
+denied_or o (Some n) = denied n
 
-pub set_by_number : (cs : List Control) (n : ℕ) (d : List ℕ) (x : ℕ) → x ≡ set_number (any (λ c. unready (held_by c) c) cs) (all_take cs d) (sizes_of cs) n (length d)
-    → set_of cs n d ≡ pick (eqb x 0) (changed (all_set cs d)) (denied x)
+set_picked : (u m t : Bool) (o : Doing)
+    → pick u (denied 36) (pick m (denied 37) (pick t o (denied 38))) ≡ denied_or o (pick u (Some 36) (pick m (Some 37) (pick t None (Some 38))))
+set_picked true m t o = refl
+set_picked false true t o = refl
+set_picked false false true o = refl
+set_picked false false false o = refl
+
+pub set_by_number : (cs : List Control) (n : ℕ) (d : List ℕ) (x : Option ℕ) → x ≡ set_number (any (λ c. unready (held_by c) c) cs) (all_take cs d) (sizes_of cs) n (length d)
+    → set_of cs n d ≡ denied_or (changed (all_set cs d)) x
 unfolding set_of set_number
-set_by_number cs n d x e = set_picked (any (λ c. unready (held_by c) c) cs) (misfits cs n d) (all_take cs d) _ x e
+set_by_number cs n d x e =
+    set_picked (any (λ c. unready (held_by c) c) cs) (misfits cs n d) (all_take cs d) (changed (all_set cs d)) ∙ ap (denied_or (changed (all_set cs d))) (sym e)
 
-get_picked : (k u r : Bool) (o : Doing) (n : ℕ) → n ≡ pick k 35 (pick u 36 (pick r 39 0)) → pick k (denied 35) (pick u (denied 36) (pick r (denied 39) o)) ≡ pick (eqb n 0) o (denied n)
-get_picked true u r o n e = rw e
-get_picked false true r o n e = rw e
-get_picked false false true o n e = rw e
-get_picked false false false o n e = rw e
+get_picked : (k u r : Bool) (o : Doing)
+    → pick k (denied 35) (pick u (denied 36) (pick r (denied 39) o)) ≡ denied_or o (pick k (Some 35) (pick u (Some 36) (pick r (Some 39) None)))
+get_picked true u r o = refl
+get_picked false true r o = refl
+get_picked false false true o = refl
+get_picked false false false o = refl
 
-pub get_by_number : (part : Part) (cs : List Control) (n room x : ℕ)
+pub get_by_number : (part : Part) (cs : List Control) (n room : ℕ) (x : Option ℕ)
     → x ≡ get_number (any (λ c. lacking (held_by c) part) cs) (any (λ c. unready (held_by c) c) cs) (length (cut_to n part cs)) room
-    → get_of part cs n room ≡ pick (eqb x 0) (given (cut_to n part cs)) (denied x)
+    → get_of part cs n room ≡ denied_or (given (cut_to n part cs)) x
 unfolding get_of get_number
 get_by_number part cs n room x e =
-    get_picked (any (λ c. lacking (held_by c) part) cs) (any (λ c. unready (held_by c) c) cs) (ltb room (length (cut_to n part cs))) _ x e
+    get_picked (any (λ c. lacking (held_by c) part) cs) (any (λ c. unready (held_by c) c) cs) (ltb room (length (cut_to n part cs))) (given (cut_to n part cs))
+    ∙ ap (denied_or (given (cut_to n part cs))) (sym e)

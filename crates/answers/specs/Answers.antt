@@ -9,11 +9,11 @@
 --   wrong_size z n l        ==  37, of a Set: "wLength is not the control's size, or Set data is not that long"; misfits cs n d: of these controls
 --   set_rows deny o u t z n l, get_rows deny o k u z room  ==  the rows in their order, from what each asks of all controls together: what deny
 --                              makes of the number of the first that is given, and o where none is
---   set_number u t z n l, get_number k u z room  ==  .. as a number, 0 where none is given
+--   set_number u t z n l, get_number k u z room  ==  .. as a number, if one is given
 --   set_of cs n d           ==  36, 37, 38, or the controls as the Set leaves them; n is wLength
 --   cut_to n part cs        ==  the bytes to be sent: "the first wLength bytes of the value, or all of it if wLength is larger"
 --   get_of part cs n room   ==  35, 36, 39: "the reply buffer is shorter than the bytes to be sent", or those bytes; room is the reply's length
-use Rattle.std.specs.Prelude.{ℕ, ◌+◌, List, [], ◌∷◌, ◌++◌, Bool, true, not, ◌&&◌, ◌||◌, eqb, ltb, length, take, drop}
+use Rattle.std.specs.Prelude.{ℕ, Option, None, Some, ◌+◌, List, [], ◌∷◌, ◌++◌, Bool, true, not, ◌&&◌, ◌||◌, eqb, ltb, length, take, drop}
 use Rattle.ground.specs.Pick.{pick}
 use Rattle.ground.specs.Lists.{any}
 use Rattle.table.specs.declared.Control.{Control}
@@ -76,11 +76,11 @@ set_rows deny o u t z n l = pick u (deny 36) (pick (wrong_size z n l) (deny 37) 
 abbrev pub get_rows : {A : Type 0} → (ℕ → A) → A → Bool → Bool → ℕ → ℕ → A
 get_rows deny o k u z room = pick k (deny 35) (pick u (deny 36) (pick (ltb room z) (deny 39) o))
 
-unfoldable pub set_number : Bool → Bool → ℕ → ℕ → ℕ → ℕ
-set_number u t z n l = set_rows (λ number. number) 0 u t z n l
+unfoldable pub set_number : Bool → Bool → ℕ → ℕ → ℕ → Option ℕ
+set_number u t z n l = set_rows Some None u t z n l
 
-unfoldable pub get_number : Bool → Bool → ℕ → ℕ → ℕ
-get_number k u z room = get_rows (λ number. number) 0 k u z room
+unfoldable pub get_number : Bool → Bool → ℕ → ℕ → Option ℕ
+get_number k u z room = get_rows Some None k u z room
 
 unfoldable pub set_of : List Control → ℕ → List ℕ → Doing
 set_of cs n d = set_rows denied (changed (all_set cs d)) (any (λ c. unready (held_by c) c) cs) (all_take cs d) (sizes_of cs) n (length d)

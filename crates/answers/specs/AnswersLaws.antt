@@ -2,11 +2,8 @@
 --   size_least, size_most  ==  a control's value has one byte or two; sizes_most: and those of a list so many together
 --   sizes_snoc, takes_snoc, sets_snoc, block_snoc  ==  sizes, 38, what is stored and the block, of one control more
 --   byte_sent, word_sent ==  the number that one byte of the data is, or two
-use Rattle.std.specs.Prelude.{ℕ, suc, ◌+◌, ◌*◌, ◌≤◌, min, ◌≡◌, refl, List, [], ◌∷◌, ◌++◌, Bool, true, false, ◌&&◌, length, get_or, take, drop, eqb, ltb}
-use Rattle.std.proofs.Common.{sym, ap, ◌∙◌, append-nil, append_assoc, add-zero, arith, length-append, length-take, get_or-drop, drop-drop}
-use Rattle.std.proofs.Math.Bool.{and-true, and_assoc}
-use Rattle.ground.specs.Pick.{pick}
-use Rattle.ground.specs.Lists.{any}
+use Rattle.std.specs.Prelude.{ℕ, ◌+◌, ◌*◌, ◌≤◌, ◌≡◌, refl, List, [], ◌∷◌, ◌++◌, get_or, take, drop}
+use Rattle.std.proofs.Common.{sym, ap, ◌∙◌, append-nil, append_assoc, add-zero, arith, get_or-drop}
 use Rattle.ground.specs.Numbers.{byte, word}
 use Rattle.setting.specs.declared.Sort.TheVariants.{Volume, Tone, Delay}
 use Rattle.table.specs.declared.Control.{Control}
@@ -14,11 +11,9 @@ use Rattle.table.specs.declared.Sense.{Sense}
 use Rattle.table.specs.declared.Sense.TheVariants.{Unknown, YesNo, Ranged, Pin}
 use Rattle.table.specs.Controls.{size_of}
 use Rattle.setup.specs.declared.Part.{Part}
-use Rattle.deed.specs.Doing.{Doing, bytes_in}
-use Rattle.deed.specs.Reply.{low_first, low_first_long}
-use Rattle.deed.specs.Doing.Doing.{denied, given, changed}
-use Rattle.answers.specs.Held.{lacking, part_of, unready, value_in, takes, stored_for, with_cur}
-use Rattle.answers.specs.Answers.{held_by, size_in, sizes_of, sent_to, rest_of, all_take, all_set, block_of, misfits, cut_to, set_number, get_number, set_of, get_of}
+use Rattle.deed.specs.Reply.{low_first}
+use Rattle.answers.specs.Held.{part_of, value_in}
+use Rattle.answers.specs.Answers.{size_in, block_of}
 
 pub size_most : (k : Sense) → size_of k ≤ 2
 size_most Unknown = omega arith

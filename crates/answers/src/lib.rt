@@ -8,41 +8,28 @@ ghost use Rattle.answers.specs.Held.{is_ranged, of_range, lacking, part_of, unre
 ghost use Rattle.answers.specs.Answers.{size_in, set_asks, set_to, set_number, get_asks, get_number};
 
 use scan::word_at;
-use setting::Range;
 use setup::Part;
 use table::{Control, Sense};
 
 fn is_ranged(held: Sense) -> bool
     ensures { result ≡ is_ranged held }
 {
-    match held {
-        Sense::Unknown => false,
-        Sense::YesNo => false,
-        Sense::Ranged(_) => true,
-        Sense::Pin => false,
-    }
+    matches!(held, Sense::Ranged(_))
 }
 
 // Whether the part is one that only a ranged control has.
 fn of_range(part: Part) -> bool
     ensures { result ≡ of_range part }
 {
-    match part {
-        Part::Cur => false,
-        Part::Min => true,
-        Part::Max => true,
-        Part::Res => true,
-    }
+    matches!(part, Part::Min | Part::Max | Part::Res)
 }
 
 // Whether the control has no such part.
+#[tactic(auto, unfolding(crate::specs::Held::lacking))]
 fn lacks(held: Sense, part: Part) -> bool
     ensures { result ≡ lacking held part }
 {
-    if !of_range(part) {
-        return false;
-    }
-    !is_ranged(held)
+    of_range(part) && !is_ranged(held)
 }
 
 // The number that a part of the control is.
@@ -58,13 +45,11 @@ pub fn part_of(part: Part, control: Control) -> u16
 }
 
 // Whether the control is ranged and not loaded.
+#[tactic(auto, unfolding(crate::specs::Held::unready))]
 fn is_unready(held: Sense, control: Control) -> bool
     ensures { result ≡ unready held control }
 {
-    if !is_ranged(held) {
-        return false;
-    }
-    !control.loaded
+    is_ranged(held) && !control.loaded
 }
 
 // Whether a Set to this number is taken: a yes/no takes 0 and 1, a Selector its pins, a ranged control each number.
@@ -75,12 +60,7 @@ fn takes_number(held: Sense, control: Control, wanted: u16) -> bool
         Sense::Unknown => false,
         Sense::YesNo => wanted <= 1,
         Sense::Ranged(_) => true,
-        Sense::Pin => {
-            if wanted < 1 {
-                return false;
-            }
-            wanted <= control.pins as u16
-        }
+        Sense::Pin => (1..=control.pins as u16).contains(&wanted),
     }
 }
 
@@ -89,17 +69,8 @@ fn stored_for(held: Sense, control: Control, wanted: u16) -> u16
     ensures { result ≡ stored_for held control wanted }
 {
     match held {
-        Sense::Unknown => wanted,
-        Sense::YesNo => wanted,
-        Sense::Ranged(sort) => {
-            let range = Range {
-                min: control.min,
-                max: control.max,
-                res: control.res,
-            };
-            setting::closest(sort, range, wanted)
-        }
-        Sense::Pin => wanted,
+        Sense::Ranged(sort) => setting::closest(sort, control.range(), wanted),
+        _ => wanted,
     }
 }
 
@@ -108,17 +79,16 @@ fn sent_at(held: Sense, data: &[u8], at: usize) -> u16
     ensures { result ≡ value_in (take (size_of held) (drop at «data».now)) }
 {
     if table::size(held) == 1 {
-        return scan::byte_at(data, at) as u16;
+        scan::byte_at(data, at) as u16
+    } else {
+        word_at(data, at)
     }
-    word_at(data, at)
 }
 
 fn with_cur(control: Control, cur: u16) -> Control
     ensures { result ≡ with_cur cur control }
 {
-    let mut changed = control;
-    changed.cur = cur;
-    changed
+    Control { cur, ..control }
 }
 
 // What the rows 36 to 38 ask of a control that a Set addresses, where its bytes begin at this place of the data.
@@ -134,13 +104,10 @@ pub fn set_asks(control: Control, data: &[u8], at: usize) -> SetAsks
 {
     let held = table::sense_of(control.selector);
     let wanted = sent_at(held, data, at);
-    let unready = is_unready(held, control);
-    let taken = takes_number(held, control, wanted);
-    let size = table::size(held);
     SetAsks {
-        unready,
-        taken,
-        size,
+        unready: is_unready(held, control),
+        taken: takes_number(held, control, wanted),
+        size: table::size(held),
     }
 }
 
@@ -153,23 +120,20 @@ pub fn set_to(control: Control, data: &[u8], at: usize) -> Control
     with_cur(control, stored_for(held, control, wanted))
 }
 
-// The refusal of a Set, 36, 37 or 38, or 0: of all its controls together, whose values have so many bytes, with this wLength and so much data.
-pub fn set_number(unready: bool, taken: bool, size: usize, bytes: u16, long: usize) -> u8
+// The refusal of a Set, 36, 37 or 38, if any: of all its controls together, whose values have so many bytes, with this wLength and so much data.
+#[tactic(auto, unfolding(crate::specs::Answers::set_number))]
+pub fn set_number(unready: bool, taken: bool, size: usize, bytes: u16, long: usize) -> Option<u8>
     ensures { result ≡ set_number unready taken size bytes long }
 {
     if unready {
-        return 36;
+        Some(36)
+    } else if bytes as usize != size || long != size {
+        Some(37)
+    } else if !taken {
+        Some(38)
+    } else {
+        None
     }
-    if bytes as usize != size {
-        return 37;
-    }
-    if long != size {
-        return 37;
-    }
-    if !taken {
-        return 38;
-    }
-    0
 }
 
 // What the rows 35, 36 and 39 ask of a control that a Get addresses.
@@ -184,30 +148,27 @@ pub fn get_asks(control: Control, part: Part) -> GetAsks
     ensures { result ≡ get_asks part control }
 {
     let held = table::sense_of(control.selector);
-    let lacking = lacks(held, part);
-    let unready = is_unready(held, control);
-    let size = table::size(held);
     GetAsks {
-        lacking,
-        unready,
-        size,
+        lacking: lacks(held, part),
+        unready: is_unready(held, control),
+        size: table::size(held),
     }
 }
 
-// The refusal of a Get, 35, 36 or 39, or 0: of all its controls together, of which so many bytes are sent to a reply with this room.
-pub fn get_number(lacking: bool, unready: bool, sent: usize, room: usize) -> u8
+// The refusal of a Get, 35, 36 or 39, if any: of all its controls together, of which so many bytes are sent to a reply with this room.
+#[tactic(auto, unfolding(crate::specs::Answers::get_number))]
+pub fn get_number(lacking: bool, unready: bool, sent: usize, room: usize) -> Option<u8>
     ensures { result ≡ get_number lacking unready sent room }
 {
     if lacking {
-        return 35;
+        Some(35)
+    } else if unready {
+        Some(36)
+    } else if room < sent {
+        Some(39)
+    } else {
+        None
     }
-    if unready {
-        return 36;
-    }
-    if room < sent {
-        return 39;
-    }
-    0
 }
 
 // How many bytes the control's value has.
@@ -221,9 +182,5 @@ pub fn size_of(control: Control) -> usize
 pub fn sent_of(bytes: u16, size: usize) -> usize
     ensures { result ≡ min bytes size }
 {
-    if (bytes as usize) < size {
-        bytes as usize
-    } else {
-        size
-    }
+    size.min(bytes as usize)
 }

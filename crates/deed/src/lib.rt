@@ -9,22 +9,10 @@ ghost use Rattle.deed.specs.Reply.{bytes_put, Put};
 pub fn write(value: u16, size: usize, at: usize, end: usize, reply: &mut [u8]) -> usize
     ensures { Put (bytes_put value size at end (length reply.old)) at reply.old result reply.new }
 {
-    if end <= at {
+    if end <= at || reply.len() < end {
         return at;
     }
-    if reply.len() < end {
-        return at;
-    }
-    if size == 0 {
-        return at;
-    }
-    reply[at] = (value % 256) as u8;
-    if size == 1 {
-        return at + 1;
-    }
-    if end <= at + 1 {
-        return at + 1;
-    }
-    reply[at + 1] = (value / 256) as u8;
-    at + 2
+    let count = size.min(2).min(end - at);
+    reply[at..at + count].copy_from_slice(&value.to_le_bytes()[..count]);
+    at + count
 }

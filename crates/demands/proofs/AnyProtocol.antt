@@ -13,7 +13,7 @@ use lib.Seq.{set-append_left, get_or-set_other}
 use lib.Dec.{eqb}
 use native.Mathlib.Omega.{arith}
 use native.Mathlib.Nat.{zero-add, suc-add}
-use Rattle.ground.specs.declared.Place.TheVariants.{Nowhere, At}
+use Rattle.std.specs.Prelude.{Some, None}
 use Rattle.ground.specs.declared.Refusal.{Refusal}
 use Rattle.ground.specs.Pick.{decided, reads_eq}
 use Rattle.ground.specs.Numbers.{byte}
@@ -150,7 +150,7 @@ module _ (s s' : List ℕ) (es : List (List ℕ)) (whole : flatten es ≡ s') (b
 
     no_misfit : (p : ℕ) → Misfit s p → ⊥
     no_misfit p m =
-        let q : At p ≡ Nowhere = sym ((cutting_misfit s p).1 m) ∙ (cutting_exists s).1 (o.descriptors, o.rule3) in
+        let q : Some p ≡ None = sym ((cutting_misfit s p).1 m) ∙ (cutting_exists s).1 (o.descriptors, o.rule3) in
         let z : ◌≡◌ {A = ℕ} 0 1 = cc in
         omega arith
 

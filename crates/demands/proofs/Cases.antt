@@ -18,7 +18,7 @@ use Rattle.interfaces.specs.Reading.{wrong_interface, breach4, interfaces_judged
 use Rattle.collection.specs.Reading.{is_distinct, all_known, unlisted, collects}
 use Rattle.groups.specs.Reading.{run_end, frame_from, frame_of, opens, is_header, breach5, strays_from, breach6, breach7, group_judged}
 use Rattle.groups.specs.Reading as groups
-use Rattle.cutting.specs.Survey.{run_found, breach8, breach9, breach17, verdict_then, verdict, refused_survey, surveyed, survey_of}
+use Rattle.cutting.specs.Survey.{run_found, breach8, breach9, breach17, verdict_then, verdict, surveyed, survey_of}
 use Rattle.cutting.specs.Survey as cutting
 use Rattle.graph.specs.Members.{all, mem}
 use Rattle.graph.specs.Passes.{joins, step, pass_from, passes}
@@ -55,7 +55,7 @@ record Computed : Type 0 where
   other : AnswerB
 
 computed : Computed
-unfolding case_a case_b refuse place_or first_from is_before total any pad end_by rest_from_by rest_by reach_by breach_by searched is_interface is_class is_audio is_setting is_member wants found_from entity_of kind_of is_unknown pins_of sources_from feeds_of node_of nodes_from blank_node run_in breach1 breach2 wrong_interface breach4 interfaces_judged run_end frame_from frame_of opens is_header breach5 strays_from breach6 is_distinct all_known unlisted collects breach7 group_judged groups.judged run_found breach8 breach9 breach17 is_printed layout_number is_wrong verdict_then verdict cutting.run_judged refused_survey surveyed survey_of all mem joins step pass_from passes put given tabulate_from first_in somewhere lookup_below source_number wrong_id breach10 wrong_source breach11 ordered breach12 gives_by given_in keeps_by breach13 clusters_of first_of channels_in give_out mixer_length feature_length alike named all_same mixer_kept feature_kept keeps cluster_kept names_kept ones ones_in judged terminal_of terminals_from terminals_of bearer_in terminal_number channels_borne opens_as is_general is_format samples_right rates_right is_type_one format_right bearer_right described_by holds_class broken wrong_stream first_broken breach14 bit_set bit_controls bits_from mask_controls channels_from feature_controls entity_controls controls_to controls_of_run breach15 table_of head_of record_of records_to room_for shown_in rest_judged survey_judged judged_then room_judged verdict_of refused_reading taken_reading reading_of sheet_of bit_carries
+unfolding case_a case_b refuse place_or first_from is_before total any pad end_by rest_from_by rest_by reach_by breach_by searched is_interface is_class is_audio is_setting is_member wants found_from entity_of kind_of is_unknown pins_of sources_from feeds_of node_of nodes_from blank_node run_in breach1 breach2 wrong_interface breach4 interfaces_judged run_end frame_from frame_of opens is_header breach5 strays_from breach6 is_distinct all_known unlisted collects breach7 group_judged groups.judged run_found breach8 breach9 breach17 is_printed layout_number is_wrong verdict_then verdict cutting.run_judged surveyed survey_of all mem joins step pass_from passes put given tabulate_from first_in somewhere lookup_below source_number wrong_id breach10 wrong_source breach11 ordered breach12 gives_by given_in keeps_by breach13 clusters_of first_of channels_in give_out mixer_length feature_length alike named all_same mixer_kept feature_kept keeps cluster_kept names_kept ones ones_in judged terminal_of terminals_from terminals_of bearer_in terminal_number channels_borne opens_as is_general is_format samples_right rates_right is_type_one format_right bearer_right described_by holds_class broken wrong_stream first_broken breach14 bit_set bit_controls bits_from mask_controls channels_from feature_controls entity_controls controls_to controls_of_run breach15 table_of head_of record_of records_to room_for shown_in rest_judged survey_judged judged_then room_judged verdict_of refused_reading taken_reading reading_of sheet_of bit_carries
 computed = record {
   configurations = record { accepted = refl; length_wrong = refl; eight_bytes = refl; sources_itself = refl; same_id = refl; sources_output = refl };
   printed = record { answer = refl; sheet = refl };

@@ -13,7 +13,7 @@ use mathlib.Core.List.{List, [], ◌∷◌, ◌++◌}
 use lib.ListN.{length}
 use native.Mathlib.Omega.{arith}
 use Rattle.ground.specs.Numbers.{byte}
-use Rattle.ground.specs.Lists.{Some, total}
+use Rattle.ground.specs.Lists.{SomeOf, total}
 use Rattle.ground.specs.First.{Sound}
 use Rattle.graph.specs.Members.{◌∈◌}
 use Rattle.search.specs.Want.{Audio, Member}
@@ -119,7 +119,7 @@ streams_to l (inr a) = inr (audio_to 3 l a)
 member_to : (k : ℕ) {d e : List ℕ} → Like d e → Member k e → Member k d
 member_to k l m = (streams_to l m.0, like_byte l 2 (omega arith) ∙ m.1)
 
-some_to : {P Q : List ℕ → Type 0} {ds es : List (List ℕ)} → ((d e : List ℕ) → Like d e → P e → Q d) → Twins ds es → Some P es → Some Q ds
+some_to : {P Q : List ℕ → Type 0} {ds es : List (List ℕ)} → ((d e : List ℕ) → Like d e → P e → Q d) → Twins ds es → SomeOf P es → SomeOf Q ds
 some_to f t h = let r = twins_in t h.among in record { one = r.0; among = r.1; has = f r.0 h.one r.2 h.has }
 
 wrong_to : {x y : List (List ℕ)} {d e : List ℕ} → Twins x y → Like d e → WrongInterface y e → WrongInterface x d

@@ -1,7 +1,5 @@
--- A microphone comes and goes: each way out of the code.
---   vacancy_thirty, vacancy_taken, vacancy_free  ==  the ways of a vacancy
+-- A microphone goes: each way out of the code.
 --   unplug_thirty, unplug_empty, unplug_done  ==  the ways of an unplugging
-use Prim.Native.Nat.{ℕ}
 use mathlib.Core.Path.{◌≡◌, sym, ap, ◌∙◌}
 use mathlib.Core.Bool.{Bool, true, false, not}
 use borrow.Author.Tests.{not-true, not-false}
@@ -9,29 +7,11 @@ use Rattle.ground.specs.Pick.{yes, no}
 use Rattle.sides.specs.declared.Side.{Side}
 use Rattle.duet.specs.declared.Socket.{Socket}
 use Rattle.duet.specs.declared.Duet.{Duet}
-use Rattle.duet.specs.declared.Vacancy.{Vacancy}
 use Rattle.duet.specs.declared.Answer.{Answer}
-use Rattle.duet.specs.Box.{other_side, socket_of, with_socket, empty_socket, controls_on, sound_duet}
-use Rattle.duet.specs.Coming.{barred_by, vacancy_of, refusal, unplug_answer}
+use Rattle.duet.specs.Box.{socket_of, with_socket, empty_socket, sound_duet}
+use Rattle.duet.specs.Coming.{refusal, unplug_answer}
 
 module _ (b : Duet) (k : Side) (a : Bool) (h : a ≡ sound_duet b) where
-  module _ (v : Vacancy) where
-    pub vacancy_thirty : not a ≡ true → v ≡ barred_by 30 → v ≡ vacancy_of b k
-    unfolding vacancy_of
-    vacancy_thirty t e = e ∙ sym (no _ _ (sym h ∙ not-true a t))
-
-    module _ (sound : not a ≡ false) (x : Socket) (f : x ≡ socket_of b k) where
-      pub vacancy_taken : x.plugged ≡ true → v ≡ barred_by 61 → v ≡ vacancy_of b k
-      unfolding vacancy_of
-      vacancy_taken t e = e ∙ sym (yes _ _ (sym h ∙ not-false a sound) ∙ yes _ _ (ap (λ (u : Socket). u.plugged) (sym f) ∙ t))
-
-  pub vacancy_free : not a ≡ false → (x : Socket) → x ≡ socket_of b k → x.plugged ≡ false
-      → (j : Side) → j ≡ other_side k → (y : Socket) → y ≡ socket_of b j → (m : ℕ) → m ≡ controls_on y → record { number = 0; met = m } ≡ vacancy_of b k
-  unfolding vacancy_of
-  vacancy_free sound x f t j i y g m c =
-      ap (λ (z : ℕ). record { number = 0; met = z }) (c ∙ ap controls_on (g ∙ ap (socket_of b) i))
-      ∙ sym (yes _ _ (sym h ∙ not-false a sound) ∙ no _ _ (ap (λ (u : Socket). u.plugged) (sym f) ∙ t))
-
   module _ (r : Answer) where
     pub unplug_thirty : not a ≡ true → r ≡ refusal b 30 → r ≡ unplug_answer b k
     unfolding unplug_answer

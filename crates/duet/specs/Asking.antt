@@ -1,6 +1,7 @@
 -- Loads and requests: "Presented interface 0 is the left AudioControl, 1 the right; the duet box puts in the microphone's own number and hands the
 -- request down."
 --   request_on b k s d room  ==  30, then the request at the socket of the side k
+--   occupant_of b k  ==  the state on the side k; or 30, of the rest of the box, or 63
 --   handed_to x s d room  ==  the request at the socket x: 63 where it is empty, else what the request layer answers
 --   asked_on b a s d room ==  .. of the side that it is for
 --   request_in b s d room ==  the whole request: 30, 31, 63 or 32, then the rest
@@ -12,11 +13,12 @@
 --   answered_by b k r  ==  the answer of the request layer, r, on the side k
 --   HandedDown b k s d h r a  ==  .. where the request is for the side k
 --   AnsweredIn b s d h r a  ==  the answer r of a request with the reply h lent, and a, the reply at exit
-use Rattle.std.specs.Prelude.{ℕ, ◌≡◌, List, length}
+use Rattle.std.specs.Prelude.{ℕ, ◌≡◌, List, length, Result, Ok, Err}
 use Rattle.ground.specs.Pick.{pick}
 use Rattle.setting.specs.declared.Range.{Range}
 use Rattle.deed.specs.Reply.{laid}
 use Rattle.setup.specs.Setup.{asked_of}
+use Rattle.request.specs.declared.State.{State}
 use Rattle.request.specs.declared.Answer as request
 use Rattle.request.specs.Outcome.{Outcome, number_of, bytes_of, state_after}
 use Rattle.request.specs.Outcome.Outcome.{refused}
@@ -29,8 +31,11 @@ use Rattle.sides.specs.Sides.{addressee_of, own_setup}
 use Rattle.duet.specs.declared.Socket.{Socket}
 use Rattle.duet.specs.declared.Duet.{Duet}
 use Rattle.duet.specs.declared.Answer.{Answer}
-use Rattle.duet.specs.Box.{socket_of, with_socket, sound_duet}
+use Rattle.duet.specs.Box.{socket_of, with_socket, sound_beside, sound_duet}
 use Rattle.duet.specs.Coming.{occupied}
+
+unfoldable pub occupant_of : Duet → Side → Result State ℕ
+occupant_of b k = pick (sound_beside b k) (pick (socket_of b k).plugged (Ok (socket_of b k).state) (Err 63)) (Err 30)
 
 unfoldable pub handed_to : Socket → List ℕ → List ℕ → ℕ → Outcome
 handed_to x s d room = pick x.plugged (request_of x.state (own_setup x.state.control s) d room) (refused 63)

@@ -1,27 +1,22 @@
 -- A microphone comes and goes: "30 comes first wherever a state is given"; "plugging in gives 61 if the side is taken"; "unplugging .. 63 for an empty
 -- side"; "Unplugging a side gives its room back."
---   barred_by n        ==  no microphone may come, by n
---   vacancy_of b k     ==  whether one may come to the side k of the box b: 30, 61, or 0 and how many controls it meets on the other
+--   vacancy_of b k     ==  whether one may come to the side k of the box b: 30, 61, or how many controls it meets on the other
 --   occupied b k st   ==  the box with a microphone there, whose state is st
 --   refusal b n       ==  the answer of a refusal with no place
 --   unplug_answer b k  ==  what an unplugging answers, the box after it among it
-use Rattle.std.specs.Prelude.{ℕ, true}
+use Rattle.std.specs.Prelude.{ℕ, true, Result, Ok, Err}
 use Rattle.ground.specs.Pick.{pick}
 use Rattle.request.specs.declared.State.{State}
 use Rattle.sides.specs.declared.Side.{Side}
 use Rattle.duet.specs.declared.Duet.{Duet}
-use Rattle.duet.specs.declared.Vacancy.{Vacancy}
 use Rattle.duet.specs.declared.Answer.{Answer}
 use Rattle.duet.specs.Box.{other_side, socket_of, with_socket, empty_socket, controls_on, sound_duet}
 
-abbrev pub barred_by : ℕ → Vacancy
-barred_by n = record { number = n; met = 0 }
-
-unfoldable pub vacancy_of : Duet → Side → Vacancy
+unfoldable pub vacancy_of : Duet → Side → Result ℕ ℕ
 vacancy_of b k =
     pick (sound_duet b)
-    (pick (socket_of b k).plugged (barred_by 61) (record { number = 0; met = controls_on (socket_of b (other_side k)) }))
-    (barred_by 30)
+    (pick (socket_of b k).plugged (Err 61) (Ok (controls_on (socket_of b (other_side k)))))
+    (Err 30)
 
 abbrev pub occupied : Duet → Side → State → Duet
 occupied b k st = with_socket b k (record { plugged = true; state = st })

@@ -5,12 +5,13 @@
 // microphone is read and let in is crate `admission`.
 ghost use Rattle.std.specs.Prelude.{◌≡◌};
 ghost use Rattle.duet.specs.Box.{other_side, socket_of, with_socket, empty_socket, empty_duet, controls_on, sound_socket, sound_beside, sound_duet};
-ghost use Rattle.duet.specs.Coming.{barred_by, vacancy_of, occupied, refusal, unplug_answer};
-ghost use Rattle.duet.specs.Asking.{load_in, answer_in, answered_by, HandedDown, AnsweredIn};
+ghost use Rattle.duet.specs.Coming.{vacancy_of, occupied, refusal, unplug_answer};
+ghost use Rattle.duet.specs.Asking.{occupant_of, load_in, answer_in, answered_by, HandedDown, AnsweredIn};
 
 use request::State;
 use sides::{Addressee, Side};
 
+// Stays: `SoundBox` of crate `duets` names both fields, and the put step of program `duet` writes them, an empty side's state too.
 // One side: whether a microphone is plugged in, and the request layer's state of it.
 #[derive(Clone, Copy)]
 pub struct Socket {
@@ -18,6 +19,7 @@ pub struct Socket {
     pub state: State,
 }
 
+// Stays: the theorems of crate `duets` and the program `duet` name `left` and `right`.
 // The box.
 #[derive(Clone, Copy)]
 pub struct Duet {
@@ -25,13 +27,7 @@ pub struct Duet {
     pub right: Socket,
 }
 
-// What a microphone finds that is to come to a side: the number that refuses it, 30 or 61; or 0, and how many controls the other side has.
-#[derive(Clone, Copy)]
-pub struct Vacancy {
-    pub number: u8,
-    pub met: usize,
-}
-
+// Stays: `answer_in`, the contracts' word, and `StepsTold` of crate `duets` name its fields: a refusal has the box too.
 // What an unplugging, a load or a request comes to: 0 or the number of the refusal, how many bytes of the reply were written, and the box.
 #[derive(Clone, Copy)]
 pub struct Answer {
@@ -43,11 +39,12 @@ pub struct Answer {
 fn empty_socket() -> Socket
     ensures { result ≡ empty_socket }
 {
-    let table = table::empty();
-    let state = State { control: 0, table };
     Socket {
         plugged: false,
-        state,
+        state: State {
+            control: 0,
+            table: table::empty(),
+        },
     }
 }
 
@@ -84,43 +81,34 @@ fn with_socket(duet: Duet, side: Side, socket: Socket) -> Duet
     ensures { result ≡ with_socket duet side socket }
 {
     match side {
-        Side::Left => {
-            let right = duet.right;
-            Duet {
-                left: socket,
-                right,
-            }
-        }
-        Side::Right => {
-            let left = duet.left;
-            Duet {
-                left,
-                right: socket,
-            }
-        }
+        Side::Left => Duet {
+            left: socket,
+            ..duet
+        },
+        Side::Right => Duet {
+            right: socket,
+            ..duet
+        },
     }
 }
 
+#[tactic(auto, unfolding(crate::specs::Box::controls_on))]
 fn controls_on(socket: Socket) -> usize
     ensures { result ≡ controls_on socket }
 {
-    if !socket.plugged {
-        return 0;
+    if socket.plugged {
+        socket.state.table.count
+    } else {
+        0
     }
-    let state = socket.state;
-    let table = state.table;
-    table.count
 }
 
 // Whether 30 has nothing against a side's table.
+#[tactic(auto, unfolding(crate::specs::Box::sound_socket))]
 fn sound_socket(socket: Socket) -> bool
     ensures { result ≡ sound_socket socket }
 {
-    if !socket.plugged {
-        return true;
-    }
-    let state = socket.state;
-    sound::sound(state.table)
+    !socket.plugged || sound::sound(socket.state.table)
 }
 
 // Whether 30 has nothing against the rest of the box: the other side's table, and how many controls there are in all.
@@ -128,24 +116,15 @@ fn sound_beside(duet: Duet, side: Side) -> bool
     ensures { result ≡ sound_beside duet side }
 {
     let own = controls_on(socket_of(duet, side));
-    if sides::TOGETHER < own {
-        return false;
-    }
     let beside = socket_of(duet, other(side));
-    if sides::TOGETHER - own < controls_on(beside) {
-        return false;
-    }
-    sound_socket(beside)
+    own <= sides::TOGETHER && controls_on(beside) <= sides::TOGETHER - own && sound_socket(beside)
 }
 
 // Whether 30 has nothing against the box.
 fn sound_duet(duet: Duet) -> bool
     ensures { result ≡ sound_duet duet }
 {
-    if !sound_beside(duet, Side::Left) {
-        return false;
-    }
-    sound_socket(duet.left)
+    sound_beside(duet, Side::Left) && sound_socket(duet.left)
 }
 
 fn refused(duet: Duet, number: u8) -> Answer
@@ -158,25 +137,18 @@ fn refused(duet: Duet, number: u8) -> Answer
     }
 }
 
-fn barred(number: u8) -> Vacancy
-    ensures { result ≡ barred_by number }
-{
-    Vacancy { number, met: 0 }
-}
-
-// Whether a microphone may come to a side.
-pub fn vacancy_on(duet: Duet, side: Side) -> Vacancy
+// What a microphone meets that is to come to a side: how many controls the other side has; or the number that refuses it, 30 or 61.
+#[tactic(auto, unfolding(crate::specs::Coming::vacancy_of))]
+pub fn vacancy_on(duet: Duet, side: Side) -> Result<usize, u8>
     ensures { result ≡ vacancy_of duet side }
 {
     if !sound_duet(duet) {
-        return barred(30);
+        return Err(30);
     }
-    let socket = socket_of(duet, side);
-    if socket.plugged {
-        return barred(61);
+    if socket_of(duet, side).plugged {
+        return Err(61);
     }
-    let met = controls_on(socket_of(duet, other(side)));
-    Vacancy { number: 0, met }
+    Ok(controls_on(socket_of(duet, other(side))))
 }
 
 // The box with a microphone's state on a side: what is left of a plug-in where nothing refuses it.
@@ -197,14 +169,29 @@ pub fn unplug(duet: Duet, side: Side) -> Answer
     if !sound_duet(duet) {
         return refused(duet, 30);
     }
-    let socket = socket_of(duet, side);
-    if !socket.plugged {
+    if !socket_of(duet, side).plugged {
         return refused(duet, 63);
     }
     Answer {
         number: 0,
         written: 0,
         duet: with_socket(duet, side, empty_socket()),
+    }
+}
+
+// The state of the microphone on a side; or 30, of the rest of the box, or 63.
+#[tactic(auto, unfolding(crate::specs::Asking::occupant_of))]
+fn occupant(duet: Duet, side: Side) -> Result<State, u8>
+    ensures { result ≡ occupant_of duet side }
+{
+    if !sound_beside(duet, side) {
+        return Err(30);
+    }
+    let socket = socket_of(duet, side);
+    if socket.plugged {
+        Ok(socket.state)
+    } else {
+        Err(63)
     }
 }
 
@@ -234,35 +221,27 @@ pub fn load(
 ) -> Answer
     ensures { result ≡ answer_in duet side (load_in duet side unit channel selector (record { min = min; max = max; res = res }) cur) }
 {
-    if !sound_beside(duet, side) {
-        return refused(duet, 30);
+    match occupant(duet, side) {
+        Err(number) => refused(duet, number),
+        Ok(state) => answered(
+            duet,
+            side,
+            request::load(state, unit, channel, selector, min, max, res, cur),
+        ),
     }
-    let socket = socket_of(duet, side);
-    if !socket.plugged {
-        return refused(duet, 63);
-    }
-    let state = socket.state;
-    answered(
-        duet,
-        side,
-        request::load(state, unit, channel, selector, min, max, res, cur),
-    )
 }
 
 // A request for a side: the microphone's own number is put in, and it is handed down.
 fn hand_down(duet: Duet, side: Side, setup: &[u8], data: &[u8], reply: &mut [u8]) -> Answer
     ensures { HandedDown duet side setup.now «data».now reply.old result reply.new }
 {
-    if !sound_beside(duet, side) {
-        return refused(duet, 30);
+    match occupant(duet, side) {
+        Err(number) => refused(duet, number),
+        Ok(state) => {
+            let own = sides::own_setup(setup, state.control);
+            answered(duet, side, request::request(state, &own, data, reply))
+        }
     }
-    let socket = socket_of(duet, side);
-    if !socket.plugged {
-        return refused(duet, 63);
-    }
-    let state = socket.state;
-    let own = sides::own_setup(setup, state.control);
-    answered(duet, side, request::request(state, &own, data, reply))
 }
 
 // Answers one class request: by the presented number, of the left microphone or of the right.
@@ -270,12 +249,8 @@ pub fn request(duet: Duet, setup: &[u8], data: &[u8], reply: &mut [u8]) -> Answe
     ensures { AnsweredIn duet setup.now «data».now reply.old result reply.new }
 {
     match sides::whose(setup::read(setup)) {
-        Addressee::Nobody(number) => {
-            if !sound_duet(duet) {
-                return refused(duet, 30);
-            }
-            refused(duet, number)
-        }
+        Addressee::Nobody(_) if !sound_duet(duet) => refused(duet, 30),
+        Addressee::Nobody(number) => refused(duet, number),
         Addressee::At(side) => hand_down(duet, side, setup, data, reply),
     }
 }

@@ -26,7 +26,7 @@ use Rattle.sides.specs.declared.Side.{Side}
 use Rattle.duet.specs.declared.Duet.{Duet}
 use Rattle.admission.specs.Plugging.{Plugging, plug_of, duet_after}
 use Rattle.admission.specs.Plugging.Plugging.{refused, let_in}
-use Rattle.extent.specs.declared.Located.TheVariants.{Refused}
+use Rattle.std.specs.Prelude.{Err}
 use Rattle.extent.specs.Stretch.{entity_place, known, located_in, bytes_at}
 use Rattle.duets.specs.Steps.{seen_plug}
 use Rattle.duets.specs.DuetAnyProtocol.{DuetAnyProtocol}
@@ -55,10 +55,10 @@ module _ (s : List ℕ) (o : Opened s) (x : ℕ) where
   refused_alike id n =
       let r : Reading = reading_of s whole_sheet in
       let q = same_answer whole_sheet in
-      let e : located_in s id ≡ Refused r.number r.place =
+      let e : located_in s id ≡ Err (record { number = r.number; place = r.place }) =
       (stretch_shown s).by_the_reader id whole_sheet (omega arith) n
       in
-      let f : located_in s' id ≡ Refused r.number r.place =
+      let f : located_in s' id ≡ Err (record { number = r.number; place = r.place }) =
       (stretch_shown s').by_the_reader id whole_sheet (omega arith) (λ z. n (rw q at z)) ∙ rw q refl
       in
       (f ∙ sym e, ap (bytes_at s') f ∙ sym (ap (bytes_at s) e))
@@ -85,7 +85,7 @@ module _ (s : List ℕ) (o : Opened s) (x : ℕ) where
 
     unborne : (Borne → ⊥) → bytes_at s' (located_in s' id) ≡ bytes_at s (located_in s id)
     unborne n =
-        let e : located_in s id ≡ Refused 64 0 = (stretch_shown s).unknown c id (λ d m q. n (d, m, q)) in
+        let e : located_in s id ≡ Err (record { number = 64; place = 0 }) = (stretch_shown s).unknown c id (λ d m q. n (d, m, q)) in
         ap (bytes_at s') (same_place ∙ e) ∙ sym (ap (bytes_at s) e)
 
     same_bytes : bytes_at s' (located_in s' id) ≡ bytes_at s (located_in s id)

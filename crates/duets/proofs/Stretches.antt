@@ -8,14 +8,14 @@ use native.Mathlib.Omega.{arith}
 use lib.Dec.{eqb}
 use lib.ListN.{length, get_or}
 use borrow.Author.Tests.{eq-eqb, ne_eqb}
-use Rattle.ground.specs.declared.Place.{Place}
-use Rattle.ground.specs.declared.Place.TheVariants as place
 use Rattle.ground.specs.declared.Refusal.{Refusal}
-use Rattle.ground.specs.Pick.{yes, no, decided, reads_eq}
+use Rattle.ground.specs.Pick.{no, decided, reads_eq}
 use Rattle.ground.specs.Lists.{member_at, member_index}
 use Rattle.ground.specs.Places.{finding, first_some, first_none}
 use Rattle.ground.specs.Places as places
 use Rattle.ground.specs.Refuse.{none, refuse}
+use Rattle.ground.specs.Told.{told_ok, told_err}
+use Rattle.std.specs.Prelude.{Result, Ok, Err, Option, Some, None}
 use Rattle.graph.specs.Members.{◌∈◌}
 use Rattle.edition.specs.Edition.{own_id}
 use Rattle.edition.specs.Audio.{audio}
@@ -28,71 +28,77 @@ use Rattle.ids.specs.Breach.{bears}
 use Rattle.ids.specs.OwnIds.{own_ids}
 use Rattle.topology.specs.declared.Finding.{Finding}
 use Rattle.topology.specs.declared.Reading.{Reading}
-use Rattle.topology.specs.Reading.{room_judged, verdict_of, finding_with, finding_of, refused_reading, reading_of}
-use Rattle.topology.specs.Verdict.{finding_refusal, finding_taken, verdict_refused, verdict_room, verdict_whole}
+use Rattle.topology.specs.Reading.{judged_then, room_judged, verdict_of, finding_with, found_in, finding_of, refused_reading, reading_of}
+use Rattle.topology.specs.Verdict.{verdict_refused, verdict_room, verdict_whole}
 use Rattle.reader.specs.Configuration.{run_of, place_of_run, Configuration}
 use Rattle.reader.proofs.Surveyed.{entities_of, survey_kept, run_cut, represented}
 use Rattle.reader.proofs.Exactly.{accepted_exactly, refused_exactly}
 use Rattle.reader.proofs.NeverSixteen.{never_sixteen}
 use Rattle.reader.proofs.Shows.{number_told}
-use Rattle.extent.specs.declared.Located.{Located}
-use Rattle.extent.specs.declared.Located.TheVariants.{Refused, From}
 use Rattle.extent.specs.Stretch.{entity_place, known, located_by, located_in, refusal_of, bytes_at}
 use Rattle.records.specs.Sheet.{whole_sheet}
 use Rattle.duets.specs.Stretches.{StretchShown}
 
 module _ (s : List ℕ) where
-  abbrev found : Finding
-  found = finding_of s
+  -- what the rules 1 to 15 refuse
+  abbrev v : Refusal
+  v = judged_then s none
 
-  -- what is refused by the rules 1 to 15 is refused so with every sheet
-  refused_so : (room : ℕ) → (found.refusal.number ≡ 0 → ⊥) → found.refusal ≡ verdict_of s room
-  refused_so room n = verdict_refused s found refl room n
+  abbrev At_reader : ℕ → Result ℕ Refusal
+  At_reader room = Err (record { number = (reading_of s room).number; place = (reading_of s room).place })
 
-  roomy : (room : ℕ) → whole_sheet ≤ room → found.refusal.number ≡ 0 → (verdict_of s room).number ≡ 0
-  roomy room h z = ap (λ (r : Refusal). r.number) (verdict_whole s room h ∙ sym (finding_refusal s found refl)) ∙ z
+  -- the two answers of the reader, searched for an ID
+  located_refused : (x : ℕ) → (v.number ≡ 0 → ⊥) → located_in s x ≡ Err v
+  unfolding finding_of located_by
+  located_refused x n = ap (λ (f : Result Finding Refusal). located_by f x) (told_err v (found_in s) n)
 
-  refused_by : (x room : ℕ) → (found.refusal.number ≡ 0 → ⊥) → ((reading_of s room).number ≡ 0 → ⊥) → located_in s x ≡ Refused (reading_of s room).number (reading_of s room).place
-  unfolding located_by reading_of refused_reading
+  located_kept : (x : ℕ) → v.number ≡ 0 → located_in s x ≡ known (entity_place (survey_of s).run x)
+  unfolding finding_of located_by finding_with
+  located_kept x z = ap (λ (f : Result Finding Refusal). located_by f x) (told_ok v (found_in s) z)
+
+  roomy : (room : ℕ) → whole_sheet ≤ room → v.number ≡ 0 → (verdict_of s room).number ≡ 0
+  roomy room h z = ap (λ (r : Refusal). r.number) (verdict_whole s room h) ∙ z
+
+  refused_by : (x room : ℕ) → (v.number ≡ 0 → ⊥) → ((reading_of s room).number ≡ 0 → ⊥) → located_in s x ≡ At_reader room
+  unfolding reading_of refused_reading
   refused_by x room broken n =
-      no _ _ (ne_eqb _ _ broken)
-      ∙ ap (λ (r : Refusal). Refused r.number r.place) (refused_so room broken)
-      ∙ sym (ap (λ (r : Reading). Refused r.number r.place) (no _ _ (ne_eqb _ _ (λ z. n (number_told s room ∙ z)))))
+      located_refused x broken
+      ∙ ap Err (verdict_refused s room broken)
+      ∙ sym (ap (λ (r : Reading). Err (record { number = r.number; place = r.place })) (no _ _ (ne_eqb _ _ (λ z. n (number_told s room ∙ z)))))
 
-  judged_so : (x room : ℕ) → whole_sheet ≤ room → ((reading_of s room).number ≡ 0 → ⊥) → located_in s x ≡ Refused (reading_of s room).number (reading_of s room).place
+  judged_so : (x room : ℕ) → whole_sheet ≤ room → ((reading_of s room).number ≡ 0 → ⊥) → located_in s x ≡ At_reader room
   judged_so x room h n = refused_by x room (λ z. n (number_told s room ∙ roomy room h z)) n
 
   -- behind the rules 1 to 15 only 16 is left
-  sixteen_left : (b : Place) → ((refuse 16 b none).number ≡ 0 → ⊥) → ((refuse 16 b none).number ≡ 16 → ⊥) → ⊥
+  sixteen_left : (b : Option ℕ) → ((refuse 16 b none).number ≡ 0 → ⊥) → ((refuse 16 b none).number ≡ 16 → ⊥) → ⊥
   unfolding refuse
-  sixteen_left place.Nowhere n f = n refl
-  sixteen_left (place.At q) n f = f refl
+  sixteen_left None n f = n refl
+  sixteen_left (Some q) n f = f refl
 
-  but_sixteen : (x room : ℕ) → ((reading_of s room).number ≡ 0 → ⊥) → ((reading_of s room).number ≡ 16 → ⊥) → located_in s x ≡ Refused (reading_of s room).number (reading_of s room).place
+  but_sixteen : (x room : ℕ) → ((reading_of s room).number ≡ 0 → ⊥) → ((reading_of s room).number ≡ 16 → ⊥) → located_in s x ≡ At_reader room
   unfolding room_judged
   but_sixteen x room n f =
       ⊎_elim
-      (λ (z : found.refusal.number ≡ 0).
-      let e : (reading_of s room).number ≡ (room_judged (survey_of s) room none).number = number_told s room ∙ ap (λ (r : Refusal). r.number) (verdict_room s found refl room z) in
+      (λ (z : v.number ≡ 0).
+      let e : (reading_of s room).number ≡ (room_judged (survey_of s) room none).number = number_told s room ∙ ap (λ (r : Refusal). r.number) (verdict_room s room z) in
       absurd (sixteen_left _ (λ q. n (e ∙ q)) (λ q. f (e ∙ q))))
-      (λ (m : found.refusal.number ≡ 0 → ⊥). refused_by x room m n)
-      (decided (eqb found.refusal.number 0) (reads_eq found.refusal.number 0))
+      (λ (m : v.number ≡ 0 → ⊥). refused_by x room m n)
+      (decided (eqb v.number 0) (reads_eq v.number 0))
 
-  known_64 : (p : Place) → (refusal_of (known p)).number ≡ 16 → ⊥
-  known_64 place.Nowhere e = omega arith
-  known_64 (place.At q) e = omega arith
+  known_64 : (p : Option ℕ) → (refusal_of (known p)).number ≡ 16 → ⊥
+  known_64 None e = omega arith
+  known_64 (Some q) e = omega arith
 
   no_sixteen : (x : ℕ) → (refusal_of (located_in s x)).number ≡ 16 → ⊥
-  unfolding located_by
   no_sixteen x e =
       ⊎_elim
-      (λ (z : found.refusal.number ≡ 0). known_64 (entity_place found.run x) (sym (ap (λ (y : Located). (refusal_of y).number) (yes _ _ (eq-eqb _ _ z))) ∙ e))
-      (λ (m : found.refusal.number ≡ 0 → ⊥).
-      let number : found.refusal.number ≡ 16 = sym (ap (λ (y : Located). (refusal_of y).number) (no _ _ (ne_eqb _ _ m))) ∙ e in
-      let whole : verdict_of s whole_sheet ≡ record { number = 16; place = found.refusal.place } =
-      verdict_whole s whole_sheet (omega arith) ∙ sym (finding_refusal s found refl) ∙ ap (λ (n : ℕ). record { number = n; place = found.refusal.place }) number in
-      never_sixteen s found.refusal.place ((refused_exactly s whole_sheet 16 found.refusal.place (λ z. omega arith)).0 whole))
-      (decided (eqb found.refusal.number 0) (reads_eq found.refusal.number 0))
+      (λ (z : v.number ≡ 0). known_64 (entity_place (survey_of s).run x) (sym (ap (λ (y : Result ℕ Refusal). (refusal_of y).number) (located_kept x z)) ∙ e))
+      (λ (m : v.number ≡ 0 → ⊥).
+      let number : v.number ≡ 16 = sym (ap (λ (y : Result ℕ Refusal). (refusal_of y).number) (located_refused x m)) ∙ e in
+      let whole : verdict_of s whole_sheet ≡ record { number = 16; place = v.place } =
+      verdict_whole s whole_sheet (omega arith) ∙ ap (λ (n : ℕ). record { number = n; place = v.place }) number in
+      never_sixteen s v.place ((refused_exactly s whole_sheet 16 v.place (λ z. omega arith)).0 whole))
+      (decided (eqb v.number 0) (reads_eq v.number 0))
 
   module _ (t : Configuration s) where
     abbrev ds : List (List ℕ)
@@ -104,30 +110,22 @@ module _ (s : List ℕ) where
     r : Represents audio s (place_of_run t.kept) ds run
     r = represented s t.kept
 
-    kept : found.refusal.number ≡ 0
-    kept = ⊎_elim (λ (z : found.refusal.number ≡ 0). z) (λ (n : found.refusal.number ≡ 0 → ⊥). absurd (n (ap (λ (y : Refusal). y.number) (refused_so whole_sheet n) ∙ taken))) (decided (eqb found.refusal.number 0) (reads_eq found.refusal.number 0))
-      where
-        taken : (verdict_of s whole_sheet).number ≡ 0
-        taken = (accepted_exactly s whole_sheet).1 (t, (let l = t.kept.rule8.1 in omega arith))
-
-    run_is : found.run ≡ run
-    unfolding finding_with
-    run_is = ap (λ (f : Finding). f.run) (finding_taken s found refl kept) ∙ ap (λ (v : Survey). v.run) (survey_kept s t.kept)
+    kept : v.number ≡ 0
+    kept = ap (λ (y : Refusal). y.number) (sym (verdict_whole s whole_sheet (omega arith))) ∙ (accepted_exactly s whole_sheet).1 (t, (let l = t.kept.rule8.1 in omega arith))
 
     pub located_in_lem : (x : ℕ) → located_in s x ≡ known (entity_place run x)
-    unfolding located_by
-    located_in_lem x = yes _ _ (eq-eqb _ _ kept) ∙ ap (λ (v : Run). known (entity_place v x)) run_is
+    located_in_lem x = located_kept x kept ∙ ap (λ (w : Survey). known (entity_place w.run x)) (survey_kept s t.kept)
 
-    none_bears : (x : ℕ) → ((d : List ℕ) → d ∈ ds → own_id d ≡ x → ⊥) → entity_place run x ≡ place.Nowhere
+    none_bears : (x : ℕ) → ((d : List ℕ) → d ∈ ds → own_id d ≡ x → ⊥) → entity_place run x ≡ None
     unfolding entity_place
     none_bears x h =
-        first_none (bears run x) (λ i. place.At (place_at run i)) place.Nowhere (held run)
+        first_none (bears run x) (λ i. Some (place_at run i)) None (held run)
         (λ j l. let m : j < length ds = (let c = r.counted in omega arith) in ne_eqb _ _ (λ e. h (get_or ds j []) (member_at [] ds j m) (sym (r.id j m) ∙ e)))
 
-    bears_first : (i : ℕ) → i < length ds → entity_place run (own_id (get_or ds i [])) ≡ place.At (place_at run i)
+    bears_first : (i : ℕ) → i < length ds → entity_place run (own_id (get_or ds i [])) ≡ Some (place_at run i)
     unfolding entity_place
     bears_first i l =
-        first_some (bears run (own_id (get_or ds i []))) (λ j. place.At (place_at run j)) place.Nowhere (held run) i
+        first_some (bears run (own_id (get_or ds i []))) (λ j. Some (place_at run j)) None (held run) i
         (record {
           inside = let c = r.counted in omega arith;
           passes = eq-eqb _ _ (r.id i l);
@@ -136,17 +134,17 @@ module _ (s : List ℕ) where
 
     stands : (i : ℕ) → i < length ds → (refusal_of (located_in s (own_id (get_or ds i []))) ≡ none) × (bytes_at s (located_in s (own_id (get_or ds i []))) ≡ get_or ds i [])
     stands i l =
-        let e : located_in s (own_id (get_or ds i [])) ≡ From (place_at run i) = located_in_lem (own_id (get_or ds i [])) ∙ ap known (bears_first i l) in
+        let e : located_in s (own_id (get_or ds i [])) ≡ Ok (place_at run i) = located_in_lem (own_id (get_or ds i [])) ∙ ap known (bears_first i l) in
         (ap refusal_of e, ap (bytes_at s) e ∙ r.bytes i l)
 
     some_bytes : (x : ℕ) → (refusal_of (located_in s x)).number ≡ 0 → bytes_at s (located_in s x) ≡ [] → ⊥
     unfolding entity_place
     some_bytes x z e =
-        go (finding (bears run x) (λ i. place.At (place_at run i)) place.Nowhere (held run))
-        (sym (ap (λ (y : Located). (refusal_of y).number) (located_in_lem x)) ∙ z)
+        go (finding (bears run x) (λ i. Some (place_at run i)) None (held run))
+        (sym (ap (λ (y : Result ℕ Refusal). (refusal_of y).number) (located_in_lem x)) ∙ z)
         (sym (ap (bytes_at s) (located_in_lem x)) ∙ e)
       where
-        go : {y : Place} → places.Finding (bears run x) (λ i. place.At (place_at run i)) place.Nowhere (held run) y
+        go : {y : Option ℕ} → places.Finding (bears run x) (λ i. Some (place_at run i)) None (held run) y
             → (refusal_of (known y)).number ≡ 0 → bytes_at s (known y) ≡ [] → ⊥
         go (places.nothing k) f g = omega arith
         go (places.first {i} k) f g =
@@ -156,17 +154,16 @@ module _ (s : List ℕ) where
             omega arith
 
   apart : (x : ℕ) → (refusal_of (located_in s x)).number ≡ 0 → bytes_at s (located_in s x) ≡ [] → ⊥
-  unfolding located_by
   apart x z =
       ⊎_elim
-      (λ (k : found.refusal.number ≡ 0).
+      (λ (k : v.number ≡ 0).
       some_bytes ((accepted_exactly s whole_sheet).0 (roomy whole_sheet (omega arith) k)).0 x z)
-      (λ (n : found.refusal.number ≡ 0 → ⊥). absurd (n (sym (ap (λ (y : Located). (refusal_of y).number) (no _ _ (ne_eqb _ _ n))) ∙ z)))
-      (decided (eqb found.refusal.number 0) (reads_eq found.refusal.number 0))
+      (λ (n : v.number ≡ 0 → ⊥). absurd (n (sym (ap (λ (y : Result ℕ Refusal). (refusal_of y).number) (located_refused x n)) ∙ z)))
+      (decided (eqb v.number 0) (reads_eq v.number 0))
 
-  empties : (y : Located) → ((refusal_of y).number ≡ 0 → ⊥) → bytes_at s y ≡ []
-  empties (Refused n p) h = refl
-  empties (From p) h = absurd (h refl)
+  empties : (y : Result ℕ Refusal) → ((refusal_of y).number ≡ 0 → ⊥) → bytes_at s y ≡ []
+  empties (Err r) h = refl
+  empties (Ok p) h = absurd (h refl)
 
 -- THE THEOREM
 pub stretch_shown : (s : List ℕ) → StretchShown s

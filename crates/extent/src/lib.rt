@@ -3,71 +3,53 @@
 // configurations that the caller lends." What it promises: for every side, every ID and every two configurations whatever, exactly what
 // specs/Stretch.antt says. It takes no state, and reads the configuration of the side alone.
 ghost use Rattle.std.specs.Prelude.{◌≡◌};
-ghost use Rattle.extent.specs.Stretch.{lent_on, entity_place, located_by, located_in, refusal_of, bytes_at};
+ghost use Rattle.extent.specs.Stretch.{lent_on, entity_place, located_in, refusal_of, bytes_at};
 
 use entities::Run;
-use ground::{Place, Refusal};
+use ground::Refusal;
 use sides::Side;
-use topology::Finding;
-
-// Where an entity's descriptor stands in a configuration, or the refusal.
-#[derive(Clone, Copy)]
-pub enum Located {
-    Refused(u8, usize),
-    From(usize),
-}
 
 // Where the entity of an ID stands.
-fn entity_place(run: Run, id: u8) -> Place
+fn entity_place(run: Run, id: u8) -> Option<usize>
     ensures { result ≡ entity_place run id }
 {
     let n = entities::count(run);
-    let mut i: usize = 0;
-    while i < n {
-        let node = run.nodes[i];
+    for node in &run.nodes[..n] {
         if node.id == id {
-            return Place::At(node.place);
+            return Some(node.place);
         }
-        i += 1;
     }
-    Place::Nowhere
+    None
 }
 
-// By what is found in a configuration: its refusal, 64, or where the entity of an ID stands.
-fn locate_by(found: Finding, id: u8) -> Located
-    ensures { result ≡ located_by found id }
-{
-    let refusal = found.refusal;
-    if refusal.number != 0 {
-        return Located::Refused(refusal.number, refusal.place);
-    }
-    let run = found.run;
-    match entity_place(run, id) {
-        Place::Nowhere => Located::Refused(64, 0),
-        Place::At(place) => Located::From(place),
-    }
-}
-
-// The same of a configuration.
-fn locate(config: &[u8], id: u8) -> Located
+// Where the descriptor of the entity of an ID stands in a configuration; or the configuration's refusal, or 64.
+fn locate(config: &[u8], id: u8) -> Result<usize, Refusal>
     ensures { result ≡ located_in config.now id }
 {
-    locate_by(topology::judge(config), id)
+    let found = topology::judge(config)?;
+    match entity_place(found.run, id) {
+        None => Err(Refusal {
+            number: 64,
+            place: 0,
+        }),
+        Some(place) => Ok(place),
+    }
 }
 
-fn refusal_of(found: Located) -> Refusal
-    ensures { result ≡ refusal_of found }
+fn refusal_of(located: Result<usize, Refusal>) -> Refusal
+    ensures { result ≡ refusal_of located }
 {
-    match found {
-        Located::Refused(number, at) => Refusal { number, place: at },
-        Located::From(_) => Refusal {
+    match located {
+        Ok(_) => Refusal {
             number: 0,
             place: 0,
         },
+        Err(refusal) => refusal,
     }
 }
 
 // The refusal of a stretch: 0 and 0, the reader's number and place, or 64.
+// Stays: a Refusal that may refuse nothing, since the clause names refusal_of, and StretchShown speaks of it.
 pub fn stretch_refusal(side: Side, id: u8, left: &[u8], right: &[u8]) -> Refusal
     ensures { result ≡ refusal_of (located_in (lent_on side left.now right.now) id) }
 {
@@ -82,8 +64,8 @@ fn descriptor_of(config: &[u8], id: u8) -> &[u8]
     ensures { result.now ≡ bytes_at config.now (located_in config.now id) }
 {
     match locate(config, id) {
-        Located::Refused(_, _) => &config[..0],
-        Located::From(place) => scan::descriptor_at(config, place),
+        Err(_) => &config[..0],
+        Ok(place) => scan::descriptor_at(config, place),
     }
 }
 

@@ -3,9 +3,9 @@
 --   load_range c s range w   ==  21: "range illegal, or a number too wide for the control"
 --   load_by k c range w      ==  20: "no such ranged control", for one that holds k, no ranged number
 --   load_on c range w        ==  the load, of the control c
---   deed_of c o              ==  how it is told of the one control c where o is done
+--   deed_of c o              ==  how it is told of the one control c where o is done: the control then, or the refusal
 --   OfOne o                 ==  o is what a load may do: it is denied, or changes one control; load_of_one: so is every load
-use Rattle.std.specs.Prelude.{ℕ, Bool, true, false, ◌&&◌, [], ◌∷◌}
+use Rattle.std.specs.Prelude.{ℕ, Result, Ok, Err, Bool, true, false, ◌&&◌, [], ◌∷◌}
 use Rattle.ground.specs.Pick.{pick}
 use Rattle.setting.specs.Setting.{fits_of, legal_of, closest_to}
 use Rattle.setting.specs.declared.Sort.{Sort}
@@ -16,7 +16,6 @@ use Rattle.table.specs.declared.Sense.TheVariants.{Unknown, YesNo, Ranged, Pin}
 use Rattle.table.specs.Controls.{sense_of}
 use Rattle.deed.specs.Doing.{Doing}
 use Rattle.deed.specs.Doing.Doing.{denied, given, changed}
-use Rattle.loads.specs.declared.Deed.{Deed}
 
 abbrev pub loaded_with : Sort → Range → ℕ → Control → Control
 loaded_with s range w c = record {
@@ -43,11 +42,11 @@ load_by Pin c range w = denied 20
 abbrev pub load_on : Control → Range → ℕ → Doing
 load_on c range w = load_by (sense_of c.selector) c range w
 
-abbrev pub deed_of : Control → Doing → Deed
-deed_of c (denied n) = record { number = n; control = c }
-deed_of c (given bytes) = record { number = 0; control = c }
-deed_of c (changed []) = record { number = 0; control = c }
-deed_of c (changed (e ∷ cs)) = record { number = 0; control = e }
+abbrev pub deed_of : Control → Doing → Result Control ℕ
+deed_of c (denied n) = Err n
+deed_of c (given bytes) = Ok c
+deed_of c (changed []) = Ok c
+deed_of c (changed (e ∷ cs)) = Ok e
 
 pub data OfOne : Doing → Type 0 where
   denies : {n : ℕ} → OfOne (denied n)

@@ -9,7 +9,7 @@ use mathlib.Core.List.Permᴰ
 use mathlib.Core.List.{List, [], ◌∷◌}
 use native.Mathlib.Omega.{arith}
 use Rattle.ground.specs.Pick.{true≠false}
-use Rattle.ground.specs.Lists.{Some}
+use Rattle.ground.specs.Lists.{SomeOf}
 use Rattle.graph.specs.Members.{◌∈◌, along}
 use Rattle.layout.specs.Layout.{entity_of}
 use Rattle.kinds.specs.Sources.{sources_from, pins_of, feeds_of}
@@ -36,10 +36,10 @@ right_source m one (zero_source e) = omega arith
 right_source m one (unknown f) = f microphone m refl
 right_source m one (no_output d k i e) = true≠false (sym feeding ∙ ap audio.feeds (sym (one d k i)) ∙ e)
 
-fed_by_none : (ds : List (List ℕ)) (d : List ℕ) → d ≡ microphone → Some (WrongSource audio ds) (sources audio d) → ⊥
+fed_by_none : (ds : List (List ℕ)) (d : List ℕ) → d ≡ microphone → SomeOf (WrongSource audio ds) (sources audio d) → ⊥
 fed_by_none ds d e h = Memᴰ.not-nil (along (ap (sources audio) e ∙ no_source) h.among)
 
-fed_by_one : (ds : List (List ℕ)) → (WrongSource audio ds 1 → ⊥) → (d : List ℕ) → d ≡ jack → Some (WrongSource audio ds) (sources audio d) → ⊥
+fed_by_one : (ds : List (List ℕ)) → (WrongSource audio ds 1 → ⊥) → (d : List ℕ) → d ≡ jack → SomeOf (WrongSource audio ds) (sources audio d) → ⊥
 fed_by_one ds n d e h = n (subst (WrongSource audio ds) (Memᴰ.eq_of_singleton (along (ap (sources audio) e ∙ one_source) h.among)) h.has)
 
 the_pair : Rule11 audio (microphone ∷ jack ∷ [])

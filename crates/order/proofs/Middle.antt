@@ -18,7 +18,7 @@ use mathlib.Core.List.{List, [], ◌∷◌, ◌++◌, append_assoc, nil≢cons, 
 use lib.ListN.{length}
 use native.Mathlib.Omega.{arith}
 use Rattle.ground.specs.Numbers.{byte, word}
-use Rattle.ground.specs.Lists.{Some, of_split, Stops, stop_end, stop_at, front_one, total, total_append}
+use Rattle.ground.specs.Lists.{SomeOf, of_split, Stops, stop_end, stop_at, front_one, total, total_append}
 use Rattle.ground.specs.First.{Sound}
 use Rattle.graph.specs.Members.{◌∈◌, along}
 use Rattle.search.specs.Want.{Interface, Class, Audio}
@@ -71,7 +71,7 @@ interface_of (repeats i k) = i
 interface_of (second_control a k) = a.0
 interface_of (other_setting a n) = a.0
 
-some_in : {P : List ℕ → Type 0} {x y : List (List ℕ)} → ((d : List ℕ) → d ∈ x → d ∈ y) → Some P x → Some P y
+some_in : {P : List ℕ → Type 0} {x y : List (List ℕ)} → ((d : List ℕ) → d ∈ x → d ∈ y) → SomeOf P x → SomeOf P y
 some_in h k = record { one = k.one; among = h k.one k.among; has = k.has }
 
 wrong_in : {x y : List (List ℕ)} {d : List ℕ} → ((b : List ℕ) → b ∈ x → b ∈ y) → WrongInterface x d → WrongInterface y d

@@ -11,7 +11,7 @@ use mathlib.Core.List.Permᴰ
 use mathlib.Core.List.{List, [], ◌∷◌, ◌++◌, flatten}
 use lib.ListN.{length}
 use native.Mathlib.Omega.{arith}
-use Rattle.ground.specs.Lists.{Some, split_of, of_split}
+use Rattle.ground.specs.Lists.{SomeOf, split_of, of_split}
 use Rattle.ground.specs.First.{Sound}
 use Rattle.graph.specs.Members.{◌∈◌, along}
 use Rattle.layout.specs.declared.Cluster.{Cluster}
@@ -59,7 +59,7 @@ blind_10 ds es p h x d y e w = go w
     apart : (b : List ℕ) → b ∈ x → Apart b d
     apart = pairs_each Apart x d y (subst (Pairs Apart) e (permuted_pairs Apart (λ a b n q. n (sym q)) p (pairs_of Apart ds (distinct_ids ds h))))
 
-    go : (own_id d ≡ 0) ⊎ Some (λ b. own_id b ≡ own_id d) x → ⊥
+    go : (own_id d ≡ 0) ⊎ SomeOf (λ b. own_id b ≡ own_id d) x → ⊥
     go (inl z) = let k = split_of (permuted_in (permuted_back p) (along (sym e) (of_split x d y))) in h k.0 d k.1 k.2 (inl z)
     go (inr k) = apart k.one k.among k.has
 

@@ -8,10 +8,9 @@ use mathlib.Core.Path.{◌≡◌, refl, sym, ap, ◌∙◌}
 use mathlib.Core.List.{List, [], ◌∷◌, ◌++◌, Memᴰ}
 use native.Mathlib.Omega.{arith}
 use lib.ListN.{length, length-set}
-use lib.Seq.{set-get_or}
 use Rattle.table.specs.declared.Control.{Control}
 use Rattle.table.specs.declared.Table.{Table}
-use Rattle.table.specs.Controls.{blank_control, at, placed}
+use Rattle.table.specs.Controls.{at, placed}
 use Rattle.table.specs.Placed.{placed_elsewhere}
 use Rattle.deed.specs.Doing.{Doing}
 use Rattle.loads.specs.Load.{deed_of, OfOne, denies, changes}
@@ -21,13 +20,10 @@ use Rattle.request.specs.Outcome.{Outcome, answer_of, refusal, deed_answer}
 use Rattle.request.specs.Outcome.Outcome.{refused}
 use Rattle.request.specs.Stored.{stored_at, outcome_at}
 
-placed_self : (t : Table) (p : ℕ) → placed t p (at t p) ≡ t
-placed_self t p = ap (λ (l : List Control). record { count = t.count; controls = l }) (set-get_or t.controls p blank_control)
-
 pub done_answer : (st : State) (p : ℕ) (o : Doing) → OfOne o
     → deed_answer st p (deed_of (at st.table p) o) ≡ answer_of st (outcome_at st.table (p ∷ []) o)
 unfolding answer_of stored_at
-done_answer st p _ denies = ap (λ (t : Table). record { number = _; written = 0; state = record { control = st.control; table = t } }) (placed_self st.table p)
+done_answer st p _ denies = refl
 done_answer st p _ changes = refl
 
 pub refuses : (st : State) (o : Outcome) (r : Answer) (n : ℕ) → o ≡ refused n → r ≡ refusal st n → r ≡ answer_of st o

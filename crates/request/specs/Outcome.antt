@@ -9,10 +9,10 @@
 --   Answered st o b r a  ==  the function's result r and what the reply holds at exit, a, are those of o; b is the reply at entry
 --   refusal st n      ==  the answer of refusal n
 --   deed_answer st i d ==  the answer where the deed d is done at index i of the table
-use Rattle.std.specs.Prelude.{ℕ, ◌≡◌, List, [], length}
+use Rattle.std.specs.Prelude.{ℕ, Result, Ok, Err, ◌≡◌, List, [], length}
 use Rattle.table.specs.declared.Table.{Table}
 use Rattle.table.specs.Controls.{placed}
-use Rattle.loads.specs.declared.Deed.{Deed}
+use Rattle.table.specs.declared.Control.{Control}
 use Rattle.deed.specs.Reply.{laid}
 use Rattle.request.specs.declared.State.{State}
 use Rattle.request.specs.declared.Answer.{Answer}
@@ -50,9 +50,6 @@ pub record Answered (st : State) (o : Outcome) (b : List ℕ) (r : Answer) (a : 
 abbrev pub refusal : State → ℕ → Answer
 refusal st n = record { number = n; written = 0; state = st }
 
-abbrev pub deed_answer : State → ℕ → Deed → Answer
-deed_answer st i d = record {
-  number = d.number;
-  written = 0;
-  state = record { control = st.control; table = placed st.table i d.control };
-}
+abbrev pub deed_answer : State → ℕ → Result Control ℕ → Answer
+deed_answer st i (Err n) = refusal st n
+deed_answer st i (Ok c) = record { number = 0; written = 0; state = record { control = st.control; table = placed st.table i c } }

@@ -1,12 +1,13 @@
 -- Class requests: refusals 30 to 39, in this order.
 --   elsewhere_by g m    ==  32: "wIndex low byte is not the AudioControl number", which is m; else 0
 --   barred_by k m       ==  31 or 32, which no table decides; 0 where neither is
+--   if_any n            ==  the refusal n as the code tells it: none where n is 0
 --   missed_by t u       ==  33: "wIndex high byte is no unit with controls"; 34: "no such control"
 --   doing_of k d room cs  ==  a Set or a Get of the addressed controls (crate answers)
 --   done_at t u ps act  ==  33 or 34 where no control is addressed; else what is done at those that are
 --   answer_asked st k d room  ==  31 or 32, or what k comes to at the controls that it names
 --   request_of st s d room    ==  the whole request; room is the reply's length
-use Rattle.std.specs.Prelude.{ℕ, List, [], ◌∷◌, map, eqb}
+use Rattle.std.specs.Prelude.{ℕ, Option, None, Some, List, [], ◌∷◌, map, eqb}
 use Rattle.ground.specs.Pick.{pick}
 use Rattle.table.specs.declared.Control.{Control}
 use Rattle.table.specs.declared.Table.{Table}
@@ -33,6 +34,9 @@ abbrev pub barred_by : Asked → ℕ → ℕ
 barred_by asks.Unknown m = 31
 barred_by (asks.Set g) m = elsewhere_by g m
 barred_by (asks.Get part g) m = elsewhere_by g m
+
+abbrev pub if_any : ℕ → Option ℕ
+if_any n = pick (eqb n 0) None (Some n)
 
 abbrev pub missed_by : Table → ℕ → ℕ
 missed_by t u = missing_by (unit_in t u)

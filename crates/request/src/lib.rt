@@ -7,13 +7,12 @@ ghost use Rattle.answers.specs.Answers.{set_of, get_of};
 ghost use Rattle.request.specs.Outcome.{refusal, deed_answer, answer_of, Answered};
 ghost use Rattle.request.specs.Load.{load_of};
 ghost use Rattle.request.specs.Stored.{indices_in, Seated, outcome_of};
-ghost use Rattle.request.specs.Request.{elsewhere_by, barred_by, request_of};
+ghost use Rattle.request.specs.Request.{elsewhere_by, barred_by, if_any, request_of};
 
 use address::Sought;
-use loads::Deed;
 use setting::Range;
 use setup::{Asked, Part, Target};
-use table::{Entry, Table};
+use table::{Control, Table};
 
 // The box's state: the AudioControl number and the table of controls.
 #[derive(Clone, Copy)]
@@ -23,6 +22,7 @@ pub struct State {
 }
 
 // What a load or a request comes to: 0 or the number of the refusal, how many bytes of the reply were written, and the state after it.
+// Stays: 0 beside a refusal is no Result, since answer_of and the theorems over it speak of number, written and state side by side.
 #[derive(Clone, Copy)]
 pub struct Answer {
     pub number: u8,
@@ -41,15 +41,18 @@ fn refused(state: State, number: u8) -> Answer
 }
 
 // The control as the deed leaves it is stored where it stands.
-fn done(state: State, index: usize, deed: Deed) -> Answer
+fn done(state: State, index: usize, deed: Result<Control, u8>) -> Answer
     ensures { result ≡ deed_answer state index deed }
 {
-    Answer {
-        number: deed.number,
-        written: 0,
-        state: State {
-            control: state.control,
-            table: table::put(state.table, index, deed.control),
+    match deed {
+        Err(number) => refused(state, number),
+        Ok(control) => Answer {
+            number: 0,
+            written: 0,
+            state: State {
+                control: state.control,
+                table: table::put(state.table, index, control),
+            },
         },
     }
 }
@@ -72,29 +75,30 @@ pub fn load(
     }
     let range = Range { min, max, res };
     match table::find(state.table, unit, channel, selector) {
-        Entry::Nothing => refused(state, 20),
-        Entry::At(index, control) => done(state, index, loads::load_on(control, range, cur)),
+        None => refused(state, 20),
+        Some((index, control)) => done(state, index, loads::load_on(control, range, cur)),
     }
 }
 
-// 32, or 0 where the target is on the AudioControl interface.
-fn elsewhere(target: Target, number: u8) -> u8
-    ensures { result ≡ elsewhere_by target number }
+// 32, if the target is not on the AudioControl interface.
+#[tactic(auto, unfolding(crate::specs::Request::elsewhere_by))]
+fn elsewhere(target: Target, number: u8) -> Option<u8>
+    ensures { result ≡ if_any (elsewhere_by target number) }
 {
-    if target.interface != number {
-        return 32;
+    if target.interface == number {
+        None
+    } else {
+        Some(32)
     }
-    0
 }
 
-// 31 or 32, which no table decides; 0 where neither is.
-fn bar(asked: Asked, number: u8) -> u8
-    ensures { result ≡ barred_by asked number }
+// 31 or 32, if one is given: no table decides them.
+fn bar(asked: Asked, number: u8) -> Option<u8>
+    ensures { result ≡ if_any (barred_by asked number) }
 {
     match asked {
-        Asked::Unknown => 31,
-        Asked::Set(target) => elsewhere(target, number),
-        Asked::Get(_, target) => elsewhere(target, number),
+        Asked::Unknown => Some(31),
+        Asked::Set(target) | Asked::Get(_, target) => elsewhere(target, number),
     }
 }
 
@@ -104,38 +108,34 @@ fn set_all(state: State, sought: Sought, bytes: u16, data: &[u8]) -> Answer
     requires { Seated sought }
     ensures { result ≡ answer_of state (outcome_of state.table (indices_in sought) (λ cs. set_of cs bytes «data».now)) }
 {
+    let places = &sought.indices[..sought.count];
     let mut table = state.table;
     let mut unready = false;
     let mut taken = true;
     let mut size = 0;
-    let mut turn = 0;
-    while turn < sought.count {
-        let index = sought.indices[turn] as usize;
-        let asks = answers::set_asks(table.controls[index], data, size);
+    for &place in places {
+        let asks = answers::set_asks(table.controls[place as usize], data, size);
         unready |= asks.unready;
         taken &= asks.taken;
         size += asks.size;
-        turn += 1;
     }
     let denied = answers::set_number(unready, taken, size, bytes, data.len());
-    if denied != 0 {
-        return refused(state, denied);
+    if let Some(number) = denied {
+        return refused(state, number);
     }
     let mut at = 0;
-    let mut next = 0;
-    while next < sought.count {
-        let index = sought.indices[next] as usize;
-        let control = table.controls[index];
-        table.controls[index] = answers::set_to(control, data, at);
+    for &place in places {
+        let control = table.controls[place as usize];
+        table.controls[place as usize] = answers::set_to(control, data, at);
         at += answers::size_of(control);
-        next += 1;
     }
-    let control = state.control;
-    let state = State { control, table };
     Answer {
-        number: denied,
+        number: 0,
         written: 0,
-        state,
+        state: State {
+            control: state.control,
+            table,
+        },
     }
 }
 
@@ -145,39 +145,34 @@ fn get_all(state: State, sought: Sought, part: Part, bytes: u16, reply: &mut [u8
     requires { Seated sought }
     ensures { Answered state (outcome_of state.table (indices_in sought) (λ cs. get_of part cs bytes (length reply.old))) reply.old result reply.new }
 {
+    let places = &sought.indices[..sought.count];
     let table = state.table;
     let mut lacking = false;
     let mut unready = false;
     let mut size = 0;
-    let mut turn = 0;
-    while turn < sought.count {
-        let index = sought.indices[turn] as usize;
-        let asks = answers::get_asks(table.controls[index], part);
+    for &place in places {
+        let asks = answers::get_asks(table.controls[place as usize], part);
         lacking |= asks.lacking;
         unready |= asks.unready;
         size += asks.size;
-        turn += 1;
     }
     let end = answers::sent_of(bytes, size);
-    let number = answers::get_number(lacking, unready, end, reply.len());
-    if number != 0 {
+    if let Some(number) = answers::get_number(lacking, unready, end, reply.len()) {
         return refused(state, number);
     }
     let mut written = 0;
-    let mut next = 0;
-    while next < sought.count {
-        let index = sought.indices[next] as usize;
-        let control = table.controls[index];
+    for &place in places {
+        let control = table.controls[place as usize];
         let value = answers::part_of(part, control);
         written = deed::write(value, answers::size_of(control), written, end, reply);
-        next += 1;
     }
-    let control = state.control;
-    let state = State { control, table };
     Answer {
         number: 0,
         written,
-        state,
+        state: State {
+            control: state.control,
+            table,
+        },
     }
 }
 
@@ -188,16 +183,14 @@ pub fn request(state: State, setup: &[u8], data: &[u8], reply: &mut [u8]) -> Ans
 {
     let asked = setup::read(setup);
     let target = setup::target_of(asked);
-    let sought = address::seek(state.table, target.unit, target.channel, target.selector);
-    if sought.number == 30 {
-        return refused(state, 30);
-    }
     let barred = bar(asked, state.control);
-    if barred != 0 {
-        return refused(state, barred);
-    }
-    if sought.number != 0 {
-        return refused(state, sought.number);
+    let sought = match address::seek(state.table, target.unit, target.channel, target.selector) {
+        Ok(sought) => sought,
+        Err(number) if number == 30 => return refused(state, 30),
+        Err(number) => return refused(state, barred.unwrap_or(number)),
+    };
+    if let Some(number) = barred {
+        return refused(state, number);
     }
     match asked {
         Asked::Unknown => refused(state, 31),

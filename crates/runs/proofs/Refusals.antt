@@ -11,6 +11,7 @@ use mathlib.Core.List.{List, [], ◌∷◌, map}
 use mathlib.Core.Bool.{Bool, true, false, ◌&&◌}
 use mathlib.Core.Logic.{⊎_elim}
 use native.Mathlib.Omega.{arith}
+use Rattle.std.specs.Prelude.{Option, None, Some}
 use lib.Dec.{eqb, ltb}
 use lib.ListN.{length}
 use borrow.Author.Tests.{eq-eqb, ne_eqb}
@@ -20,8 +21,6 @@ use Rattle.setting.specs.Setting.{fits_of, legal_of}
 use Rattle.setting.specs.declared.Range.{Range}
 use Rattle.table.specs.declared.Control.{Control}
 use Rattle.table.specs.declared.Table.{Table}
-use Rattle.table.specs.declared.Entry.{Entry}
-use Rattle.table.specs.declared.Entry.TheVariants.{Nothing, At}
 use Rattle.table.specs.First.{entry_in}
 use Rattle.table.specs.declared.Sense.{Sense}
 use Rattle.table.specs.declared.Sense.TheVariants.{Unknown, YesNo, Ranged, Pin}
@@ -100,10 +99,11 @@ load_by_numbers YesNo c range w = load_20
 load_by_numbers Pin c range w = load_20
 load_by_numbers (Ranged s) c range w = either_denied LoadNumber (legal_of s range && fits_of s w) _ _ tt load_21
 
-load_at_numbers : (t : Table) (e : Entry) (range : Range) (w : ℕ) → Numbered LoadNumber (load_at t e range w)
+load_at_numbers : (t : Table) (e : Option (ℕ × Control)) (range : Range) (w : ℕ) → Numbered LoadNumber (load_at t e range w)
 unfolding load_at
-load_at_numbers t Nothing range w = load_20
-load_at_numbers t (At p c) range w = denied_numbered LoadNumber t (p ∷ []) (load_on c range w) (load_by_numbers (sense_of c.selector) c range w)
+load_at_numbers t None range w = load_20
+load_at_numbers t (Some found) range w =
+    denied_numbered LoadNumber t (found.0 ∷ []) (load_on found.1 range w) (load_by_numbers (sense_of found.1.selector) found.1 range w)
 
 pub load_numbers : (st : State) (k : Key) (range : Range) (w : ℕ) → Numbered LoadNumber (load_of st k.unit k.channel k.selector range w)
 unfolding load_of

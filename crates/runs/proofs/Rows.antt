@@ -13,7 +13,7 @@ use lib.Dec.{eqb, leb, ltb}
 use lib.ListN.{length}
 use Rattle.ground.specs.Pick.{pick, true≠false, Reads, decided, reads_same, reads_eq, reads_lt, reads_le, reads_and, reads_or, reads_not}
 use Rattle.ground.specs.Numbers.{byte, word}
-use Rattle.ground.specs.Lists.{any, Some, reads_any}
+use Rattle.ground.specs.Lists.{any, SomeOf, reads_any}
 use Rattle.ground.specs.Places.{reads_somewhere}
 use Rattle.graph.specs.Members.{◌∈◌}
 use Rattle.setting.specs.Setting.{fits_of, legal_of}
@@ -109,7 +109,7 @@ range_code Res = refl
 
 -- rows 35 to 39, of any list of controls
 module _ (s d : List ℕ) (room : ℕ) where
-  unready_reads : (cs : List Control) → Reads (any (λ c. unready (held_by c) c) cs) (Some Unloaded cs)
+  unready_reads : (cs : List Control) → Reads (any (λ c. unready (held_by c) c) cs) (SomeOf Unloaded cs)
   unfolding unready
   unready_reads cs = reads_any _ Unloaded (λ c. reads_and _ _ (ranged_reads (held_by c)) (reads_false c.loaded)) cs
 
@@ -171,7 +171,7 @@ module _ (s d : List ℕ) (room : ℕ) where
     unfolding lacking
     lacking_reads c = let r : Reads (of_range part) (0x82 ≤ byte s 1) = rw (code, ← range_code part) (reads_le 0x82 (code_of part)) in reads_and _ _ r (reads_not _ (ranged_reads (held_by c)))
 
-    some_lacking : Reads (any (λ c. lacking (held_by c) part) cs) (AsksGet s × ((0x82 ≤ byte s 1) × Some (λ c. HasRange c.selector → ⊥) cs))
+    some_lacking : Reads (any (λ c. lacking (held_by c) part) cs) (AsksGet s × ((0x82 ≤ byte s 1) × SomeOf (λ c. HasRange c.selector → ⊥) cs))
     some_lacking =
         reads_same (reads_any _ _ lacking_reads cs)
         (λ h. (a, (h.has.0, record { one = h.one; among = h.among; has = h.has.1 })))

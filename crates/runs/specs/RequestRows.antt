@@ -23,7 +23,7 @@
 --   step_rows st step         ==  those of the two that the step is tried against
 use Rattle.std.specs.Prelude.{ℕ, ◌≤◌, ◌<◌, min, ◌≡◌, List, [], ◌∷◌, false, ◌⊎◌, ◌↔◌, length}
 use Rattle.ground.specs.Numbers.{byte, word}
-use Rattle.ground.specs.Lists.{Some}
+use Rattle.ground.specs.Lists.{SomeOf}
 use Rattle.ground.specs.Rising.{Rising}
 use Rattle.graph.specs.Members.{◌∈◌}
 use Rattle.setting.specs.Setting.{span_of}
@@ -113,8 +113,8 @@ last_rows s d room cs =
 -- MIN, MAX and RES are the requests from A1/82 on
 abbrev pub control_rows : List ℕ → List ℕ → ℕ → List Control → ℕ → Type 0
 control_rows s d room cs =
-    Row 35 (AsksGet s × ((0x82 ≤ byte s 1) × Some (λ c. HasRange c.selector → ⊥) cs))
-    (Row 36 (Some Unloaded cs)
+    Row 35 (AsksGet s × ((0x82 ≤ byte s 1) × SomeOf (λ c. HasRange c.selector → ⊥) cs))
+    (Row 36 (SomeOf Unloaded cs)
     (Row 37 (AsksSet s × WrongSetLength s d cs)
     (last_rows s d room cs)))
 

@@ -5,13 +5,12 @@ use Rattle.std.proofs.Math.Path.{refl}
 use Rattle.std.proofs.Math.Bool.{true, false}
 use Rattle.std.proofs.Math.Logic.{⊎_elim}
 use Rattle.std.proofs.Common.{arith}
-use Rattle.ground.specs.Pick.{pick, Reads, reads_and, reads_eq, reads_le}
+use Rattle.ground.specs.Pick.{pick, Reads, reads_eq, reads_le}
 use Rattle.ground.specs.Numbers.{byte}
 use Rattle.setup.specs.declared.Part.{Part}
 use Rattle.setup.specs.declared.Part.TheVariants.{Cur, Min, Max, Res}
-use Rattle.setup.specs.declared.Asked.{Asked}
 use Rattle.setup.specs.declared.Asked.TheVariants as asks
-use Rattle.setup.specs.Setup.{AsksSet, asks_set, AsksGet, code_of, WellAsked, target_of, get_asked, asked_by, asked_of}
+use Rattle.setup.specs.Setup.{AsksSet, AsksGet, code_of, target_of, get_asked, asked_by, asked_of}
 use Rattle.setup.specs.Asking.{Asking, none, sets, gets}
 
 module _ (s : List ℕ) (long : length s ≡ 8) where

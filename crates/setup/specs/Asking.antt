@@ -1,18 +1,14 @@
 -- What is read of a setup is what its bytes ask.
 --   Asking s k             ==  the bytes of the setup s ask k: nothing, a Set, or a Get of a part
 --   set_no_get             ==  no setup asks both; reads_set: the test of a Set decides
-use Rattle.std.specs.Prelude.{ℕ, ◌≡◌, List, Bool, eqb, leb, length}
-use Rattle.std.proofs.Math.Path.{refl}
-use Rattle.std.proofs.Math.Bool.{true, false}
-use Rattle.std.proofs.Math.Logic.{⊎_elim}
+use Rattle.std.specs.Prelude.{ℕ, ◌≡◌, List, length}
 use Rattle.std.proofs.Common.{arith}
-use Rattle.ground.specs.Pick.{pick, Reads, reads_and, reads_eq, reads_le}
+use Rattle.ground.specs.Pick.{Reads, reads_and, reads_eq}
 use Rattle.ground.specs.Numbers.{byte}
 use Rattle.setup.specs.declared.Part.{Part}
-use Rattle.setup.specs.declared.Part.TheVariants.{Cur, Min, Max, Res}
 use Rattle.setup.specs.declared.Asked.{Asked}
 use Rattle.setup.specs.declared.Asked.TheVariants as asks
-use Rattle.setup.specs.Setup.{AsksSet, asks_set, AsksGet, code_of, WellAsked, target_of, get_asked, asked_by, asked_of}
+use Rattle.setup.specs.Setup.{AsksSet, asks_set, AsksGet, code_of, WellAsked, target_of}
 
 pub data Asking (s : List ℕ) : Asked → Type 0 where
   none : (WellAsked s → ⊥) → Asking s asks.Unknown

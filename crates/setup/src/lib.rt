@@ -7,7 +7,7 @@ ghost use Rattle.setup.specs.Setup.{asked_by, asked_of, target_in};
 use scan::word_at;
 
 // What a request is about: the low and the high byte of wIndex, the low and the high byte of wValue, and wLength.
-#[derive(Clone, Copy)]
+#[derive(Clone, Copy, Default)]
 pub struct Target {
     pub interface: u8,
     pub unit: u8,
@@ -26,6 +26,7 @@ pub enum Part {
 }
 
 // What a setup asks.
+// Stays: Unknown is no None, since request's doing_of and barred_by, sides' addressee_of and the theorems over them speak of Asked by its cases.
 #[derive(Clone, Copy)]
 pub enum Asked {
     Unknown,
@@ -34,23 +35,16 @@ pub enum Asked {
 }
 
 // What type and request ask of the target: 21/01 is a Set, A1/81 to A1/84 are Gets.
+#[tactic(auto, unfolding(crate::specs::Setup::asked_by, crate::specs::Setup::get_asked))]
 fn asked_by(target: Target, kind: u8, code: u8) -> Asked
     ensures { result ≡ asked_by target kind code }
 {
-    if kind == 0x21 {
-        if code == 1 {
-            return Asked::Set(target);
-        }
-        return Asked::Unknown;
-    }
-    if kind != 0xA1 {
-        return Asked::Unknown;
-    }
-    match code {
-        0x81 => Asked::Get(Part::Cur, target),
-        0x82 => Asked::Get(Part::Min, target),
-        0x83 => Asked::Get(Part::Max, target),
-        0x84 => Asked::Get(Part::Res, target),
+    match (kind, code) {
+        (0x21, 1) => Asked::Set(target),
+        (0xA1, 0x81) => Asked::Get(Part::Cur, target),
+        (0xA1, 0x82) => Asked::Get(Part::Min, target),
+        (0xA1, 0x83) => Asked::Get(Part::Max, target),
+        (0xA1, 0x84) => Asked::Get(Part::Res, target),
         _ => Asked::Unknown,
     }
 }
@@ -77,14 +71,7 @@ pub fn target_of(asked: Asked) -> Target
     ensures { result ≡ target_in asked }
 {
     match asked {
-        Asked::Unknown => Target {
-            interface: 0,
-            unit: 0,
-            channel: 0,
-            selector: 0,
-            bytes: 0,
-        },
-        Asked::Set(target) => target,
-        Asked::Get(_, target) => target,
+        Asked::Unknown => Target::default(),
+        Asked::Set(target) | Asked::Get(_, target) => target,
     }
 }

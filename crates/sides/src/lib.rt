@@ -19,6 +19,7 @@ pub enum Side {
 }
 
 // Whom a request is for: nobody, with the number that refuses it, or a side.
+// Stays: no Result, since duet's asked_on and answer_for, duets' is_for and the theorems over them speak of Addressee by its cases.
 #[derive(Clone, Copy)]
 pub enum Addressee {
     Nobody(u8),
@@ -26,16 +27,15 @@ pub enum Addressee {
 }
 
 // Whom a presented number names.
+#[tactic(auto, unfolding(crate::specs::Sides::addressee_by))]
 fn addressee_by(number: u8) -> Addressee
     ensures { result ≡ addressee_by number }
 {
-    if number == 0 {
-        return Addressee::At(Side::Left);
+    match number {
+        0 => Addressee::At(Side::Left),
+        1 => Addressee::At(Side::Right),
+        _ => Addressee::Nobody(32),
     }
-    if number == 1 {
-        return Addressee::At(Side::Right);
-    }
-    Addressee::Nobody(32)
 }
 
 // Whom a request is for.
@@ -44,8 +44,7 @@ pub fn whose(asked: Asked) -> Addressee
 {
     match asked {
         Asked::Unknown => Addressee::Nobody(31),
-        Asked::Set(target) => addressee_by(target.interface),
-        Asked::Get(_, target) => addressee_by(target.interface),
+        Asked::Set(target) | Asked::Get(_, target) => addressee_by(target.interface),
     }
 }
 

@@ -1,15 +1,15 @@
 -- The seats are passed from the lowest channel up; each index in them goes behind those before it.
 use Prim.Native.Nat.{ℕ, suc, ◌+◌, ◌-◌, ◌≤◌, ◌<◌}
+use Rattle.std.specs.Prelude.{Ok, Err}
 use mathlib.Core.Path.{◌≡◌, refl, sym, ap, ◌∙◌}
 use mathlib.Core.Bool.{Bool}
 use mathlib.Core.List.{List, [], ◌∷◌, ◌++◌, append-nil}
-use mathlib.Core.Logic.{⊎_elim}
 use native.Mathlib.Numerals.{add-one}
 use native.Mathlib.Omega.{arith}
 use borrow.Author.Rules.{rules}
-use lib.Dec.{ltb}
+use borrow.Author.Tests.{lt-ltb, le-ltb}
 use lib.ListN.{length, get_or, set, replicate, length-append}
-use Rattle.ground.specs.Pick.{pick}
+use Rattle.ground.specs.Pick.{yes, no}
 use Rattle.ground.specs.Lists.{pad, pad_blank, pad_set}
 use Rattle.address.specs.Addressed.{most_addressed, indices_of}
 use Rattle.address.specs.Sought.{missing_by, told_of}
@@ -63,18 +63,32 @@ module _ (seats indices : List ℕ) (count c : ℕ) (g : Taking seats indices co
           let z : get_or seats c 0 ≡ suc here = omega arith in
           ap (seated_in seats) (add-one c) ∙ ap (λ (x : ℕ). front ++ indices_of (seat_of x)) z
 
-over : (seats indices : List ℕ) (count c : ℕ) → Taking seats indices count c → most_addressed ≤ c → (owned : Bool) (n : ℕ) → n ≡ pick (ltb 0 count) 0 (missing_by owned)
-    → record { number = n; count = count; indices = indices } ≡ told_of owned (seated_in seats most_addressed)
-over seats indices count c g h owned n e =
-    let z : c ≡ most_addressed = let l = g.low in omega arith in
-    let k : count ≡ length (seated_in seats most_addressed) = g.counted ∙ ap (λ (m : ℕ). length (seated_in seats m)) z in
-    let q : indices ≡ pad 0 most_addressed (seated_in seats most_addressed) = g.filled ∙ ap (λ (m : ℕ). pad 0 most_addressed (seated_in seats m)) z in
-    rw (e, k, q)
+module _ (seats indices : List ℕ) (count c : ℕ) (g : Taking seats indices count c) (h : most_addressed ≤ c) (owned : Bool) where
+  all : c ≡ most_addressed
+  all = let l = g.low in omega arith
 
-ruleset laws = (start, skip, more, over, rules)
+  ends : count ≡ length (seated_in seats most_addressed)
+  ends = g.counted ∙ ap (λ (m : ℕ). length (seated_in seats m)) all
 
-pub loop-of-init : goal.loop-of-init
-loop-of-init c = search laws
+  seats_full : indices ≡ pad 0 most_addressed (seated_in seats most_addressed)
+  seats_full = g.filled ∙ ap (λ (m : ℕ). pad 0 most_addressed (seated_in seats m)) all
 
-pub loop-of-preserved : goal.loop-of-preserved
-loop-of-preserved c = elim c.if-seat-gt0.branch [ then-seat-gt0 w ↦ search laws | else-seat-gt0 w ↦ search laws ]
+  none_there : count ≡ 0 → (n : ℕ) → n ≡ missing_by owned → Err n ≡ told_of owned (seated_in seats most_addressed)
+  none_there z n e = ap Err e ∙ sym (no _ _ (le-ltb 0 (length (seated_in seats most_addressed)) (let k = ends in omega arith)))
+
+  some_there : (count ≡ 0 → ⊥) → Ok (record { count = count; indices = indices }) ≡ told_of owned (seated_in seats most_addressed)
+  some_there z = rw (ends, seats_full) (sym (yes _ _ (lt-ltb 0 (length (seated_in seats most_addressed)) (let k = ends in omega arith))))
+
+ruleset laws = (start, skip, more, none_there, some_there, rules)
+
+pub loop-seat-init : goal.loop-seat-init
+loop-seat-init c = search laws
+
+pub loop-seat-preserved : goal.loop-seat-preserved
+loop-seat-preserved c = elim c.if-seat-gt0.branch [ then-seat-gt0 w ↦ search laws | else-seat-gt0 w ↦ search laws ]
+
+pub returns-then-count-eq0 : goal.returns-then-count-eq0
+returns-then-count-eq0 c = search laws
+
+pub returns : goal.returns
+returns c = search laws

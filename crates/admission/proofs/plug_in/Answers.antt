@@ -5,11 +5,11 @@ use Rattle.admission.proofs.plug_in.Goals as goal
 
 ruleset laws = (plug_barred, plug_turned, plug_let_in, rules)
 
-pub returns-then-vacancy-ne0 : goal.returns-then-vacancy-ne0
-returns-then-vacancy-ne0 c = search laws
+pub returns-in-Err : goal.returns-in-Err
+returns-in-Err c = search laws
 
-pub returns-then-refusal-ne0 : goal.returns-then-refusal-ne0
-returns-then-refusal-ne0 c = search laws
+pub returns-in-Ok-admit : goal.returns-in-Ok-admit
+returns-in-Ok-admit c = search laws
 
-pub returns : goal.returns
-returns c = search laws
+pub returns-in-Err-admit : goal.returns-in-Err-admit
+returns-in-Err-admit c = search laws

@@ -29,5 +29,5 @@ ruleset laws = (one, two, rules)
 pub returns-then-size-eq1 : goal.returns-then-size-eq1
 returns-then-size-eq1 c = search laws
 
-pub returns : goal.returns
-returns c = search laws
+pub returns-else-size-eq1 : goal.returns-else-size-eq1
+returns-else-size-eq1 c = search laws

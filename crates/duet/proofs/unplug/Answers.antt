@@ -8,8 +8,8 @@ ruleset laws = (unplug_thirty, unplug_empty, unplug_done, rules)
 pub returns-then-not-sound_duet : goal.returns-then-not-sound_duet
 returns-then-not-sound_duet c = search laws
 
-pub returns-then-not-socket : goal.returns-then-not-socket
-returns-then-not-socket c = search laws
+pub returns-then-not-socket_of : goal.returns-then-not-socket_of
+returns-then-not-socket_of c = search laws
 
 pub returns : goal.returns
 returns c = search laws

@@ -1,17 +1,8 @@
-use borrow.Author.Rules.{rules}
-use Prim.Native.Nat.{◌-◌}
-use lib.ListN.{length-map}
-use Rattle.request.proofs.Passing.{SetAsking, set_asking_start, set_asking_inside, set_asking_index, set_asking_scaled, set_asking_small, set_asking_on, Storing, storing_start, storing_inside, storing_index, storing_scaled, storing_small, storing_on, set_refused, set_stored}
+use Rattle.request.proofs.Passing.{SetAsking, Storing}
 use Rattle.request.proofs.set_all.Given as goal
 
-abbrev pub invariant-loop-next : goal.invariant-loop-next
-invariant-loop-next l = Storing l.state.table l.sought l.bytes l.data l.table l.at l.next
+abbrev pub invariant-loop-place : goal.invariant-loop-place
+invariant-loop-place l = SetAsking l.state.table l.fn.sought l.data l.table l.unready l.taken l.size l.place-index
 
-abbrev pub decreases-loop-next : goal.decreases-loop-next
-decreases-loop-next l = l.sought.count - l.next
-
-abbrev pub invariant-loop-turn : goal.invariant-loop-turn
-invariant-loop-turn l = SetAsking l.state.table l.sought l.data l.table l.unready l.taken l.size l.turn
-
-abbrev pub decreases-loop-turn : goal.decreases-loop-turn
-decreases-loop-turn l = l.sought.count - l.turn
+abbrev pub invariant-loop-place-2 : goal.invariant-loop-place-2
+invariant-loop-place-2 l = Storing l.state.table l.fn.sought l.bytes l.data l.table l.at l.place-index
