@@ -6,15 +6,13 @@
 --   wrong_before     ==  in a search that has come to a place: an ID is borne by an earlier descriptor exactly where its first bearer stands before
 --   cluster_at       ==  what stands at the place of the first bearer is the descriptor that bears the ID
 --   cluster_none     ==  where no place is found, none bears it
-use Rattle.std.specs.Prelude.{ℕ, ◌+◌, ◌-◌, ◌≤◌, ◌<◌, Bool, true, false, ◌||◌, ◌⊎◌, ◌↔◌, take, eqb}
+use Rattle.std.specs.Prelude.{ℕ, ◌+◌, ◌-◌, ◌≤◌, ◌<◌, Bool, true, false, ◌||◌, ◌⊎◌, ◌↔◌, take, eqb, Option, Some, None}
 use Rattle.std.proofs.Math.Path.{◌≡◌, refl, sym, ap}
 use Rattle.std.proofs.Common.{◌∙◌, ⊎_elim, take-append-drop, length-append, length-drop, take_at, drop_at}
 use mathlib.Core.List.{List, [], ◌∷◌, ◌++◌, flatten, append_assoc, append-nil, Memᴰ}
 use native.Mathlib.Omega.{arith}
 use Rattle.std.proofs.Math.ListN.{length, drop}
 use Rattle.std.proofs.Math.Seq.{length-take-le}
-use Rattle.ground.specs.declared.Place.{Place}
-use Rattle.ground.specs.declared.Place.TheVariants.{Nowhere, At}
 use Rattle.ground.specs.Pick.{pick, yes, Reads, reads_eq, reads_or, reads_true, decided, true≠false}
 use Rattle.ground.specs.Numbers.{word}
 use Rattle.ground.specs.Lists.{any, reads_any, total, part, part_drop, flatten_append, length_flatten, of_split}
@@ -34,28 +32,28 @@ module _ (s : List ℕ) where
   k : StandingBy two_bytes s 0 (pieces s)
   k = standing two_bytes s 0 (omega arith)
 
-  search_nowhere : (first_from is_wrong_cluster 0 [] (pieces s) ≡ Nowhere) ↔ Sound WrongCluster (pieces s)
+  search_nowhere : (first_from is_wrong_cluster 0 [] (pieces s) ≡ None) ↔ Sound WrongCluster (pieces s)
   search_nowhere = first_nowhere is_wrong_cluster WrongCluster reads_wrong 0 (pieces s)
 
-  search_at : (p : ℕ) → (first_from is_wrong_cluster 0 [] (pieces s) ≡ At p) ↔ Breaks WrongCluster 0 (pieces s) p
+  search_at : (p : ℕ) → (first_from is_wrong_cluster 0 [] (pieces s) ≡ Some p) ↔ Breaks WrongCluster 0 (pieces s) p
   search_at p = first_at is_wrong_cluster WrongCluster reads_wrong 0 (pieces s) p
 
   pub buffer_pieces : (b : Buffer s) → pieces s ≡ b.pieces
   buffer_pieces b = cut_rest two_bytes s b.pieces b.tiles
 
-  pub rule51_nowhere : (breach51 s ≡ Nowhere) ↔ Buffer s
+  pub rule51_nowhere : (breach51 s ≡ None) ↔ Buffer s
   unfolding breach51 found_or
   rule51_nowhere = (λ e. of (first_from is_wrong_cluster 0 [] (pieces s)) refl e, to)
     where
-      of : (r : Place) → first_from is_wrong_cluster 0 [] (pieces s) ≡ r → found_or r (breach_by two_bytes s) ≡ Nowhere → Buffer s
-      of Nowhere f e =
+      of : (r : Option ℕ) → first_from is_wrong_cluster 0 [] (pieces s) ≡ r → found_or r (breach_by two_bytes s) ≡ None → Buffer s
+      of None f e =
           let c = (cut_exists two_bytes s).0 e in
           record { pieces = c.0; tiles = c.1; ids = rw (cut_rest two_bytes s c.0 c.1) at (search_nowhere.0 f) }
-      of (At p) f e = let z : ◌≡◌ {A = ℕ} 0 1 = cc in absurd (omega arith)
+      of (Some p) f e = let z : ◌≡◌ {A = ℕ} 0 1 = cc in absurd (omega arith)
 
-      to : Buffer s → found_or (first_from is_wrong_cluster 0 [] (pieces s)) (breach_by two_bytes s) ≡ Nowhere
+      to : Buffer s → found_or (first_from is_wrong_cluster 0 [] (pieces s)) (breach_by two_bytes s) ≡ None
       to b =
-          ap (λ (r : Place). found_or r (breach_by two_bytes s)) (search_nowhere.1 (rw (buffer_pieces b) b.ids))
+          ap (λ (r : Option ℕ). found_or r (breach_by two_bytes s)) (search_nowhere.1 (rw (buffer_pieces b) b.ids))
           ∙ (cut_exists two_bytes s).1 (b.pieces, b.tiles)
 
   -- the bytes, from a part of the pieces on
@@ -128,7 +126,7 @@ module _ (s : List ℕ) where
           let l = h.long in
           omega arith
 
-  found_fault : (p : ℕ) → Broken51 s p → breach51 s ≡ At p
+  found_fault : (p : ℕ) → Broken51 s p → breach51 s ≡ Some p
   unfolding breach51 found_or
   found_fault p b = of b.fault
     where
@@ -138,8 +136,8 @@ module _ (s : List ℕ) where
       all : pieces s ≡ x ++ rest_by two_bytes s (total x)
       all = behind x b.tail b.split b.each
 
-      of : Fault x b.tail → found_or (first_from is_wrong_cluster 0 [] (pieces s)) (breach_by two_bytes s) ≡ At p
-      of (wrong_id_lem d more e h w) = ap (λ (r : Place). found_or r (breach_by two_bytes s)) ((search_at p).1 here)
+      of : Fault x b.tail → found_or (first_from is_wrong_cluster 0 [] (pieces s)) (breach_by two_bytes s) ≡ Some p
+      of (wrong_id_lem d more e h w) = ap (λ (r : Option ℕ). found_or r (breach_by two_bytes s)) ((search_at p).1 here)
         where
           next : rest_by two_bytes s (total x) ≡ d ∷ rest_by two_bytes s (total x + length d)
           next =
@@ -162,7 +160,7 @@ module _ (s : List ℕ) where
                 none_before = b.none_before;
               }
       of (no_piece l n) =
-          ap (λ (r : Place). found_or r (breach_by two_bytes s)) (search_nowhere.1 (rw whole b.none_before))
+          ap (λ (r : Option ℕ). found_or r (breach_by two_bytes s)) (search_nowhere.1 (rw whole b.none_before))
           ∙ (cut_misfit two_bytes s p).1 misfit
         where
           t : drop (total x) s ≡ b.tail
@@ -193,13 +191,13 @@ module _ (s : List ℕ) where
                 none = λ least room. let e = end_stands two_bytes s (total x) (rw q at least) (rw q at room) in let g = stops in let least' : 7 ≤ word s (total x) = rw q at least in omega arith;
               }
 
-  pub rule51_at : (p : ℕ) → (breach51 s ≡ At p) ↔ Broken51 s p
+  pub rule51_at : (p : ℕ) → (breach51 s ≡ Some p) ↔ Broken51 s p
   unfolding breach51 found_or
   rule51_at p = (λ e. of (first_from is_wrong_cluster 0 [] (pieces s)) refl e, found_fault p)
     where
-      of : (r : Place) → first_from is_wrong_cluster 0 [] (pieces s) ≡ r → found_or r (breach_by two_bytes s) ≡ At p → Broken51 s p
-      of Nowhere f e = misfit_found p (search_nowhere.0 f) ((cut_misfit two_bytes s p).0 e)
-      of (At q) f e = let z : q ≡ p = cc in fault_found p ((search_at p).0 (f ∙ ap At z))
+      of : (r : Option ℕ) → first_from is_wrong_cluster 0 [] (pieces s) ≡ r → found_or r (breach_by two_bytes s) ≡ Some p → Broken51 s p
+      of None f e = misfit_found p (search_nowhere.0 f) ((cut_misfit two_bytes s p).0 e)
+      of (Some q) f e = let z : q ≡ p = cc in fault_found p ((search_at p).0 (f ∙ ap Some z))
 
   pub wrong_before : (at : ℕ) (g : PassedBy two_bytes is_wrong_cluster s 0 at) (id : ℕ) → is_before (found_cluster s id) at ≡ any (bearing id) g.behind
   unfolding found_cluster
@@ -227,11 +225,11 @@ cluster_in_none (a ∷ x) id n = go (bearing id a) n (λ m. cluster_in_none x id
     go false m ih = ih m
 
 module _ (s : List ℕ) (id : ℕ) where
-  pub cluster_none : found_cluster s id ≡ Nowhere → cluster_with s id ≡ []
+  pub cluster_none : found_cluster s id ≡ None → cluster_with s id ≡ []
   unfolding found_cluster cluster_with
   cluster_none e = cluster_in_none (pieces s) id (first_none_any (bearing id) 0 (pieces s) e)
 
-  pub cluster_at : (p : ℕ) → found_cluster s id ≡ At p → part s p (end_by two_bytes s p) ≡ cluster_with s id
+  pub cluster_at : (p : ℕ) → found_cluster s id ≡ Some p → part s p (end_by two_bytes s p) ≡ cluster_with s id
   unfolding found_cluster cluster_with flatten
   cluster_at p e = of ((first_at (λ b d. bearing id d) (λ b d. bearing id d ≡ true) (λ b d. reads_true (bearing id d)) 0 (pieces s) p).0 e)
     where

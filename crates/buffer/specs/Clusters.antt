@@ -14,7 +14,7 @@ use Rattle.std.specs.Prelude.{ℕ, ◌+◌, ◌*◌, ◌≤◌, ◌<◌, ◌≡�
 use Rattle.std.proofs.Common.{ap, ◌∙◌, arith}
 use mathlib.Core.List.{List, ◌++◌, flatten, Memᴰ}
 use Rattle.ground.specs.Numbers.{byte, word}
-use Rattle.ground.specs.Lists.{Some, total}
+use Rattle.ground.specs.Lists.{SomeOf, total}
 use Rattle.ground.specs.First.{Sound}
 use Rattle.scan.specs.Cutting.{Measure, Piece, Pieces, own_byte, first_byte}
 
@@ -34,7 +34,7 @@ abbrev pub channels_of : List ℕ → ℕ
 channels_of k = byte k 6
 
 abbrev pub WrongCluster : List (List ℕ) → List ℕ → Type 0
-WrongCluster before k = (cluster_id k ≡ 0) ⊎ Some (λ e. cluster_id e ≡ cluster_id k) before
+WrongCluster before k = (cluster_id k ≡ 0) ⊎ SomeOf (λ e. cluster_id e ≡ cluster_id k) before
 
 pub record Buffer (b : List ℕ) : Type 0 where
   pub pieces : List (List ℕ)

@@ -9,11 +9,9 @@
 --   breach51 s           ==  where rule 51 is broken first
 --   eq_bytes x y          ==  the test that two lists are the same; reads_bytes: it decides that
 --   same_content j k      ==  the test of the same content; reads_content
-use Rattle.std.specs.Prelude.{ℕ, ◌≡◌, refl, Bool, true, false, ◌&&◌, ◌||◌, take, drop, eqb}
+use Rattle.std.specs.Prelude.{ℕ, ◌≡◌, refl, Bool, true, false, ◌&&◌, ◌||◌, take, drop, eqb, Option, Some, None}
 use Rattle.std.proofs.Common.{sym, ap, ◌∙◌}
 use mathlib.Core.List.{List, [], ◌∷◌, head-eq_of_cons-eq, tail-eq_of_cons-eq, nil≢cons, cons≢nil}
-use Rattle.ground.specs.declared.Place.{Place}
-use Rattle.ground.specs.declared.Place.TheVariants.{Nowhere, At}
 use Rattle.ground.specs.Pick.{pick, Reads, reads_same, reads_eq, reads_and, true≠false}
 use Rattle.ground.specs.Lists.{any}
 use Rattle.ground.specs.First.{first_from}
@@ -26,7 +24,7 @@ pieces s = rest_by two_bytes s 0
 abbrev pub bearing : ℕ → List ℕ → Bool
 bearing id k = eqb (cluster_id k) id
 
-unfoldable pub found_cluster : List ℕ → ℕ → Place
+unfoldable pub found_cluster : List ℕ → ℕ → Option ℕ
 found_cluster s id = first_from (λ b k. bearing id k) 0 [] (pieces s)
 
 unfoldable pub cluster_in : List (List ℕ) → ℕ → List ℕ
@@ -39,11 +37,11 @@ cluster_with s id = cluster_in (pieces s) id
 unfoldable pub is_wrong_cluster : List (List ℕ) → List ℕ → Bool
 is_wrong_cluster before k = eqb (cluster_id k) 0 || any (bearing (cluster_id k)) before
 
-unfoldable pub found_or : Place → Place → Place
-found_or Nowhere b = b
-found_or (At p) b = At p
+unfoldable pub found_or : Option ℕ → Option ℕ → Option ℕ
+found_or None b = b
+found_or (Some p) b = Some p
 
-unfoldable pub breach51 : List ℕ → Place
+unfoldable pub breach51 : List ℕ → Option ℕ
 breach51 s = found_or (first_from is_wrong_cluster 0 [] (pieces s)) (breach_by two_bytes s)
 
 unfoldable pub eq_bytes : List ℕ → List ℕ → Bool

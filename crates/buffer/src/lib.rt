@@ -8,13 +8,13 @@ ghost use Rattle.scan.specs.Cutting.{end_by};
 ghost use Rattle.buffer.specs.Clusters.{two_bytes, cluster_id};
 ghost use Rattle.buffer.specs.Reading.{bearing, found_cluster, cluster_with, breach51, same_content};
 
-use ground::Place;
 use scan::{stretch, word_at};
 
 // The least length of a cluster descriptor.
 const LEAST: usize = 7;
 
 // Where the cluster descriptor at a place ends: the place itself where none stands.
+// Stays: scan::end_of reads a length of one byte, 2 or more; one function for both would be handed the width and the least length at each call.
 fn cluster_end(s: &[u8], at: usize) -> usize
     ensures { result ≡ end_by two_bytes s.now at }
 {
@@ -36,17 +36,17 @@ fn bears(k: &[u8], id: u16) -> bool
 }
 
 // The place of the first cluster descriptor that bears an ID.
-pub fn find(s: &[u8], id: u16) -> Place
+pub fn find(s: &[u8], id: u16) -> Option<usize>
     ensures { result ≡ found_cluster s.now id }
 {
     let mut at: usize = 0;
     loop {
         let e = cluster_end(s, at);
         if e == at {
-            return Place::Nowhere;
+            return None;
         }
         if bears(&s[at..e], id) {
-            return Place::At(at);
+            return Some(at);
         }
         at = e;
     }
@@ -62,13 +62,14 @@ fn is_wrong(s: &[u8], at: usize, k: &[u8]) -> bool
     }
     let first = find(s, id);
     match first {
-        Place::At(place) => place < at,
-        Place::Nowhere => false,
+        Some(place) => place < at,
+        None => false,
     }
 }
 
 // The place of the first cluster descriptor, if any, that does not fit, or whose ID is 0 or borne by an earlier one.
-pub fn check_buffer(s: &[u8]) -> Place
+// Stays: find walks alike, but answers nowhere where this asks whether the walk came to the end, so a walk for both hands its last place on too.
+pub fn check_buffer(s: &[u8]) -> Option<usize>
     ensures { result ≡ breach51 s.now }
 {
     let mut at: usize = 0;
@@ -76,12 +77,12 @@ pub fn check_buffer(s: &[u8]) -> Place
         let e = cluster_end(s, at);
         if e == at {
             if at == s.len() {
-                return Place::Nowhere;
+                return None;
             }
-            return Place::At(at);
+            return Some(at);
         }
         if is_wrong(s, at, &s[at..e]) {
-            return Place::At(at);
+            return Some(at);
         }
         at = e;
     }
@@ -93,8 +94,8 @@ pub fn cluster_with(s: &[u8], id: u16) -> &[u8]
 {
     let first = find(s, id);
     match first {
-        Place::At(place) => stretch(s, place, cluster_end(s, place)),
-        Place::Nowhere => &s[..0],
+        Some(place) => stretch(s, place, cluster_end(s, place)),
+        None => &s[..0],
     }
 }
 

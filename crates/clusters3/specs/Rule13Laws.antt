@@ -8,7 +8,7 @@
 --   third13_nowhere   ==  THE LAW: the reader finds rule 13 broken nowhere exactly where the rule is kept
 --   third13_at        ==  .. and at q exactly where q is the place of the first descriptor that breaks it
 --   third_shown       ==  what is shown of an entity is of the cluster on its output
-use Rattle.std.specs.Prelude.{ℕ, ◌≤◌, ◌<◌, ◌≡◌, Bool, ◌↔◌, length, get_or}
+use Rattle.std.specs.Prelude.{ℕ, ◌≤◌, ◌<◌, ◌≡◌, Bool, ◌↔◌, length, get_or, Some, None}
 use Rattle.std.proofs.Math.Path.{refl, ap}
 use Rattle.std.proofs.Common.{sym, ◌∙◌, inl, inr, ⊎_elim, arith, eqb-true, lt-ltb}
 use Rattle.std.proofs.Math.Bool.{true, false}
@@ -16,7 +16,6 @@ use mathlib.Core.List.Memᴰ
 use mathlib.Core.List.{List, [], ◌∷◌, ◌++◌, map, append_assoc}
 use Rattle.std.proofs.Math.Nat.{min-le_right}
 use Rattle.std.proofs.lemmas.Bool.{eqb-false}
-use Rattle.ground.specs.declared.Place.TheVariants.{Nowhere, At}
 use Rattle.ground.specs.Pick.{pick, yes, Reads}
 use Rattle.ground.specs.Lists.{split_of}
 use Rattle.ground.specs.First.{Sound, Breaks}
@@ -116,11 +115,11 @@ module _ {s b : List ℕ} {p : ℕ} {ds : List (List ℕ)} {run : Run} (k : Repr
         ∙ named_out (said_by (descriptor_of s (node_at run i))) (sources_at s run i)
         ∙ ap (λ (d : List ℕ). gives_out (pieces b) d (map (given_clusters b s run) (sources_at s run i))) (k.bytes i l))
 
-    pub third13_nowhere : (breach13 s b run (given_clusters b s run) ≡ Nowhere) ↔ Rule13 (third (pieces b)) ds
+    pub third13_nowhere : (breach13 s b run (given_clusters b s run) ≡ None) ↔ Rule13 (third (pieces b)) ds
     unfolding breach13
     third13_nowhere = unfit_nowhere k r10 r11 r12 (given_clusters b s run) given_by_id _ (reads_fits_third (given_clusters b s run))
 
-    pub third13_at : (q : ℕ) → (breach13 s b run (given_clusters b s run) ≡ At q) ↔ Breaks (λ x d. Broken (third (pieces b)) ds d) p ds q
+    pub third13_at : (q : ℕ) → (breach13 s b run (given_clusters b s run) ≡ Some q) ↔ Breaks (λ x d. Broken (third (pieces b)) ds d) p ds q
     unfolding breach13
     third13_at = unfit_at k r10 r11 r12 (given_clusters b s run) given_by_id _ (reads_fits_third (given_clusters b s run))
 

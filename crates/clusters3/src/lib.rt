@@ -35,10 +35,8 @@ pub fn by_index(clusters: &[u8], run: Run, given: [u16; 256]) -> [Cluster; 32]
         locations: 0,
         names: 0,
     }; 32];
-    let mut i: usize = 0;
-    while i < n {
-        shown[i] = shown_on(clusters, &given, run.nodes[i].id);
-        i += 1;
+    for (i, node) in run.nodes[..n].iter().enumerate() {
+        shown[i] = shown_on(clusters, &given, node.id);
     }
     shown
 }

@@ -3,9 +3,7 @@
 --   Entering cs r      ==  r is i, the channels entering in all, and small enough to reckon with
 --   keeps_by s b n cl   ==  whether the entity n keeps its rule where the clusters cl are given out on IDs
 --   breach13 s b run cl  ==  the place of the first entity that does not
-use Rattle.std.specs.Prelude.{ℕ, ◌≤◌, ◌≡◌, Bool, not, List, map, length, get_or}
-use Rattle.ground.specs.declared.Place.{Place}
-use Rattle.ground.specs.declared.Place.TheVariants.{Nowhere, At}
+use Rattle.std.specs.Prelude.{ℕ, ◌≤◌, ◌≡◌, Bool, not, List, map, length, get_or, Option, Some, None}
 use Rattle.ground.specs.Places.{first_in}
 use Rattle.layout3.specs.Layout.{entity_of}
 use Rattle.buffer.specs.Reading.{pieces, cluster_with}
@@ -25,5 +23,5 @@ pub record Entering (cs : List (List ℕ)) (r : ℕ) : Type 0 where
 unfoldable pub keeps_by : List ℕ → List ℕ → Node → (ℕ → List ℕ) → Bool
 keeps_by s b n cl = keeps (pieces b) (entity_of (descriptor_of s n)) (length (descriptor_of s n)) (map cl (sources_of s n))
 
-unfoldable pub breach13 : List ℕ → List ℕ → Run → (ℕ → List ℕ) → Place
-breach13 s b run cl = first_in (λ i. not (keeps_by s b (node_at run i) cl)) (λ i. At (place_at run i)) Nowhere 0 (held run)
+unfoldable pub breach13 : List ℕ → List ℕ → Run → (ℕ → List ℕ) → Option ℕ
+breach13 s b run cl = first_in (λ i. not (keeps_by s b (node_at run i) cl)) (λ i. Some (place_at run i)) None 0 (held run)

@@ -3,18 +3,17 @@
 // descriptor, any slice, becomes an enum case that carries its kind's own numbers, or Unknown where its layout is wrong; and what such a
 // case says: its kind on the sheet, its pins and sources, its clock, its cluster. The layouts are said in specs/Layouts.
 ghost use Rattle.std.specs.Prelude.{◌≡◌};
-ghost use Rattle.ground.specs.Pick.{within};
-ghost use Rattle.layout.specs.Layouts.{most_pins};
 ghost use Rattle.layout3.specs.Layout.{input_of, output_of, mixer_of, selector_of, feature_of, clock_of, entity_of};
 ghost use Rattle.layout3.specs.Facts.{shown, facts_of};
 
-use layout::MOST_PINS;
+use layout::right_pins;
 use scan::{byte_at, word_at};
 
 // What a descriptor of the run is: one of the six kinds, with that kind's own numbers.
 #[derive(Clone, Copy)]
 pub enum Entity {
     // None of the layouts: any other kind, or a wrong layout.
+    // Stays: a case, no Option around the kinds: entity_of and facts_of of specs/ have it among them.
     Unknown,
     Input { clock: u8, cluster: u16 },
     Output { source: u8, clock: u8 },
@@ -26,6 +25,7 @@ pub enum Entity {
 
 // What an entity's case says: the number of its kind on the sheet; the offset of its first source ID and how many there are; whether it may
 // be a source; whether it has a clock ID, and which; whether it names a cluster, and which.
+// Stays: a mark beside clock and beside cluster, no Option: facts_of, wrong_clock_by and unknown_by name the four fields.
 #[derive(Clone, Copy)]
 pub struct Facts {
     pub kind: u8,
@@ -38,6 +38,7 @@ pub struct Facts {
     pub cluster: u16,
 }
 
+#[tactic(auto, using(crate::specs::LayoutLaws::input_right, crate::specs::LayoutLaws::input_wrong))]
 fn read_input(d: &[u8]) -> Entity
     ensures { result ≡ input_of d.now }
 {
@@ -50,6 +51,7 @@ fn read_input(d: &[u8]) -> Entity
     }
 }
 
+#[tactic(auto, using(crate::specs::LayoutLaws::output_right, crate::specs::LayoutLaws::output_wrong))]
 fn read_output(d: &[u8]) -> Entity
     ensures { result ≡ output_of d.now }
 {
@@ -62,24 +64,12 @@ fn read_output(d: &[u8]) -> Entity
     }
 }
 
-// Whether a number of pins is 1 to 24.
-fn right_pins(pins: u8) -> bool
-    ensures { result ≡ within 1 pins most_pins }
-{
-    if pins < 1 {
-        return false;
-    }
-    pins <= MOST_PINS
-}
-
+#[tactic(auto, using(crate::specs::LayoutLaws::mixer_right, crate::specs::LayoutLaws::mixer_wrong))]
 fn read_mixer(d: &[u8]) -> Entity
     ensures { result ≡ mixer_of d.now }
 {
     let pins = byte_at(d, 4);
-    if !right_pins(pins) {
-        return Entity::Unknown;
-    }
-    if d.len() < 13 + pins as usize {
+    if !right_pins(pins) || d.len() < 13 + pins as usize {
         return Entity::Unknown;
     }
     Entity::Mixer {
@@ -88,19 +78,18 @@ fn read_mixer(d: &[u8]) -> Entity
     }
 }
 
+#[tactic(auto, using(crate::specs::LayoutLaws::selector_right, crate::specs::LayoutLaws::selector_wrong))]
 fn read_selector(d: &[u8]) -> Entity
     ensures { result ≡ selector_of d.now }
 {
     let pins = byte_at(d, 4);
-    if !right_pins(pins) {
-        return Entity::Unknown;
-    }
-    if d.len() != 11 + pins as usize {
+    if !right_pins(pins) || d.len() != 11 + pins as usize {
         return Entity::Unknown;
     }
     Entity::Selector { pins }
 }
 
+#[tactic(auto, using(crate::specs::LayoutLaws::feature_right, crate::specs::LayoutLaws::feature_wrong))]
 fn read_feature(d: &[u8]) -> Entity
     ensures { result ≡ feature_of d.now }
 {
@@ -112,6 +101,7 @@ fn read_feature(d: &[u8]) -> Entity
     }
 }
 
+#[tactic(auto, using(crate::specs::LayoutLaws::clock_right, crate::specs::LayoutLaws::clock_wrong))]
 fn read_clock(d: &[u8]) -> Entity
     ensures { result ≡ clock_of d.now }
 {
@@ -122,11 +112,11 @@ fn read_clock(d: &[u8]) -> Entity
 }
 
 // What the layout of a descriptor says it is; byte 2 is the subtype.
+#[tactic(auto, using(crate::proofs::KindLemmas::by_kind))]
 pub fn read(d: &[u8]) -> Entity
     ensures { result ≡ entity_of d.now }
 {
-    let subtype = byte_at(d, 2);
-    match subtype {
+    match byte_at(d, 2) {
         2 => read_input(d),
         3 => read_output(d),
         5 => read_mixer(d),
@@ -154,40 +144,28 @@ fn plain(kind: u8, first: u8, pins: u8, feeds: bool) -> Facts
 }
 
 // What an entity's case says.
+#[tactic(auto, unfolding(crate::specs::Facts::facts_of))]
 pub fn facts_of(entity: Entity) -> Facts
     ensures { result ≡ facts_of entity }
 {
     match entity {
         Entity::Unknown => plain(0, 0, 0, false),
         Entity::Input { clock, cluster } => Facts {
-            kind: 2,
-            first: 0,
-            pins: 0,
-            feeds: true,
             clocked: true,
             clock,
             declares: true,
             cluster,
+            ..plain(2, 0, 0, true)
         },
         Entity::Output { clock, .. } => Facts {
-            kind: 3,
-            first: 7,
-            pins: 1,
-            feeds: false,
             clocked: true,
             clock,
-            declares: false,
-            cluster: 0,
+            ..plain(3, 7, 1, false)
         },
         Entity::Mixer { pins, cluster } => Facts {
-            kind: 4,
-            first: 5,
-            pins,
-            feeds: true,
-            clocked: false,
-            clock: 0,
             declares: true,
             cluster,
+            ..plain(4, 5, pins, true)
         },
         Entity::Selector { pins } => plain(5, 5, pins, true),
         Entity::Feature { .. } => plain(6, 4, 1, true),

@@ -10,9 +10,7 @@
 --   is_nowhere r          ==  a search found no place
 --   unknown_by b f        ==  f names a cluster by an ID that no descriptor of the buffer b bears
 --   breach52 s b run     ==  the place of the first such entity
-use Rattle.std.specs.Prelude.{ℕ, ◌≡◌, Bool, true, false, not, ◌&&◌, List, eqb, ltb, get_or}
-use Rattle.ground.specs.declared.Place.{Place}
-use Rattle.ground.specs.declared.Place.TheVariants.{Nowhere, At}
+use Rattle.std.specs.Prelude.{ℕ, ◌≡◌, Bool, true, false, not, ◌&&◌, List, eqb, ltb, get_or, Option, Some, None}
 use Rattle.ground.specs.Pick.{pick}
 use Rattle.ground.specs.Places.{first_in, somewhere}
 use Rattle.layout3.specs.declared.Facts.{Facts}
@@ -39,23 +37,23 @@ pub record ClockMarks (run : Run) (marks : List Bool) : Type 0 where
 unfoldable pub wrong_clock_by : (ℕ → Bool) → Facts → Bool
 wrong_clock_by is_clock f = f.clocked && not (is_clock f.clock)
 
-unfoldable pub breach_clock : List ℕ → Run → Place
-breach_clock s run = first_in (λ i. wrong_clock_by (clock_below run (held run)) (said_at s run i)) (λ i. At (place_at run i)) Nowhere 0 (held run)
+unfoldable pub breach_clock : List ℕ → Run → Option ℕ
+breach_clock s run = first_in (λ i. wrong_clock_by (clock_below run (held run)) (said_at s run i)) (λ i. Some (place_at run i)) None 0 (held run)
 
-unfoldable pub lesser : Place → Place → Place
-lesser Nowhere b = b
-lesser (At p) Nowhere = At p
-lesser (At p) (At q) = pick (ltb q p) (At q) (At p)
+unfoldable pub lesser : Option ℕ → Option ℕ → Option ℕ
+lesser None b = b
+lesser (Some p) None = Some p
+lesser (Some p) (Some q) = pick (ltb q p) (Some q) (Some p)
 
-unfoldable pub breach11_third : List ℕ → Run → Place
+unfoldable pub breach11_third : List ℕ → Run → Option ℕ
 breach11_third s run = lesser (breach11 s run) (breach_clock s run)
 
-unfoldable pub is_nowhere : Place → Bool
-is_nowhere Nowhere = true
-is_nowhere (At p) = false
+unfoldable pub is_nowhere : Option ℕ → Bool
+is_nowhere None = true
+is_nowhere (Some p) = false
 
 unfoldable pub unknown_by : List ℕ → Facts → Bool
 unknown_by b f = f.declares && is_nowhere (found_cluster b f.cluster)
 
-unfoldable pub breach52 : List ℕ → List ℕ → Run → Place
-breach52 s b run = first_in (λ i. unknown_by b (said_at s run i)) (λ i. At (place_at run i)) Nowhere 0 (held run)
+unfoldable pub breach52 : List ℕ → List ℕ → Run → Option ℕ
+breach52 s b run = first_in (λ i. unknown_by b (said_at s run i)) (λ i. Some (place_at run i)) None 0 (held run)

@@ -11,12 +11,10 @@
 --   reads_unknown_cluster  ==  the test at an index decides that the entity names a cluster by an unknown ID
 --   rule52_nowhere, rule52_at  ==  breach52 is nowhere exactly where rule 52 is kept, and at q exactly where q is the place of the first
 --                        descriptor whose cluster ID is unknown
-use Rattle.std.specs.Prelude.{ℕ, ◌≤◌, ◌<◌, ◌≡◌, refl, Bool, true, false, not, ◌||◌, ◌⊎◌, ◌↔◌, List, [], ltb, length, get_or}
+use Rattle.std.specs.Prelude.{ℕ, ◌≤◌, ◌<◌, ◌≡◌, refl, Bool, true, false, not, ◌||◌, ◌⊎◌, ◌↔◌, List, [], ltb, length, get_or, Option, Some, None}
 use Rattle.std.proofs.Math.Path.{sym}
 use Rattle.std.proofs.Common.{ap, ◌∙◌, arith, lt-ltb, le-ltb}
 use Rattle.std.proofs.Math.Logic.{⊎_elim}
-use Rattle.ground.specs.declared.Place.{Place}
-use Rattle.ground.specs.declared.Place.TheVariants.{Nowhere, At}
 use Rattle.ground.specs.Pick.{pick, yes, no, Reads, reads_true, reads_eq, reads_lt, reads_and, reads_or, reads_not, reads_same, decided, true≠false}
 use Rattle.ground.specs.Lists.{any, member_at, member_index}
 use Rattle.ground.specs.First.{Breaks, first_nowhere, sound_each}
@@ -37,19 +35,19 @@ use Rattle.sources.specs.Rule11Laws.{reads_sources, rule11_nowhere}
 use Rattle.links3.specs.Links.{said_at, is_clock_at, clock_below, wrong_clock_by, breach_clock, lesser, breach11_third, is_nowhere, unknown_by, breach52}
 use Rattle.links3.specs.Rules.{ClocksNamed, WrongLinks, Rule11Third, rule11_third_parts}
 
-pub lesser_nowhere : (a b : Place) → (lesser a b ≡ Nowhere) ↔ ((a ≡ Nowhere) × (b ≡ Nowhere))
+pub lesser_nowhere : (a b : Option ℕ) → (lesser a b ≡ None) ↔ ((a ≡ None) × (b ≡ None))
 unfolding lesser
-lesser_nowhere Nowhere b = (λ e. (refl, e), λ h. h.1)
-lesser_nowhere (At p) Nowhere = (λ e. (e, refl), λ h. h.0)
-lesser_nowhere (At p) (At q) = (λ e. absurd (some (ltb q p) e), λ h. let z : ◌≡◌ {A = ℕ} 0 1 = let y = h.0 in cc in absurd (omega arith))
+lesser_nowhere None b = (λ e. (refl, e), λ h. h.1)
+lesser_nowhere (Some p) None = (λ e. (e, refl), λ h. h.0)
+lesser_nowhere (Some p) (Some q) = (λ e. absurd (some (ltb q p) e), λ h. let z : ◌≡◌ {A = ℕ} 0 1 = let y = h.0 in cc in absurd (omega arith))
   where
-    some : (c : Bool) → pick c (At q) (At p) ≡ Nowhere → ⊥
+    some : (c : Bool) → pick c (Some q) (Some p) ≡ None → ⊥
     some true e = let z : ◌≡◌ {A = ℕ} 0 1 = cc in omega arith
     some false e = let z : ◌≡◌ {A = ℕ} 0 1 = cc in omega arith
 
 module _ (n : ℕ) (place : ℕ → ℕ) (rise : (i j : ℕ) → i < j → j < n → place i < place j) (t u : ℕ → Bool) where
-  abbrev found : ℕ → Place
-  found i = At (place i)
+  abbrev found : ℕ → Option ℕ
+  found i = Some (place i)
 
   abbrev either : ℕ → Bool
   either i = t i || u i
@@ -67,27 +65,27 @@ module _ (n : ℕ) (place : ℕ → ℕ) (rise : (i j : ℕ) → i < j → j < n
   neither : (i : ℕ) → t i ≡ false → u i ≡ false → either i ≡ false
   neither i e f = ap (λ (b : Bool). b || u i) e ∙ f
 
-  here : (i : ℕ) → FirstAt either n i → At (place i) ≡ first_in either found Nowhere 0 n
-  here i f = sym (first_some either found Nowhere n i f)
+  here : (i : ℕ) → FirstAt either n i → Some (place i) ≡ first_in either found None 0 n
+  here i f = sym (first_some either found None n i f)
 
-  pub lesser_first : lesser (first_in t found Nowhere 0 n) (first_in u found Nowhere 0 n) ≡ first_in either found Nowhere 0 n
+  pub lesser_first : lesser (first_in t found None 0 n) (first_in u found None 0 n) ≡ first_in either found None 0 n
   unfolding lesser
-  lesser_first = go (finding t found Nowhere n) (finding u found Nowhere n)
+  lesser_first = go (finding t found None n) (finding u found None n)
     where
-      go : {a b : Place} → Finding t found Nowhere n a → Finding u found Nowhere n b → lesser a b ≡ first_in either found Nowhere 0 n
-      go (nothing h) (nothing k) = sym (first_none either found Nowhere n (λ i l. neither i (h i l) (k i l)))
+      go : {a b : Option ℕ} → Finding t found None n a → Finding u found None n b → lesser a b ≡ first_in either found None 0 n
+      go (nothing h) (nothing k) = sym (first_none either found None n (λ i l. neither i (h i l) (k i l)))
       go (nothing h) (first {i = j} g) =
           here j (record { inside = g.inside; passes = right j g.passes; none_before = λ i l. let m = g.inside in neither i (h i (omega arith)) (g.none_before i l) })
       go (first {i} f) (nothing k) =
           here i (record { inside = f.inside; passes = left i f.passes; none_before = λ j l. let m = f.inside in neither j (f.none_before j l) (k j (omega arith)) })
       go (first {i} f) (first {i = j} g) = ⊎_elim second one (decided (ltb j i) (reads_lt j i))
         where
-          second : j < i → pick (ltb (place j) (place i)) (At (place j)) (At (place i)) ≡ first_in either found Nowhere 0 n
+          second : j < i → pick (ltb (place j) (place i)) (Some (place j)) (Some (place i)) ≡ first_in either found None 0 n
           second l =
               yes _ _ (lt-ltb (place j) (place i) (rise j i l f.inside))
               ∙ here j (record { inside = g.inside; passes = right j g.passes; none_before = λ m h. neither m (f.none_before m (omega arith)) (g.none_before m h) })
 
-          one : (j < i → ⊥) → pick (ltb (place j) (place i)) (At (place j)) (At (place i)) ≡ first_in either found Nowhere 0 n
+          one : (j < i → ⊥) → pick (ltb (place j) (place i)) (Some (place j)) (Some (place i)) ≡ first_in either found None 0 n
           one l =
               no _ _ (le-ltb (place j) (place i) low)
               ∙ here i (record { inside = f.inside; passes = left i f.passes; none_before = λ m h. neither m (f.none_before m h) (g.none_before m (omega arith)) })
@@ -99,10 +97,10 @@ module _ (n : ℕ) (place : ℕ → ℕ) (rise : (i j : ℕ) → i < j → j < n
                   (λ (m : i < j → ⊥). let e : i ≡ j = omega arith in rw e (omega arith))
                   (decided (ltb i j) (reads_lt i j))
 
-reads_nowhere : (r : Place) → Reads (is_nowhere r) (r ≡ Nowhere)
+reads_nowhere : (r : Option ℕ) → Reads (is_nowhere r) (r ≡ None)
 unfolding is_nowhere
-reads_nowhere Nowhere = record { says = λ e. refl; denies = λ e. absurd (true≠false e) }
-reads_nowhere (At p) = record { says = λ e. absurd (true≠false (sym e)); denies = λ e h. let z : ◌≡◌ {A = ℕ} 0 1 = cc in omega arith }
+reads_nowhere None = record { says = λ e. refl; denies = λ e. absurd (true≠false e) }
+reads_nowhere (Some p) = record { says = λ e. absurd (true≠false (sym e)); denies = λ e h. let z : ◌≡◌ {A = ℕ} 0 1 = cc in omega arith }
 
 pub reads_cluster_of : (b : List ℕ) (x : ℕ) → Reads (is_nowhere (found_cluster b x)) ((c : List ℕ) → c ∈ pieces b → cluster_id c ≡ x → ⊥)
 unfolding found_cluster
@@ -150,7 +148,7 @@ module _ (ks : List (List ℕ)) {s : List ℕ} {p : ℕ} {ds : List (List ℕ)} 
   unfolding wrong_clock_by
   reads_wrong_clock i l = rw (k.bytes i (inside k l)) (reads_and _ _ (reads_true _) (reads_clock_of (said_by (get_or ds i [])).clock))
 
-  pub clocks_nowhere : (breach_clock s run ≡ Nowhere) ↔ ClocksNamed ds
+  pub clocks_nowhere : (breach_clock s run ≡ None) ↔ ClocksNamed ds
   unfolding breach_clock
   clocks_nowhere =
       let b = breach_nowhere (held run) (place_at run) (λ i. WrongClock ds (get_or ds i [])) (wrong_clock s run) reads_wrong_clock in
@@ -158,7 +156,7 @@ module _ (ks : List (List ℕ)) {s : List ℕ} {p : ℕ} {ds : List (List ℕ)} 
       (λ e. c.0 (b.0 e), λ r. b.1 (c.1 r))
 
   module _ (kept : Rule10 ds) where
-    pub rule11_third_nowhere : (breach11_third s run ≡ Nowhere) ↔ Rule11Third ks ds
+    pub rule11_third_nowhere : (breach11_third s run ≡ None) ↔ Rule11Third ks ds
     unfolding breach11_third
     rule11_third_nowhere =
         let a = lesser_nowhere (breach11 s run) (breach_clock s run) in
@@ -170,11 +168,11 @@ module _ (ks : List (List ℕ)) {s : List ℕ} {p : ℕ} {ds : List (List ℕ)} 
     wrong_at i l = reads_or _ _ (reads_sources k kept i l) (reads_wrong_clock i l)
 
     module _ (some : (d : List ℕ) → d ∈ ds → 0 < length d) where
-      first_either : breach11_third s run ≡ first_in (wrong_links s run) (λ i. At (place_at run i)) Nowhere 0 (held run)
+      first_either : breach11_third s run ≡ first_in (wrong_links s run) (λ i. Some (place_at run i)) None 0 (held run)
       unfolding breach11_third breach11 breach_clock
       first_either = lesser_first (held run) (place_at run) (places_rise k some) (λ i. any (wrong_source run) (sources_at s run i)) (wrong_clock s run)
 
-      pub rule11_third_at : (q : ℕ) → (breach11_third s run ≡ At q) ↔ Breaks (λ b d. WrongLinks ks ds d) p ds q
+      pub rule11_third_at : (q : ℕ) → (breach11_third s run ≡ Some q) ↔ Breaks (λ b d. WrongLinks ks ds d) p ds q
       rule11_third_at q =
           let b = breach_at (held run) (place_at run) (λ i. WrongLinks ks ds (get_or ds i [])) (wrong_links s run) wrong_at q in
           let c = breaks_each_of k (WrongLinks ks ds) q in
@@ -185,14 +183,14 @@ module _ (ks : List (List ℕ)) {s : List ℕ} {p : ℕ} {ds : List (List ℕ)} 
     unfolding unknown_by
     reads_unknown_cluster i l = rw (k.bytes i (inside k l), ← e) (reads_and _ _ (reads_true _) (reads_cluster_of b (said_by (get_or ds i [])).cluster))
 
-    pub rule52_nowhere : (breach52 s b run ≡ Nowhere) ↔ Rule52 ks ds
+    pub rule52_nowhere : (breach52 s b run ≡ None) ↔ Rule52 ks ds
     unfolding breach52
     rule52_nowhere =
         let a = breach_nowhere (held run) (place_at run) (λ i. UnknownCluster ks (get_or ds i [])) (unknown_at s run b) reads_unknown_cluster in
         let c = sound_each_of k (UnknownCluster ks) in
         (λ h. c.0 (a.0 h), λ r. a.1 (c.1 r))
 
-    pub rule52_at : (q : ℕ) → (breach52 s b run ≡ At q) ↔ Breaks (λ o d. UnknownCluster ks d) p ds q
+    pub rule52_at : (q : ℕ) → (breach52 s b run ≡ Some q) ↔ Breaks (λ o d. UnknownCluster ks d) p ds q
     unfolding breach52
     rule52_at q =
         let a = breach_at (held run) (place_at run) (λ i. UnknownCluster ks (get_or ds i [])) (unknown_at s run b) reads_unknown_cluster q in

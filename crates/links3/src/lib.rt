@@ -8,7 +8,7 @@ ghost use Rattle.edition3.specs.Third.{said_by};
 ghost use Rattle.links3.specs.Links.{ClockMarks, wrong_clock_by, breach_clock, lesser, breach11_third, unknown_by, breach52};
 
 use entities::{Node, Run};
-use ground::{Place, index_of};
+use ground::index_of;
 
 // The kind of a Clock Source on the sheet.
 const CLOCK_SOURCE: u8 = 0x0B;
@@ -19,13 +19,10 @@ fn clocks(run: Run) -> [bool; 256]
 {
     let n = entities::count(run);
     let mut marks = [false; 256];
-    let mut i: usize = 0;
-    while i < n {
-        let node = run.nodes[i];
+    for node in &run.nodes[..n] {
         if node.kind == CLOCK_SOURCE {
             marks[index_of(node.id)] = true;
         }
-        i += 1;
     }
     marks
 }
@@ -42,40 +39,33 @@ fn wrong_clock(config: &[u8], node: Node, marks: &[bool; 256]) -> bool
 }
 
 // The first Terminal whose clock ID is no Clock Source's.
-fn check_clocks(config: &[u8], run: Run) -> Place
+fn check_clocks(config: &[u8], run: Run) -> Option<usize>
     ensures { result ≡ breach_clock config.now run }
 {
     let n = entities::count(run);
     let marks = clocks(run);
-    let mut i: usize = 0;
-    while i < n {
-        let node = run.nodes[i];
-        if wrong_clock(config, node, &marks) {
-            return Place::At(node.place);
+    for node in &run.nodes[..n] {
+        if wrong_clock(config, *node, &marks) {
+            return Some(node.place);
         }
-        i += 1;
     }
-    Place::Nowhere
+    None
 }
 
 // The lesser of two places, of which either may be nowhere.
-fn lesser_place(a: Place, b: Place) -> Place
+#[tactic(auto, unfolding(crate::specs::Links::lesser))]
+fn lesser_place(a: Option<usize>, b: Option<usize>) -> Option<usize>
     ensures { result ≡ lesser a b }
 {
-    let Place::At(p) = a else {
-        return b;
-    };
-    let Place::At(q) = b else {
-        return Place::At(p);
-    };
-    if q < p {
-        return Place::At(q);
+    match (a, b) {
+        (None, _) => b,
+        (Some(_), None) => a,
+        (Some(p), Some(q)) => Some(p.min(q)),
     }
-    Place::At(p)
 }
 
 // The first entity that breaks rule 11: by a source, as in every edition, or by its clock.
-pub fn check_sources(config: &[u8], run: Run) -> Place
+pub fn check_sources(config: &[u8], run: Run) -> Option<usize>
     ensures { result ≡ breach11_third config.now run }
 {
     let by_source = sources::check_sources(config, run);
@@ -93,23 +83,20 @@ fn is_unknown(config: &[u8], clusters: &[u8], node: Node) -> bool
     }
     let found = buffer::find(clusters, said.cluster);
     match found {
-        Place::At(_) => false,
-        Place::Nowhere => true,
+        Some(_) => false,
+        None => true,
     }
 }
 
 // The first entity whose cluster ID is unknown: refusal 52.
-pub fn check_names(config: &[u8], clusters: &[u8], run: Run) -> Place
+pub fn check_names(config: &[u8], clusters: &[u8], run: Run) -> Option<usize>
     ensures { result ≡ breach52 config.now clusters.now run }
 {
     let n = entities::count(run);
-    let mut i: usize = 0;
-    while i < n {
-        let node = run.nodes[i];
-        if is_unknown(config, clusters, node) {
-            return Place::At(node.place);
+    for node in &run.nodes[..n] {
+        if is_unknown(config, clusters, *node) {
+            return Some(node.place);
         }
-        i += 1;
     }
-    Place::Nowhere
+    None
 }

@@ -5,8 +5,7 @@
 --   sheet_reading a      ==  the 3.0 edition's answer a in the form of the 1.0 reader's: interface number, count of controls and table are those of a refusal
 --   either_reading s b room  ==  the answer by the edition that the protocol byte names
 --   either_sheet s b d   ==  what the lent bytes d hold afterwards
-use Rattle.std.specs.Prelude.{ℕ, List, eqb}
-use Rattle.ground.specs.declared.Place.TheVariants.{Nowhere, At}
+use Rattle.std.specs.Prelude.{ℕ, List, eqb, Some, None}
 use Rattle.ground.specs.Pick.{pick}
 use Rattle.ground.specs.Numbers.{byte}
 use Rattle.ground.specs.Lists.{part}
@@ -23,7 +22,7 @@ abbrev pub version3 : ℕ
 version3 = 0x30
 
 unfoldable pub protocol_of : List ℕ → ℕ
-protocol_of s = elim (found_from s 0 (want.Audio 1)) [ Nowhere ↦ 0 | At p ↦ byte (part s p (end_at s p)) 7 ]
+protocol_of s = elim (found_from s 0 (want.Audio 1)) [ None ↦ 0 | Some p ↦ byte (part s p (end_at s p)) 7 ]
 
 unfoldable pub sheet_reading : SheetAnswer → Reading
 sheet_reading a = record { number = a.number; place = a.place; control = 0; entities = a.entities; controls = 0; table = empty_table }

@@ -5,7 +5,6 @@
 ghost use Rattle.std.specs.Prelude.{◌≡◌, length};
 ghost use Rattle.protocol.specs.Protocol.{protocol_of, sheet_reading, either_reading, either_sheet};
 
-use ground::Place;
 use scan::byte_at;
 use search::Want;
 use third::SheetAnswer;
@@ -20,8 +19,8 @@ fn protocol_of(config: &[u8]) -> u8
 {
     let control = search::find(config, 0, Want::Audio(1));
     match control {
-        Place::At(place) => byte_at(scan::descriptor_at(config, place), 7),
-        Place::Nowhere => 0,
+        Some(place) => byte_at(scan::descriptor_at(config, place), 7),
+        None => 0,
     }
 }
 

@@ -14,8 +14,7 @@ use borrow.Author.Tests.{eq-eqb, ne_eqb, eqb-true, eqb-false}
 use Rattle.ground.specs.declared.Refusal.{Refusal}
 use Rattle.ground.specs.Pick.{yes, no}
 use Rattle.ground.specs.Numbers.{byte}
-use Rattle.ground.specs.declared.Place.{Place}
-use Rattle.ground.specs.declared.Place.TheVariants.{Nowhere, At}
+use Rattle.std.specs.Prelude.{Option, Some, None}
 use Rattle.ground.specs.Lists.{total, part, reads_any, flatten_append, length_flatten, of_split}
 use Rattle.ground.specs.Refuse.{none, place_or}
 use Rattle.ground.specs.Rows.{end, answers_kept}
@@ -109,12 +108,12 @@ module _ (s : List ℕ) (o : Opened s) where
   unfolding frame_of frame_from place_or wants protocol_of
   protocol_told = go (found_from s 0 (want.Audio 1)) refl (frame_told s o).control_at
     where
-      go : (r : Place) → found_from s 0 (want.Audio 1) ≡ r → place_or (found_from s 0 (want.Audio 1)) (length s) ≡ total o.before → protocol_of s ≡ byte o.control 7
-      go Nowhere e c =
+      go : (r : Option ℕ) → found_from s 0 (want.Audio 1) ≡ r → place_or (found_from s 0 (want.Audio 1)) (length s) ≡ total o.before → protocol_of s ≡ byte o.control 7
+      go None e c =
           absurd ((reads_any (is_audio 1) (Audio 1) (reads_audio 1) (rest s 0)).denies (found_none (want.Audio 1) s 0 e) (rw (cut_told s o) o.rule4.control))
-      go (At q) e c =
-          let z : q ≡ total o.before = sym (ap (λ (r : Place). place_or r (length s)) e) ∙ c in
-          ap (λ (r : Place). elim r [ Nowhere ↦ 0 | At p ↦ byte (part s p (end_at s p)) 7 ]) e
+      go (Some q) e c =
+          let z : q ≡ total o.before = sym (ap (λ (r : Option ℕ). place_or r (length s)) e) ∙ c in
+          ap (λ (r : Option ℕ). elim r [ None ↦ 0 | Some p ↦ byte (part s p (end_at s p)) 7 ]) e
           ∙ ap (λ (p : ℕ). byte (part s p (end_at s p)) 7) z
           ∙ ap (λ (d : List ℕ). byte d 7) control_is
 

@@ -17,7 +17,7 @@ use lib.Dec.{eqb}
 use native.Mathlib.Omega.{arith}
 use Rattle.ground.specs.Pick.{decided, reads_eq, reads_and, true≠false}
 use Rattle.ground.specs.Numbers.{byte}
-use Rattle.ground.specs.Lists.{Some, reads_any}
+use Rattle.ground.specs.Lists.{SomeOf, reads_any}
 use Rattle.graph.specs.Members.{◌∈◌}
 use Rattle.layout.specs.FormatLaws.{one_at}
 use Rattle.layout3.specs.declared.Entity.{Entity}
@@ -189,7 +189,7 @@ feeds_not d o = of (told d)
 
 -- rule 11, of one source ID
 module _ (ks ds : List (List ℕ)) (laid : (e : List ℕ) → e ∈ ds → LaidOut e) (x : ℕ) where
-  pub named_plainly : Some (λ e. own_id e ≡ x) ds → (WrongSource (third ks) ds x → ⊥) → SourceNamed ds x
+  pub named_plainly : SomeOf (λ e. own_id e ≡ x) ds → (WrongSource (third ks) ds x → ⊥) → SourceNamed ds x
   named_plainly b n = (
     λ z. n (zero_source z),
     record { one = b.one; among = b.among; has = (b.has, λ k. fed (inl k), λ k. fed (inr k)) },
@@ -244,7 +244,7 @@ module _ (ds : List (List ℕ)) (laid : (e : List ℕ) → e ∈ ds → LaidOut 
 
 -- rule 11, of one descriptor of such a run
 module _ (ks ds : List (List ℕ)) (laid : (e : List ℕ) → e ∈ ds → LaidOut e) where
-  bears : (x : ℕ) → (WrongSource (third ks) ds x → ⊥) → Some (λ e. own_id e ≡ x) ds
+  bears : (x : ℕ) → (WrongSource (third ks) ds x → ⊥) → SomeOf (λ e. own_id e ≡ x) ds
   bears x n =
       ⊎_elim (λ h. h) (λ none. absurd (n (source.unknown (λ e m q. none (record { one = e; among = m; has = q })))))
       (decided _ (reads_any (λ e. eqb (own_id e) x) (λ e. own_id e ≡ x) (λ e. reads_eq (own_id e) x) ds))

@@ -8,7 +8,7 @@ use mathlib.Core.List.{List, []}
 use mathlib.Core.Logic.{◌↔◌, ⊎_elim}
 use lib.ListN.{length, take}
 use native.Mathlib.Omega.{arith}
-use Rattle.ground.specs.declared.Place.TheVariants.{Nowhere}
+use Rattle.std.specs.Prelude.{None}
 use Rattle.ground.specs.declared.Refusal.{Refusal}
 use Rattle.ground.specs.Pick.{within, reads_within}
 use Rattle.ground.specs.First.{Sound, Breaks, first_from, first_nowhere, first_at, sound_each}
@@ -109,7 +109,7 @@ module _ (s b : List ℕ) (o : Opened s) where
           (Breaks (λ x d. LaidOut d → ⊥) (header_place o + length h.header) t.run)
       decides_9 ks = rw (run_first s o h t (λ d. is_unknown (entity_of d))) (record { kept = (λ e d m. laid d (each.0 (first.0 e) d m), λ k. first.1 (each.1 (λ d m n. n (k d m)))); broken = first_at unlaid (λ x d. LaidOut d → ⊥) (λ x d. reads_unknown d) (header_place o + length h.header) t.run })
         where
-          first : (first_from unlaid (header_place o + length h.header) [] t.run ≡ Nowhere) ↔ Sound (λ x d. LaidOut d → ⊥) t.run
+          first : (first_from unlaid (header_place o + length h.header) [] t.run ≡ None) ↔ Sound (λ x d. LaidOut d → ⊥) t.run
           first = first_nowhere unlaid (λ x d. LaidOut d → ⊥) (λ x d. reads_unknown d) (header_place o + length h.header) t.run
 
           each : Sound (λ x d. LaidOut d → ⊥) t.run ↔ ((d : List ℕ) → d ∈ t.run → (LaidOut d → ⊥) → ⊥)

@@ -17,7 +17,7 @@
 --   BrokenPlainly ks ds d ==  .. as they are given out, d does not keep its rule
 use Rattle.std.specs.Prelude.{ℕ, ◌+◌, ◌≤◌, ◌≡◌, List, [], map, ◌⊎◌, length}
 use Rattle.ground.specs.Numbers.{byte, word}
-use Rattle.ground.specs.Lists.{Some}
+use Rattle.ground.specs.Lists.{SomeOf}
 use Rattle.graph.specs.Members.{◌∈◌}
 use Rattle.layout.specs.Layouts.{Pins}
 use Rattle.buffer.specs.Clusters.{cluster_id, channels_of, SameContent}
@@ -40,10 +40,10 @@ pub record EachSource (P : ℕ → Type 0) (d : List ℕ) : Type 0 where
   pub feature : byte d 2 ≡ 7 → P (byte d 4)
 
 abbrev pub SourceNamed : List (List ℕ) → ℕ → Type 0
-SourceNamed ds x = (x ≡ 0 → ⊥) × Some (λ e. (own_id e ≡ x) × (byte e 2 ≡ 3 → ⊥) × (byte e 2 ≡ 0x0B → ⊥)) ds
+SourceNamed ds x = (x ≡ 0 → ⊥) × SomeOf (λ e. (own_id e ≡ x) × (byte e 2 ≡ 3 → ⊥) × (byte e 2 ≡ 0x0B → ⊥)) ds
 
 abbrev pub ClockNamed : List (List ℕ) → ℕ → Type 0
-ClockNamed ds x = Some (λ e. (own_id e ≡ x) × (byte e 2 ≡ 0x0B)) ds
+ClockNamed ds x = SomeOf (λ e. (own_id e ≡ x) × (byte e 2 ≡ 0x0B)) ds
 
 pub record ClockedPlainly (ds : List (List ℕ)) (d : List ℕ) : Type 0 where
   pub input : byte d 2 ≡ 2 → ClockNamed ds (byte d 7)

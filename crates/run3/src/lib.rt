@@ -11,9 +11,8 @@ ghost use Rattle.edition3.specs.Third.{said_by, third};
 ghost use Rattle.entities.specs.Run.{node_of, run_in};
 
 use entities::{MOST_ENTITIES, Node, Run};
-use ground::Place;
-use layout3::Facts;
-use scan::{byte_at, end_of};
+use layout3::{Entity, Facts};
+use scan::{byte_at, descriptors_from};
 
 // What the layout of the descriptor at a place says.
 pub fn facts_at(config: &[u8], at: usize) -> Facts
@@ -45,41 +44,28 @@ pub fn read_run(s: &[u8], from: usize) -> Run
     let spare = entities::blank();
     let mut nodes = [spare; 32];
     let mut count: usize = 0;
-    let mut at = from;
-    loop {
-        let e = end_of(s, at);
-        if e == at {
-            return Run { count, nodes };
-        }
+    for (at, d) in descriptors_from(s, from) {
         if count < MOST_ENTITIES {
-            nodes[count] = node_of(&s[at..e], at);
+            nodes[count] = node_of(d, at);
         }
         count += 1;
-        at = e;
     }
+    Run { count, nodes }
 }
 
 // Whether a descriptor has none of the layouts.
+#[tactic(auto, unfolding(layout3::specs::Layout::is_unknown))]
 fn is_wrong(d: &[u8]) -> bool
     ensures { result ≡ is_unknown (entity_of d.now) }
 {
-    let said = layout3::facts_of(layout3::read(d));
-    said.kind == 0
+    matches!(layout3::read(d), Entity::Unknown)
 }
 
 // The first descriptor from a place on that has none of the layouts.
-pub fn wrong_layout(s: &[u8], from: usize) -> Place
+pub fn wrong_layout(s: &[u8], from: usize) -> Option<usize>
     ensures { result ≡ searched (λ b d. is_unknown (entity_of d)) s.now from }
 {
-    let mut at = from;
-    loop {
-        let e = end_of(s, at);
-        if e == at {
-            return Place::Nowhere;
-        }
-        if is_wrong(&s[at..e]) {
-            return Place::At(at);
-        }
-        at = e;
-    }
+    scan::descriptors_from(s, from)
+        .find(|(_, d)| is_wrong(d))
+        .map(|(at, _)| at)
 }

@@ -16,10 +16,10 @@ fn give_out(config: &[u8], node: Node, given: &[u16; 256]) -> u16
         return said.cluster;
     }
     let ids = entities::sources(config, node);
-    if ids.len() == 0 {
+    let Some(&id) = ids.first() else {
         return 0;
-    }
-    given[index_of(ids[0])]
+    };
+    given[index_of(id)]
 }
 
 // What each ID gives out, along the run: each entity finds what its sources gave out before it.
@@ -28,12 +28,8 @@ pub fn sweep(config: &[u8], run: Run) -> [u16; 256]
 {
     let n = entities::count(run);
     let mut given = [0u16; 256];
-    let mut i: usize = 0;
-    while i < n {
-        let node = run.nodes[i];
-        let gives = give_out(config, node, &given);
-        given[index_of(node.id)] = gives;
-        i += 1;
+    for node in &run.nodes[..n] {
+        given[index_of(node.id)] = give_out(config, *node, &given);
     }
     given
 }

@@ -9,28 +9,28 @@
 --   third_then s b r      ==  the first of all but 16 that applies to the configuration s with the cluster buffer b; r where none does
 --   room_refused s room r  ==  the refusal 16, for a sheet of room bytes; r where it does not apply
 --   third_verdict s b room  ==  the refusal with a sheet of room bytes lent; 0 and 0 for none
---   nothing_found r       ==  what is found where r is refused: nothing
 --   clusters_shown s b run  ==  what the sheet shows of the cluster of each entity, by index
 --   all_found s b h run   ==  what is found where nothing is refused
---   found_then r ok       ==  what is found where r is judged: ok where r refuses nothing
---   clustered_in s b h run, linked_in s b h run, framed_in s b f  ==  what is found behind the rules 1 to 12, behind 1 to 9, behind 1 to 6
---   third_finding s b     ==  what is found by all rules but 16
+--   clustered_in s b h run, linked_in s b h run, framed_in s b f  ==  what is found behind the rules 1 to 12, behind 1 to 9, behind 1 to 6, or
+--                           the refusal
+--   found_in s b          ==  all that is found of the configuration s with the cluster buffer b
+--   third_finding s b     ==  what is found by all rules but 16, or the refusal
 --   sheet_refused r, sheet_taken s  ==  the answer where r is refused; where nothing is: how many entities there are
 --   third_answer s b room ==  the answer
 --   third_sheet s b d     ==  what the lent bytes d hold afterwards
-use Rattle.std.specs.Prelude.{ℕ, Bool, List, [], eqb, length, take, replicate}
+use Rattle.std.specs.Prelude.{ℕ, Bool, List, [], eqb, length, take, Result}
 use Rattle.ground.specs.declared.Refusal.{Refusal}
 use Rattle.ground.specs.Pick.{pick, within}
 use Rattle.ground.specs.Refuse.{none, refuse, kept_at}
+use Rattle.ground.specs.Told.{told}
 use Rattle.scan.specs.Cutting.{rest}
 use Rattle.scan.specs.Search.{searched}
 use Rattle.layout.specs.declared.Cluster.{Cluster}
-use Rattle.layout.specs.Layout.{no_cluster}
 use Rattle.layout3.specs.Layout.{entity_of, is_unknown}
 use Rattle.buffer.specs.Reading.{breach51}
 use Rattle.edition3.specs.Third.{third}
 use Rattle.entities.specs.declared.Run.{Run}
-use Rattle.entities.specs.Run.{most_entities, blank_node, run_in}
+use Rattle.entities.specs.Run.{most_entities, run_in}
 use Rattle.ids.specs.Breach.{breach10}
 use Rattle.ranks.specs.Order.{ordered}
 use Rattle.ranks.specs.Breach.{breach12}
@@ -77,34 +77,26 @@ room_refused s room r = refuse 16 (kept_at (room_for (run_for s (frame_of s)) ro
 unfoldable pub third_verdict : List ℕ → List ℕ → ℕ → Refusal
 third_verdict s b room = third_then s b (room_refused s room none)
 
-unfoldable pub nothing_found : Refusal → Finding
-nothing_found r = record {
-  refusal = r;
-  header = 0;
-  run = record { count = 0; nodes = replicate most_entities blank_node };
-  clusters = replicate most_entities no_cluster;
-}
-
 abbrev pub clusters_shown : List ℕ → List ℕ → Run → List Cluster
 clusters_shown s b run = clusters_by b run (given_ids s (ordered s run))
 
 abbrev pub all_found : List ℕ → List ℕ → ℕ → Run → Finding
-all_found s b header run = record { refusal = none; header = header; run = run; clusters = clusters_shown s b run }
+all_found s b header run = record { header = header; run = run; clusters = clusters_shown s b run }
 
-unfoldable pub found_then : Refusal → Finding → Finding
-found_then r ok = pick (eqb r.number 0) ok (nothing_found r)
+unfoldable pub clustered_in : List ℕ → List ℕ → ℕ → Run → Result Finding Refusal
+clustered_in s b header run = told (clusters_judged s b run none) (all_found s b header run)
 
-unfoldable pub clustered_in : List ℕ → List ℕ → ℕ → Run → Finding
-clustered_in s b header run = found_then (clusters_judged s b run none) (all_found s b header run)
+unfoldable pub linked_in : List ℕ → List ℕ → ℕ → Run → Result Finding Refusal
+linked_in s b header run = told (links_judged s b run none) (all_found s b header run)
 
-unfoldable pub linked_in : List ℕ → List ℕ → ℕ → Run → Finding
-linked_in s b header run = found_then (links_judged s b run none) (all_found s b header run)
+unfoldable pub framed_in : List ℕ → List ℕ → Frame → Result Finding Refusal
+framed_in s b f = told (frame_judged s b f none) (all_found s b f.header (run_for s f))
 
-unfoldable pub framed_in : List ℕ → List ℕ → Frame → Finding
-framed_in s b f = found_then (frame_judged s b f none) (all_found s b f.header (run_for s f))
+abbrev pub found_in : List ℕ → List ℕ → Finding
+found_in s b = all_found s b (frame_of s).header (run_for s (frame_of s))
 
-unfoldable pub third_finding : List ℕ → List ℕ → Finding
-third_finding s b = found_then (third_then s b none) (all_found s b (frame_of s).header (run_for s (frame_of s)))
+unfoldable pub third_finding : List ℕ → List ℕ → Result Finding Refusal
+third_finding s b = told (third_then s b none) (found_in s b)
 
 unfoldable pub sheet_refused : Refusal → SheetAnswer
 sheet_refused r = record { number = r.number; place = r.place; entities = 0 }

@@ -7,8 +7,7 @@ use mathlib.Core.List.{List, ◌++◌, append-nil}
 use lib.ListN.{length}
 use lib.Dec.{eqb}
 use borrow.Author.Tests.{eq-eqb, ne_eqb}
-use Rattle.ground.specs.declared.Place.{Place}
-use Rattle.ground.specs.declared.Place.TheVariants.{Nowhere, At}
+use Rattle.std.specs.Prelude.{Option, Some, None}
 use Rattle.ground.specs.Pick.{yes, no}
 use Rattle.ground.specs.Lists.{part, total}
 use Rattle.ground.specs.First.{is_before}
@@ -45,15 +44,15 @@ module _ (s : List ℕ) (at e : ℕ) (g : Come s at) (f : e ≡ end_by two_bytes
 
     none_wrong : breach51 s ≡ breach_by two_bytes s
     unfolding breach51 found_or
-    none_wrong = ap (λ (r : Place). found_or r (breach_by two_bytes s)) (sym (stop_by is_wrong_cluster s 0 at e g f h))
+    none_wrong = ap (λ (r : Option ℕ). found_or r (breach_by two_bytes s)) (sym (stop_by is_wrong_cluster s 0 at e g f h))
 
-    tiled : at ≡ length s → Nowhere ≡ breach51 s
+    tiled : at ≡ length s → None ≡ breach51 s
     unfolding breach_by
     tiled q = sym (none_wrong ∙ yes _ _ (eq-eqb _ _ (reached ∙ q)))
 
-    untiled : (at ≡ length s → ⊥) → At at ≡ breach51 s
+    untiled : (at ≡ length s → ⊥) → Some at ≡ breach51 s
     unfolding breach_by
-    untiled n = sym (none_wrong ∙ no _ _ (ne_eqb _ _ (λ q. n (sym reached ∙ q))) ∙ ap At reached)
+    untiled n = sym (none_wrong ∙ no _ _ (ne_eqb _ _ (λ q. n (sym reached ∙ q))) ∙ ap Some reached)
 
   module _ (h : e ≡ at → ⊥) (r : Bool)
       (t : r ≡ (eqb (cluster_id (part s at e)) 0 || is_before (found_cluster s (cluster_id (part s at e))) at)) where
@@ -61,9 +60,9 @@ module _ (s : List ℕ) (at e : ℕ) (g : Come s at) (f : e ≡ end_by two_bytes
     unfolding is_wrong_cluster
     test = t ∙ ap (λ (b : Bool). eqb (cluster_id (part s at e)) 0 || b) (wrong_before s at g (cluster_id (part s at e)))
 
-    here : r ≡ true → At at ≡ breach51 s
+    here : r ≡ true → Some at ≡ breach51 s
     unfolding breach51 found_or
-    here y = ap (λ (x : Place). found_or x (breach_by two_bytes s)) (hit_by is_wrong_cluster s 0 at e g f h (sym test ∙ y))
+    here y = ap (λ (x : Option ℕ). found_or x (breach_by two_bytes s)) (hit_by is_wrong_cluster s 0 at e g f h (sym test ∙ y))
 
     on : r ≡ false → Come s e
     on y = miss is_wrong_cluster s 0 at e g f h (sym test ∙ y)

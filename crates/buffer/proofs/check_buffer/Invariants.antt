@@ -6,8 +6,6 @@ use mathlib.Core.List.{List, ◌++◌, append-nil}
 use lib.ListN.{length}
 use lib.Dec.{eqb}
 use borrow.Author.Tests.{eq-eqb, ne_eqb}
-use Rattle.ground.specs.declared.Place.{Place}
-use Rattle.ground.specs.declared.Place.TheVariants.{Nowhere, At}
 use Rattle.ground.specs.Pick.{yes, no}
 use Rattle.ground.specs.Lists.{part, total}
 use Rattle.ground.specs.First.{is_before}

@@ -5,7 +5,7 @@ use mathlib.Core.Path.{◌≡◌, sym, ◌∙◌}
 use mathlib.Core.Bool.{Bool, true, false}
 use mathlib.Core.List.{List}
 use lib.ListN.{length}
-use Rattle.ground.specs.declared.Place.TheVariants.{Nowhere, At}
+use Rattle.std.specs.Prelude.{Some, None}
 use Rattle.ground.specs.Lists.{part}
 use Rattle.scan.specs.Cutting.{end_by}
 use Rattle.scan.specs.Search.{PassedBy, start, stop_by, hit_by, miss, ordered_by, inside_by, falls_by}
@@ -28,12 +28,12 @@ module _ (s : List ℕ) (at e : ℕ) (f : e ≡ end_by two_bytes s at) (h : e �
   less = falls_by two_bytes s at e f h
 
 module _ (s : List ℕ) (id at e : ℕ) (g : Come s id at) (f : e ≡ end_by two_bytes s at) where
-  none : e ≡ at → Nowhere ≡ found_cluster s id
+  none : e ≡ at → None ≡ found_cluster s id
   unfolding found_cluster
   none h = stop_by (λ b k. bearing id k) s 0 at e g f h
 
   module _ (h : e ≡ at → ⊥) (r : Bool) (t : r ≡ bearing id (part s at e)) where
-    here : r ≡ true → At at ≡ found_cluster s id
+    here : r ≡ true → Some at ≡ found_cluster s id
     unfolding found_cluster
     here y = hit_by (λ b k. bearing id k) s 0 at e g f h (sym t ∙ y)
 

@@ -4,7 +4,6 @@ use mathlib.Core.Path.{◌≡◌, sym, ◌∙◌}
 use mathlib.Core.Bool.{Bool, true, false}
 use mathlib.Core.List.{List}
 use lib.ListN.{length}
-use Rattle.ground.specs.declared.Place.TheVariants.{Nowhere, At}
 use Rattle.ground.specs.Lists.{part}
 use Rattle.scan.specs.Cutting.{end_by}
 use Rattle.scan.specs.Search.{PassedBy, start, stop_by, hit_by, miss, ordered_by, inside_by, falls_by}

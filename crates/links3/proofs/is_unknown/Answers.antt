@@ -5,8 +5,7 @@ use mathlib.Core.Path.{◌≡◌, sym, ap, ◌∙◌}
 use mathlib.Core.Bool.{Bool, true, false, not, ◌&&◌}
 use mathlib.Core.List.{List}
 use borrow.Author.Tests.{not-true, not-false}
-use Rattle.ground.specs.declared.Place.{Place}
-use Rattle.ground.specs.declared.Place.TheVariants.{Nowhere, At}
+use Rattle.std.specs.Prelude.{Option, Some, None}
 use Rattle.layout3.specs.declared.Facts.{Facts}
 use Rattle.buffer.specs.Reading.{found_cluster}
 use Rattle.links3.specs.Links.{is_nowhere, unknown_by}
@@ -17,18 +16,18 @@ module _ (b : List ℕ) (g f : Facts) (e : f ≡ g) where
   unfolding unknown_by
   names_none h = sym (ap (λ (x : Bool). x && is_nowhere (found_cluster b g.cluster)) (sym (ap (λ (x : Facts). x.declares) e) ∙ not-true f.declares h))
 
-  module _ (h : not f.declares ≡ false) (r : Place) (q : r ≡ found_cluster b f.cluster) where
+  module _ (h : not f.declares ≡ false) (r : Option ℕ) (q : r ≡ found_cluster b f.cluster) where
     asked : is_nowhere r ≡ unknown_by b g
     unfolding unknown_by
     asked =
         ap is_nowhere (q ∙ ap (λ (x : Facts). found_cluster b x.cluster) e)
         ∙ sym (ap (λ (x : Bool). x && is_nowhere (found_cluster b g.cluster)) (sym (ap (λ (x : Facts). x.declares) e) ∙ not-false f.declares h))
 
-    found : (p : ℕ) → r ≡ At p → false ≡ unknown_by b g
+    found : (p : ℕ) → r ≡ Some p → false ≡ unknown_by b g
     unfolding is_nowhere
     found p z = sym (ap is_nowhere z) ∙ asked
 
-    unknown : r ≡ Nowhere → true ≡ unknown_by b g
+    unknown : r ≡ None → true ≡ unknown_by b g
     unfolding is_nowhere
     unknown z = sym (ap is_nowhere z) ∙ asked
 
@@ -37,8 +36,8 @@ ruleset laws = (names_none, found, unknown, rules)
 pub returns-then-not-said : goal.returns-then-not-said
 returns-then-not-said c = search laws
 
-pub returns-in-At : goal.returns-in-At
-returns-in-At c = search laws
+pub returns-in-Some : goal.returns-in-Some
+returns-in-Some c = search laws
 
-pub returns-in-Nowhere : goal.returns-in-Nowhere
-returns-in-Nowhere c = search laws
+pub returns-in-None : goal.returns-in-None
+returns-in-None c = search laws

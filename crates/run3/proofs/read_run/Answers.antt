@@ -2,7 +2,6 @@
 use borrow.Author.Rules.{rules}
 use Prim.Native.Nat.{ℕ, ◌+◌, ◌-◌, ◌≤◌, ◌<◌, ◌^◌}
 use mathlib.Core.Path.{◌≡◌, refl, sym, ap, ◌∙◌}
-use mathlib.Core.Logic.{⊎_elim}
 use mathlib.Core.List.{List, [], ◌∷◌, ◌++◌, append-nil}
 use native.Mathlib.Omega.{arith}
 use native.Mathlib.Nat.{add-zero}
@@ -13,13 +12,11 @@ use mir.Syntax.{w64}
 use Rattle.ground.specs.Lists.{part, part_length, total, total_append, pad, pad_blank, pad_length, pad_set}
 use Rattle.scan.specs.Cutting.{end_at, rest}
 use Rattle.scan.specs.CuttingLaws.{end_off, rest_none, rest_more}
-use Rattle.scan.specs.Search.{ordered, inside, falls}
-use Rattle.edition3.specs.Third.{third}
-use Rattle.edition.specs.Edition.{Edition}
+use Rattle.scan.specs.Placed.{placed_from, seen, ahead, walk_over, walk_next, Next}
 use Rattle.entities.specs.declared.Node.{Node}
 use Rattle.entities.specs.Run.{most_entities, node_of, nodes_from, blank_node, run_in}
 use Rattle.entities.proofs.RepresentsLemmas.{nodes_length, nodes_more}
-use Rattle.run3.proofs.read_run.Invariants.{ed, Walked}
+use Rattle.run3.proofs.read_run.Invariants.{ed, Walked, Going}
 use Rattle.run3.proofs.read_run.Goals as goal
 use Rattle.run3.proofs.read_run.Goals.{then-count-lt-MOST_ENTITIES, else-count-lt-MOST_ENTITIES}
 
@@ -88,28 +85,54 @@ module _ (s : List ℕ) (from : ℕ) (nodes : List Node) (count at e : ℕ) (g :
     on_full : 32 ≤ count → (after : List Node) → after ≡ nodes → Walked s from after (count + 1) e
     on_full l after z = on after (z ∙ (let n = long in sym (set_out nodes count (node_of ed at (part s at e)) (omega arith))))
 
-ruleset laws = (start, stop, count_fits, here_fits, on_kept, on_full, long, ordered, inside, falls, rules)
+begin : (s : List ℕ) (from : ℕ) (b : Node) (left : List (ℕ × List ℕ)) → b ≡ blank_node → left ≡ placed_from from (rest s from)
+    → Going s from (replicate 32 b) 0 left
+begin s from b left e c = record { at = from; comes = c; walked = start s from b e }
+
+module _ (s : List ℕ) (from : ℕ) (nodes : List Node) (count : ℕ) (left : List (ℕ × List ℕ)) (g : Going s from nodes count left) where
+  over : left ≡ [] → record { count = count; nodes = nodes } ≡ run_in ed from (rest s from)
+  over h = stop s from nodes count g.at (end_at s g.at) g.walked refl (walk_over s g.at (sym g.comes ∙ h))
+
+  room : length nodes ≡ 32
+  room = ap length g.walked.filled ∙ pad_length blank_node most_entities (nodes_from ed from g.walked.behind)
+
+  module _ (x : ℕ × List ℕ) (left' : List (ℕ × List ℕ)) (comes : left ≡ x ∷ left') where
+    abbrev e : ℕ
+    e = end_at s g.at
+
+    n : Next s g.at x left'
+    n = walk_next s g.at x left' (sym g.comes ∙ comes)
+
+    count_next : length s < 2 ^ 64 → Fits w64 (count + 1)
+    count_next = count_fits s from nodes count g.at e g.walked refl n.stands
+
+    here_next : length s < 2 ^ 64 → x.0 + length x.1 < 2 ^ 64
+    here_next l = rw (n.place, n.here) (here_fits s from nodes count g.at e g.walked refl n.stands l)
+
+    kept : (v : Node) → v ≡ node_of ed x.0 x.1 → (after : List Node) → after ≡ set nodes count v → Going s from after (count + 1) left'
+    kept v y after z =
+        let w : v ≡ node_of ed g.at (part s g.at e) = y ∙ rw (n.place, n.here) refl in
+        record { at = e; comes = n.behind; walked = on_kept s from nodes count g.at e g.walked refl n.stands v w after z }
+
+    full : 32 ≤ count → (after : List Node) → after ≡ nodes → Going s from after (count + 1) left'
+    full l after z = record { at = e; comes = n.behind; walked = on_full s from nodes count g.at e g.walked refl n.stands l after z }
+
+ruleset laws = (begin, rules)
 
 pub loop-at-init : goal.loop-at-init
 loop-at-init c = search laws
 
-pub returns-then-e-at : goal.returns-then-e-at
-returns-then-e-at c = search laws
-
-pub slice_bounds-node_of-count : goal.slice_bounds-node_of-count
-slice_bounds-node_of-count c = search laws
-
-pub slice_bounds-node_of-start : goal.slice_bounds-node_of-start
-slice_bounds-node_of-start c = search laws
-
-pub slice_bounds-node_of-end : goal.slice_bounds-node_of-end
-slice_bounds-node_of-end c = search laws
+pub node_of-requires : goal.node_of-requires
+node_of-requires c = let l = here_next c.args.s.now c.args.from c.loop-at.nodes c.loop-at.count (ahead c.loop-at.at-iterator) (search rules) (seen (c.in-Some.at, c.in-Some.d)) (ahead c.next.new.self) (search rules) in search (l, rules)
 
 pub overflow_add-count : goal.overflow_add-count
-overflow_add-count c = search laws
-
-pub loop-at-smaller : goal.loop-at-smaller
-loop-at-smaller c = search laws
+overflow_add-count c = let l = count_next c.args.s.now c.args.from c.loop-at.nodes c.loop-at.count (ahead c.loop-at.at-iterator) (search rules) (seen (c.in-Some.at, c.in-Some.d)) (ahead c.next.new.self) (search rules) in search (l, rules)
 
 pub loop-at-preserved : goal.loop-at-preserved
-loop-at-preserved c = elim c.if-count-lt-MOST_ENTITIES.branch [ then-count-lt-MOST_ENTITIES w ↦ search laws | else-count-lt-MOST_ENTITIES w ↦ search laws ]
+loop-at-preserved c = elim c.if-count-lt-MOST_ENTITIES.branch [
+  | then-count-lt-MOST_ENTITIES w ↦ (tt, tt, let k = kept c.args.s.now c.args.from c.loop-at.nodes c.loop-at.count (ahead c.loop-at.at-iterator) (search rules) (seen (c.in-Some.at, c.in-Some.d)) (ahead c.next.new.self) (search rules) in search (k, rules))
+  | else-count-lt-MOST_ENTITIES w ↦ (tt, tt, let k = full c.args.s.now c.args.from c.loop-at.nodes c.loop-at.count (ahead c.loop-at.at-iterator) (search rules) (seen (c.in-Some.at, c.in-Some.d)) (ahead c.next.new.self) (search rules) in search (k, rules))
+]
+
+pub returns : goal.returns
+returns c = over c.args.s.now c.args.from c.loop-at.nodes c.loop-at.count (ahead c.loop-at.at-iterator) (search rules) (search rules)

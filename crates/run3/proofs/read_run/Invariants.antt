@@ -1,23 +1,14 @@
-use borrow.Author.Rules.{rules}
-use Prim.Native.Nat.{ℕ, ◌+◌, ◌-◌, ◌≤◌, ◌<◌, ◌^◌}
-use mathlib.Core.Path.{◌≡◌, refl, sym, ap, ◌∙◌}
-use mathlib.Core.Logic.{⊎_elim}
-use mathlib.Core.List.{List, [], ◌∷◌, ◌++◌, append-nil}
-use native.Mathlib.Omega.{arith}
-use native.Mathlib.Nat.{add-zero}
-use lib.ListN.{length, set, replicate, length-append}
-use lib.Seq.{append_snoc, set_out}
-use mir.Val.{Fits}
-use mir.Syntax.{w64}
-use Rattle.ground.specs.Lists.{part, part_length, total, total_append, pad, pad_blank, pad_length, pad_set}
-use Rattle.scan.specs.Cutting.{end_at, rest}
-use Rattle.scan.specs.CuttingLaws.{end_off, rest_none, rest_more}
-use Rattle.scan.specs.Search.{ordered, inside, falls}
+use Prim.Native.Nat.{ℕ, ◌+◌, ◌≤◌}
+use mathlib.Core.Path.{◌≡◌}
+use mathlib.Core.List.{List, [], ◌++◌}
+use lib.ListN.{length}
+use Rattle.ground.specs.Lists.{total, pad}
+use Rattle.scan.specs.Cutting.{rest}
+use Rattle.scan.specs.Placed.{placed_from, ahead}
 use Rattle.edition3.specs.Third.{third}
 use Rattle.edition.specs.Edition.{Edition}
 use Rattle.entities.specs.declared.Node.{Node}
-use Rattle.entities.specs.Run.{most_entities, node_of, nodes_from, blank_node, run_in}
-use Rattle.entities.proofs.RepresentsLemmas.{nodes_length, nodes_more}
+use Rattle.entities.specs.Run.{most_entities, nodes_from, blank_node}
 use Rattle.run3.proofs.read_run.Given as goal
 
 abbrev pub ed : Edition
@@ -31,8 +22,13 @@ pub record Walked (s : List ℕ) (from : ℕ) (nodes : List Node) (count at : �
   pub few : count ≤ at
   pub filled : nodes ≡ pad blank_node most_entities (nodes_from ed from behind)
 
-abbrev pub invariant-loop-at : goal.invariant-loop-at
-invariant-loop-at l = Walked l.s l.from l.nodes l.count l.at
+-- the walk has come to a place, and what it has left are the descriptors from there on
+pub record Going (s : List ℕ) (from : ℕ) (nodes : List Node) (count : ℕ) (left : List (ℕ × List ℕ)) : Type 0 where
+  pub at : ℕ
+  pub comes : left ≡ placed_from at (rest s at)
+  pub walked : Walked s from nodes count at
 
-abbrev pub decreases-loop-at : goal.decreases-loop-at
-decreases-loop-at l = length l.s - l.at
+abbrev pub invariant-loop-at : goal.invariant-loop-at
+invariant-loop-at l =
+    (goal.iterator-loop-at).can_next l.at-iterator × (goal.iterator-loop-at).is_finite l.at-iterator
+    × Going l.s l.from l.nodes l.count (ahead l.at-iterator)

@@ -32,12 +32,12 @@ module _ (s : List ℕ) (n : Node) (given : List ℕ) (f : Facts) (e : f ≡ sai
         go [] i = refl
         go (x ∷ l) i = absurd (omega arith)
 
-    first : (length ids ≡ 0 → ⊥) → (x : ℕ) → (x ≡ get_or ids 0 0) × (x < 256) → get_or given x 0 ≡ gives_id s n (id_on given)
+    first : 0 < length ids → (i : ℕ) → i ≡ get_or ids 0 0 → (x : ℕ) → (x ≡ i) × (x < 256) → get_or given x 0 ≡ gives_id s n (id_on given)
     unfolding first_id
-    first z x w = ap (λ (i : ℕ). get_or given i 0) w.0 ∙ go ids z ∙ passes
+    first z i o x w = ap (λ (j : ℕ). get_or given j 0) (w.0 ∙ o) ∙ go ids z ∙ passes
       where
-        go : (l : List ℕ) → (length l ≡ 0 → ⊥) → get_or given (get_or l 0 0) 0 ≡ first_id (map (id_on given) l)
-        go [] i = absurd (i refl)
+        go : (l : List ℕ) → 0 < length l → get_or given (get_or l 0 0) 0 ≡ first_id (map (id_on given) l)
+        go [] i = absurd (omega arith)
         go (y ∷ l) i = refl
 
 ruleset laws = (names, nothing, first, rules)
@@ -45,8 +45,8 @@ ruleset laws = (names, nothing, first, rules)
 pub returns-then-said : goal.returns-then-said
 returns-then-said c = search laws
 
-pub returns-then-ids-eq0 : goal.returns-then-ids-eq0
-returns-then-ids-eq0 c = search laws
+pub returns-in_default : goal.returns-in_default
+returns-in_default c = search laws
 
 pub returns : goal.returns
 returns c = search laws

@@ -5,17 +5,19 @@ use mathlib.Core.Path.{◌≡◌, refl, sym, ap, ◌∙◌}
 use mathlib.Core.List.{List, []}
 use native.Mathlib.Omega.{arith}
 use lib.ListN.{length, take}
+use Rattle.std.specs.Prelude.{Result, Ok, Err}
 use Rattle.ground.specs.declared.Refusal.{Refusal}
 use Rattle.ground.specs.Lists.{part}
 use Rattle.ground.specs.Refuse.{none}
+use Rattle.ground.specs.Told.{told, kept_or, Leaves, left, row_on, row_stays}
 use Rattle.scan.specs.Cutting.{rest}
 use Rattle.edition3.specs.Third.{third}
 use Rattle.entities.specs.declared.Run.{Run}
 use Rattle.entities.specs.Run.{run_in}
 use Rattle.groups.specs.declared.Frame.{Frame}
 use Rattle.third.specs.declared.Finding.{Finding}
-use Rattle.third.specs.Judgement.{run_for, run_refused, run_judged, links_judged, frame_judged, nothing_found, all_found, found_then, linked_in, framed_in}
-use Rattle.third.specs.Verdict.{run_chain, found_refused}
+use Rattle.third.specs.Judgement.{run_for, run_refused, run_judged, links_judged, frame_judged, all_found, linked_in, framed_in}
+use Rattle.third.specs.Verdict.{run_chain}
 use Rattle.third.proofs.judge_frame.Goals as goal
 
 module _ (c b : List ℕ) (f : Frame) (s : List ℕ) (e : s ≡ part c 0 f.end) where
@@ -31,37 +33,29 @@ module _ (c b : List ℕ) (f : Frame) (s : List ℕ) (e : s ≡ part c 0 f.end) 
     unfolding run_for run_in
     count_told = ap (λ (r : Run). r.count) run_told
 
-    module _ (v : Refusal) (h : v ≡ run_refused s b f.run run.count f.header none) where
-      judged_told : v ≡ run_judged c b f none
-      unfolding run_judged
-      judged_told = h ∙ rw (count_told, front) refl
+    judged_told : run_refused s b f.run run.count f.header none ≡ run_judged c b f none
+    unfolding run_judged
+    judged_told = rw (count_told, front) refl
 
-      verdict_stays : (v.number ≡ 0 → ⊥) → v ≡ frame_judged c b f none
-      unfolding frame_judged
-      verdict_stays n = judged_told ∙ sym ((run_chain c b f).stays (λ q. n (ap (λ (x : Refusal). x.number) judged_told ∙ q)) (links_judged c b (run_for c f) none))
+    turned_away : (q : Refusal) → Err q ≡ kept_or (run_refused s b f.run run.count f.header none) → (r : Result Finding Refusal) → Leaves r q
+        → r ≡ framed_in c b f
+    unfolding framed_in frame_judged
+    turned_away q h r k =
+        left r q k ∙ row_stays (run_judged c b f) (run_chain c b f) tt q (h ∙ ap kept_or judged_told) (links_judged c b (run_for c f) none) (all_found c b f.header (run_for c f))
 
-      verdict_on : v.number ≡ 0 → frame_judged c b f none ≡ links_judged c b (run_for c f) none
-      unfolding frame_judged
-      verdict_on z = (run_chain c b f).on (sym (ap (λ (x : Refusal). x.number) judged_told) ∙ z) (links_judged c b (run_for c f) none)
+    on : (u : Unit {0}) → Ok u ≡ kept_or (run_refused s b f.run run.count f.header none) → (r : Result Finding Refusal) → r ≡ linked_in c b f.header run
+        → r ≡ framed_in c b f
+    unfolding framed_in frame_judged linked_in
+    on u h r k =
+        k ∙ ap (linked_in c b f.header) run_told
+        ∙ sym (ap (λ (x : Refusal). told x (all_found c b f.header (run_for c f)))
+        (row_on (run_judged c b f) (run_chain c b f) tt u (h ∙ ap kept_or judged_told) (links_judged c b (run_for c f) none)))
 
-      turned_away : (v.number ≡ 0 → ⊥) → (r : Finding) → r ≡ nothing_found (record { number = v.number; place = v.place }) → r ≡ framed_in c b f
-      unfolding framed_in
-      turned_away n r k =
-          k
-          ∙ ap nothing_found (verdict_stays n)
-          ∙ found_refused (frame_judged c b f none) _ (λ q. n (ap (λ (x : Refusal). x.number) (verdict_stays n) ∙ q))
+ruleset laws = (on, rules)
 
-      on : v.number ≡ 0 → (r : Finding) → r ≡ linked_in c b f.header run → r ≡ framed_in c b f
-      unfolding framed_in linked_in
-      on z r k =
-          k
-          ∙ ap (linked_in c b f.header) run_told
-          ∙ ap (λ (x : Refusal). found_then x (all_found c b f.header (run_for c f))) (sym (verdict_on z))
-
-ruleset laws = (turned_away, on, rules)
-
-pub returns-then-verdict-ne0 : goal.returns-then-verdict-ne0
-returns-then-verdict-ne0 c = search laws
+pub returns-in_err-judge_run : goal.returns-in_err-judge_run
+returns-in_err-judge_run c =
+    turned_away _ _ _ _ c.stretch-s.ensures _ c.read_run-run.ensures _ c.in_err-judge_run.ensures _ c.from_residual.ensures.1
 
 pub returns : goal.returns
 returns c = search laws

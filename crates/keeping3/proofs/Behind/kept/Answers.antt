@@ -8,7 +8,6 @@ use native.Mathlib.Omega.{arith}
 use lib.Dec.{eqb}
 use lib.ListN.{length, length-take}
 use Rattle.ground.specs.Pick.{within}
-use Rattle.ground.specs.Numbers.{byte}
 use Rattle.channels.specs.DeclaredChannels.{most_channels}
 use Rattle.layout3.specs.declared.Entity.{Entity}
 use Rattle.layout3.specs.declared.Entity.TheVariants.{Unknown, Input, Output, Mixer, Selector, Feature, Clock}
@@ -19,7 +18,7 @@ use Rattle.edition3.specs.Third.{first_of, channels_in, mixer_length, feature_le
 use Rattle.entities.specs.declared.Node.{Node}
 use Rattle.entities.specs.Run.{sources_of, descriptor_of}
 use Rattle.keeping3.specs.Keeping.{cluster_behind, keeps_by}
-use Rattle.keeping3.proofs.kept.Goals as goal
+use Rattle.keeping3.proofs.Behind.kept.Goals as goal
 
 -- a byte says how many pins there are
 few : (s : List ℕ) (n : Node) → n.pins < 256 → (ids : List ℕ) → ids ≡ sources_of s n → length ids ≤ 255
@@ -43,9 +42,9 @@ module _ (s b : List ℕ) (n : Node) (given d : List ℕ) (p : d ≡ descriptor_
   unfolding keeps
   unknown h = of h
 
-  input : {k c : ℕ} → e ≡ Input k c → (x : List ℕ) → x ≡ cluster_with b c → (m : ℕ) → m ≡ byte x 6 → (r : Bool) → r ≡ within 1 m most_channels → r ≡ Answer
+  input : {k c : ℕ} → e ≡ Input k c → (m : ℕ) → m ≡ channels_of (cluster_with b c) → (r : Bool) → r ≡ within 1 m most_channels → r ≡ Answer
   unfolding keeps cluster_with
-  input h x f m g r a = a ∙ ap (λ (i : ℕ). within 1 i most_channels) (g ∙ ap channels_of f) ∙ of h
+  input h m g r a = a ∙ ap (λ (i : ℕ). within 1 i most_channels) g ∙ of h
 
   output : {k c : ℕ} → e ≡ Output k c → true ≡ Answer
   unfolding keeps
