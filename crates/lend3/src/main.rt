@@ -4,8 +4,7 @@
 // a configuration, and k bytes: the cluster buffer. It is read with m bytes lent, each of them AA. It prints
 // `accepted`, how many entities there are, or `refused N at P`, then the lent bytes as `lend` shows them. A step that
 // is none prints `bad step`, and the program ends.
-ghost use Rattle.std.specs.Prelude.{◌≡◌, length};
-
+use script::{Steps, Stop};
 use std::io;
 use std::io::Read;
 use topology::Reading;
@@ -16,125 +15,67 @@ const BODY: usize = 8192;
 // The most bytes of a sheet that a step may ask for.
 const SHEET: usize = 2048;
 
-// What a proof needs of a large array is its length, not its bytes.
-fn sheet_space() -> [u8; SHEET]
-    ensures { length result ≡ 2048 }
-{
-    [marks::MARK; SHEET]
-}
-
-fn body_space() -> [u8; BODY]
-    ensures { length result ≡ 8192 }
-{
-    [0u8; BODY]
-}
-
-// A space, then a number.
-fn say_next(out: &impl Print, n: u64) -> io::Result<()> {
-    print!(out; " {n}")
-}
-
 // "The answer is the sheet only": the other counts of an acceptance are 1.0's, and are not said of either edition.
 fn say_answer(out: &impl Print, reading: Reading) -> io::Result<()> {
     if reading.number == 0 {
-        out.write_all(b"accepted")?;
-        say_next(out, reading.entities as u64)?;
+        println!(out; "accepted {}", reading.entities)
     } else {
-        out.write_all(b"refused")?;
-        say_next(out, reading.number as u64)?;
-        out.write_all(b" at")?;
-        say_next(out, reading.place as u64)?;
+        println!(out; "refused {} at {}", reading.number, reading.place)
     }
-    out.write_all(b"\n")
 }
 
-fn read_into(out: &impl Print, config: &[u8], clusters: &[u8], sheet: &mut [u8]) -> io::Result<()> {
+// Reads a configuration and its cluster buffer with these bytes lent.
+fn read_into(
+    out: &impl Print,
+    config: &[u8],
+    clusters: &[u8],
+    sheet: &mut [u8],
+) -> Result<(), Stop> {
     let reading = protocol::read(config, clusters, sheet);
     say_answer(out, reading)?;
     marks::show(out, sheet)?;
     Ok(())
 }
 
-// Reads a configuration and its cluster buffer with m bytes lent. Whether it was a step at all.
-fn step(out: &impl Print, m: usize, config: &[u8], clusters: &[u8]) -> io::Result<bool> {
-    if SHEET < m {
-        return Ok(false);
-    }
-    let mut sheet = sheet_space();
-    read_into(out, config, clusters, &mut sheet[..m])?;
-    Ok(true)
+// Reads a configuration and its cluster buffer with m bytes lent.
+fn read_with(out: &impl Print, m: usize, config: &[u8], clusters: &[u8]) -> Result<(), Stop> {
+    let mut sheet = [marks::MARK; SHEET];
+    let lent = sheet.get_mut(..m).ok_or(Stop::BadStep)?;
+    read_into(out, config, clusters, lent)
 }
 
-// The step of this configuration whose cluster buffer is the next k bytes of standard input.
+// The step of this configuration whose cluster buffer is the next k bytes of the input.
 fn read_clusters(
     input: &mut impl Read,
     out: &impl Print,
     m: usize,
     k: usize,
     config: &[u8],
-) -> io::Result<bool> {
-    if BODY < k {
-        return Ok(false);
-    }
-    let mut clusters = body_space();
-    let read = fill::read_full(input, &mut clusters[..k]);
-    if read < k {
-        return Ok(false);
-    }
-    step(out, m, config, &clusters[..k])
+) -> Result<(), Stop> {
+    let mut clusters = [0u8; BODY];
+    script::read_front(input, &mut clusters, k)?;
+    read_with(out, m, config, &clusters[..k])
 }
 
-// The step whose configuration is the next n bytes of standard input.
-fn read_step(
-    input: &mut impl Read,
-    out: &impl Print,
-    m: usize,
-    n: usize,
-    k: usize,
-) -> io::Result<bool> {
-    if BODY < n {
-        return Ok(false);
-    }
-    let mut body = body_space();
-    let read = fill::read_full(input, &mut body[..n]);
-    if read < n {
-        return Ok(false);
-    }
-    read_clusters(input, out, m, k, &body[..n])
-}
+#[derive(Drop)]
+struct Lend3;
 
-// One step from standard input: whether another may follow. The input's end before a step begins is no step, and
-// nothing is said.
-fn turn(input: &mut impl Read, out: &impl Print) -> io::Result<bool> {
-    let mut opening = [0u8; 6];
-    let got = fill::read_full(input, &mut opening);
-    if got == 0 {
-        return Ok(false);
+impl Steps for Lend3 {
+    fn step(
+        &mut self,
+        opening: &[u8],
+        input: &mut impl Read,
+        out: &impl Print,
+    ) -> Result<(), Stop> {
+        let m = scan::word_at(opening, 0) as usize;
+        let n = scan::word_at(opening, 2) as usize;
+        let k = scan::word_at(opening, 4) as usize;
+        let mut body = [0u8; BODY];
+        script::read_front(input, &mut body, n)?;
+        read_clusters(input, out, m, k, &body[..n])
     }
-    if got < 6 {
-        out.write_all(b"bad step\n")?;
-        return Ok(false);
-    }
-    let good = read_step(
-        input,
-        out,
-        scan::word_at(&opening, 0) as usize,
-        scan::word_at(&opening, 2) as usize,
-        scan::word_at(&opening, 4) as usize,
-    )?;
-    if !good {
-        out.write_all(b"bad step\n")?;
-    }
-    Ok(good)
 }
 
 fn main(rt: HostRuntime) -> io::Result<()> {
-    let mut input = rt.stdin();
-    // A proved loop has to end, and nothing says that the steps do: it counts up to a number that no input comes to.
-    for _ in 0..u64::MAX {
-        if !turn(&mut input, &rt)? {
-            return Ok(());
-        }
-    }
-    Ok(())
+    Lend3.run(&mut [0u8; 6], &mut rt.stdin(), &rt)
 }

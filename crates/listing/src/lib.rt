@@ -1,27 +1,75 @@
 #![tactic(auto)]
-// A table of controls as the programs `relay` and `duet` show it. What it promises: how many controls it showed. What is printed is in no contract.
+// What the programs `relay` and `duet` read and show alike: the controls of a put step, a request's answer, a table of controls. What it promises: which
+// table is given, and how many controls it showed. What is printed is in no contract.
 ghost use Rattle.std.specs.Prelude.{◌≡◌, IfOk};
+ghost use Rattle.listing.specs.Given.{control_of, filled};
 ghost use Rattle.listing.specs.Listing.{lines_of};
 
-use std::io;
+use std::{fmt, io};
 use table::{Control, Table};
 
-// A space, then a number.
-fn say_next(out: &impl Print, n: u64) -> io::Result<()> {
-    print!(out; " {n}")
+// The bytes of a control that is given.
+pub const GIVEN: usize = 13;
+
+// The control that so many bytes give.
+#[tactic(auto, unfolding(crate::specs::Given::control_of))]
+pub fn control_of(given: &[u8]) -> Control
+    ensures { result ≡ control_of given.now }
+{
+    Control {
+        unit: scan::byte_at(given, 0),
+        channel: scan::byte_at(given, 1),
+        selector: scan::byte_at(given, 2),
+        pins: scan::byte_at(given, 3),
+        loaded: scan::byte_at(given, 4) != 0,
+        min: scan::word_at(given, 5),
+        max: scan::word_at(given, 7),
+        res: scan::word_at(given, 9),
+        cur: scan::word_at(given, 11),
+    }
+}
+
+// So many controls that the bytes give, one behind another, in the first places of a table, and all else zeros.
+#[tactic(auto, unfolding(crate::specs::Given::filled))]
+pub fn table_of(given: &[u8], count: u8) -> Table
+    ensures { result ≡ filled given.now count }
+{
+    let mut table = table::empty();
+    // Stays: by index and not by `chunks_exact`, since `filled` says of each index where its control stands.
+    for i in 0..count as usize {
+        let at = i * GIVEN;
+        let next = table::put(table, i, control_of(scan::stretch(given, at, at + GIVEN)));
+        table = next;
+    }
+    table
+}
+
+// What a request is answered, which prints as the refusal's number, or as what was got or set.
+#[derive(Clone, Copy, Drop)]
+pub struct Answered<'a> {
+    pub number: u8,
+    pub is_get: bool,
+    pub reply: &'a [u8],
+}
+
+impl<'a> fmt::Display for Answered<'a> {
+    fn fmt<W: fmt::Write>(&self, f: &mut fmt::Formatter<W>) -> fmt::Result {
+        if self.number != 0 {
+            write!(f, "refused {}", self.number)
+        } else if self.is_get {
+            write!(f, "got{}", text::HexBehind(self.reply))
+        } else {
+            write!(f, "set")
+        }
+    }
 }
 
 fn show_control(out: &impl Print, c: Control) -> io::Result<()> {
-    out.print(c.unit)?;
-    say_next(out, c.channel as u64)?;
-    say_next(out, c.selector as u64)?;
-    say_next(out, c.pins as u64)?;
-    say_next(out, c.loaded as u64)?;
-    say_next(out, c.min as u64)?;
-    say_next(out, c.max as u64)?;
-    say_next(out, c.res as u64)?;
-    say_next(out, c.cur as u64)?;
-    out.write_all(b"\n")
+    print!(out; "{} {} {} {}", c.unit, c.channel, c.selector, c.pins)?;
+    println!(out;
+        " {} {} {} {} {}",
+        c.loaded as u8, c.min, c.max, c.res, c.cur
+    )
 }
 
 // The first controls of a table, a line each.

@@ -16,32 +16,18 @@ const LINE: usize = 16;
 fn before_marks(lent: &[u8]) -> usize
     ensures { BeforeMarks lent.now result }
 {
-    let mut end = lent.len();
-    while 0 < end {
-        if lent[end - 1] != MARK {
-            return end;
+    for last in (0..lent.len()).rev() {
+        if lent[last] != MARK {
+            return last + 1;
         }
-        end -= 1;
     }
-    end
-}
-
-// A byte as two capital hex digits, and what stands behind them: the line's end if it is the last there.
-fn say_byte(out: &impl Print, b: u8, last: bool) -> io::Result<()> {
-    let pair = text::hex_pair(b);
-    out.write_all(&pair)?;
-    if last {
-        out.write_all(b"\n")
-    } else {
-        out.write_all(b" ")
-    }
+    0
 }
 
 // Sixteen bytes to a line, the last line as long as is left.
 fn say_lines(out: &impl Print, bytes: &[u8]) -> io::Result<()> {
-    for i in 0..bytes.len() {
-        let next = i + 1;
-        say_byte(out, bytes[i], next % LINE == 0 || next == bytes.len())?;
+    for line in bytes.chunks(LINE) {
+        println!(out; "{}", text::HexLine(line))?;
     }
     Ok(())
 }

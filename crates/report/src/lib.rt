@@ -7,34 +7,24 @@ ghost use Rattle.differences.specs.Lines.{pair_number};
 use differences::Difference;
 use std::io;
 
-// A space, then a number.
-fn say_next(out: &impl Print, n: u64) -> io::Result<()> {
-    print!(out; " {n}")
-}
-
 // A word, a space and an ID as two capital hex digits.
 fn say_id(out: &impl Print, word: &[u8], id: u8) -> io::Result<()> {
-    let pair = text::hex_pair(id);
     out.write_all(word)?;
-    out.write_all(b" ")?;
-    out.write_all(&pair)
+    print!(out; " {}", text::Hex(id))
 }
 
 // The numbers of a mask's bits that are set, each behind a space.
 fn say_bits(out: &impl Print, mask: u32) -> io::Result<()> {
-    let mut left = mask;
-    for n in 0..32u64 {
-        if left % 2 == 1 {
-            say_next(out, n)?;
+    for n in 0..32u32 {
+        if (mask >> n) % 2 == 1 {
+            print!(out; " {n}")?;
         }
-        left = left / 2;
     }
     Ok(())
 }
 
 fn say_difference(out: &impl Print, difference: Difference) -> io::Result<()> {
     match difference {
-        Difference::None => return Ok(()),
         Difference::LeftOnly(id) => say_id(out, b"left", id)?,
         Difference::RightOnly(id) => say_id(out, b"right", id)?,
         Difference::Changed(id, mask) => {
@@ -47,15 +37,11 @@ fn say_difference(out: &impl Print, difference: Difference) -> io::Result<()> {
 
 fn say_differences(out: &impl Print, left: &[u8], right: &[u8]) -> io::Result<()> {
     let mut above: u8 = 0;
-    loop {
-        let difference = differences::next(left, right, above);
-        let id = differences::id_of(difference);
-        if id == 0 {
-            return Ok(());
-        }
+    while let Some(difference) = differences::next(left, right, above) {
         say_difference(out, difference)?;
-        above = id;
+        above = differences::id_of(Some(difference));
     }
+    Ok(())
 }
 
 // Prints the differences of two sheets, or their refusal, whose number it answers.

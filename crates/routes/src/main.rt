@@ -3,8 +3,7 @@
 // Terminal; two bytes m and two bytes n, low byte first; and n bytes, a configuration, whose routes are listed with m
 // bytes lent, each of them AA. It prints `routes R K`, or `refused N at P` where the reader refuses, or `refused N`;
 // then the lent bytes as `lend` shows them. A step that is none prints `bad step`, and the program ends.
-ghost use Rattle.std.specs.Prelude.{◌≡◌, length};
-
+use script::{Steps, Stop};
 use std::io;
 use std::io::Read;
 use upstream::Listing;
@@ -15,109 +14,49 @@ const BODY: usize = 8192;
 // The most bytes of a list that a step may ask for.
 const LIST: usize = 16384;
 
-// What a proof needs of a large array is its length, not its bytes.
-fn list_space() -> [u8; LIST]
-    ensures { length result ≡ 16384 }
-{
-    [marks::MARK; LIST]
-}
-
-fn body_space() -> [u8; BODY]
-    ensures { length result ≡ 8192 }
-{
-    [0u8; BODY]
-}
-
-// A space, then a number.
-fn say_next(out: &impl Print, n: u64) -> io::Result<()> {
-    print!(out; " {n}")
-}
-
 // The reader's refusals have a place, those behind them none.
 fn say_answer(out: &impl Print, listing: Listing) -> io::Result<()> {
     if listing.number == 0 {
-        out.write_all(b"routes")?;
-        say_next(out, listing.routes as u64)?;
-        say_next(out, listing.written as u64)?;
+        println!(out; "routes {} {}", listing.routes, listing.written)
+    } else if listing.number < 45 {
+        println!(out; "refused {} at {}", listing.number, listing.place)
     } else {
-        out.write_all(b"refused")?;
-        say_next(out, listing.number as u64)?;
-        if listing.number < 45 {
-            out.write_all(b" at")?;
-            say_next(out, listing.place as u64)?;
-        }
+        println!(out; "refused {}", listing.number)
     }
-    out.write_all(b"\n")
 }
 
-fn list_into(out: &impl Print, config: &[u8], id: u8, list: &mut [u8]) -> io::Result<()> {
+fn list_into(out: &impl Print, config: &[u8], id: u8, list: &mut [u8]) -> Result<(), Stop> {
     let listing = routing::list_routes(config, id, list);
     say_answer(out, listing)?;
     marks::show(out, list)?;
     Ok(())
 }
 
-// Lists the routes of a configuration with m bytes lent. Whether it was a step at all.
-fn step(out: &impl Print, id: u8, m: usize, config: &[u8]) -> io::Result<bool> {
-    if LIST < m {
-        return Ok(false);
-    }
-    let mut list = list_space();
-    list_into(out, config, id, &mut list[..m])?;
-    Ok(true)
+// Lists the routes of a configuration with m bytes lent.
+fn list_with(out: &impl Print, id: u8, m: usize, config: &[u8]) -> Result<(), Stop> {
+    let mut list = [marks::MARK; LIST];
+    let lent = list.get_mut(..m).ok_or(Stop::BadStep)?;
+    list_into(out, config, id, lent)
 }
 
-// The step whose configuration is the next n bytes of standard input.
-fn read_step(
-    input: &mut impl Read,
-    out: &impl Print,
-    id: u8,
-    m: usize,
-    n: usize,
-) -> io::Result<bool> {
-    if BODY < n {
-        return Ok(false);
-    }
-    let mut body = body_space();
-    let read = fill::read_full(input, &mut body[..n]);
-    if read < n {
-        return Ok(false);
-    }
-    step(out, id, m, &body[..n])
-}
+#[derive(Drop)]
+struct Routes;
 
-// One step from standard input: whether another may follow. The input's end before a step begins is no step, and
-// nothing is said.
-fn turn(input: &mut impl Read, out: &impl Print) -> io::Result<bool> {
-    let mut opening = [0u8; 5];
-    let got = fill::read_full(input, &mut opening);
-    if got == 0 {
-        return Ok(false);
+impl Steps for Routes {
+    fn step(
+        &mut self,
+        opening: &[u8],
+        input: &mut impl Read,
+        out: &impl Print,
+    ) -> Result<(), Stop> {
+        let m = scan::word_at(opening, 1) as usize;
+        let n = scan::word_at(opening, 3) as usize;
+        let mut body = [0u8; BODY];
+        script::read_front(input, &mut body, n)?;
+        list_with(out, scan::byte_at(opening, 0), m, &body[..n])
     }
-    if got < 5 {
-        out.write_all(b"bad step\n")?;
-        return Ok(false);
-    }
-    let good = read_step(
-        input,
-        out,
-        opening[0],
-        scan::word_at(&opening, 1) as usize,
-        scan::word_at(&opening, 3) as usize,
-    )?;
-    if !good {
-        out.write_all(b"bad step\n")?;
-    }
-    Ok(good)
 }
 
 fn main(rt: HostRuntime) -> io::Result<()> {
-    let mut input = rt.stdin();
-    // A proved loop has to end, and nothing says that the steps do: it counts up to a number that no input comes to.
-    for _ in 0..u64::MAX {
-        if !turn(&mut input, &rt)? {
-            return Ok(());
-        }
-    }
-    Ok(())
+    Routes.run(&mut [0u8; 5], &mut rt.stdin(), &rt)
 }

@@ -3,9 +3,8 @@
 // a configuration from standard input and prints every route, a line each, the IDs from the output to the input as two
 // capital hex digits with single spaces; or `refused N at P` where the reader refuses, or `refused N`. Anything but
 // that one argument prints how it is used, and nothing is read.
-ghost use Rattle.std.specs.Prelude.{◌≤◌, length};
+ghost use Rattle.std.specs.Prelude.{◌<◌, IfSome};
 
-use std::env::{Env, FillError};
 use std::io;
 use std::io::Read;
 use upstream::Listing;
@@ -16,37 +15,21 @@ const ROOM: usize = 4097;
 // The bytes of the lent list: 256 routes of 32 IDs, each with 00 after the last.
 const LIST: usize = 8448;
 
-// What stands for a digit that is none.
-const NONE: u16 = 256;
-
 // The reader's refusals have a place, those behind them none.
 fn say_refusal(out: &impl Print, listing: Listing) -> io::Result<()> {
-    let number = listing.number;
-    let place = listing.place;
-    if number < 45 {
-        println!(out; "refused {number} at {place}")
+    if listing.number < 45 {
+        println!(out; "refused {} at {}", listing.number, listing.place)
     } else {
-        println!(out; "refused {number}")
+        println!(out; "refused {}", listing.number)
     }
 }
 
-// An ID, and a space where another follows it; 00 ends the line.
-fn say_id(out: &impl Print, id: u8, last: bool) -> io::Result<()> {
-    if id == 0 {
-        return out.write_all(b"\n");
-    }
-    let pair = text::hex_pair(id);
-    out.write_all(&pair)?;
-    if !last {
-        out.write_all(b" ")?;
-    }
-    Ok(())
-}
-
-// The routes, a line each.
+// The routes, a line each: 00 ends each of them.
 fn say_routes(out: &impl Print, routes: &[u8]) -> io::Result<()> {
-    for i in 0..routes.len() {
-        say_id(out, routes[i], scan::byte_at(routes, i + 1) == 0)?;
+    for route in routes.split(|id| *id == 0) {
+        if !route.is_empty() {
+            println!(out; "{}", text::HexLine(route))?;
+        }
     }
     Ok(())
 }
@@ -56,7 +39,7 @@ fn list_input(input: &mut impl Read, out: &impl Print, id: u8) -> io::Result<()>
     let mut config = [0u8; ROOM];
     let mut list = [0u8; LIST];
     let count = fill::read_full(input, &mut config);
-    let listing = routing::list_routes(scan::stretch(&config, 0, count), id, &mut list);
+    let listing = routing::list_routes(&config[..count], id, &mut list);
     if listing.number != 0 {
         return say_refusal(out, listing);
     }
@@ -64,59 +47,29 @@ fn list_input(input: &mut impl Read, out: &impl Print, id: u8) -> io::Result<()>
 }
 
 // What a hex digit stands for, in both cases of letters.
-fn digit(c: u8) -> u16 {
-    if c < 48 {
-        return NONE;
-    }
-    if c < 58 {
-        return (c - 48) as u16;
-    }
-    if c < 65 {
-        return NONE;
-    }
-    if c < 71 {
-        return (c - 55) as u16;
-    }
-    if c < 97 {
-        return NONE;
-    }
-    if c < 103 {
-        return (c - 87) as u16;
-    }
-    NONE
-}
-
-// Lists the routes from the ID that two digits stand for. Whether they are digits at all.
-fn list_from(input: &mut impl Read, out: &impl Print, high: u16, low: u16) -> io::Result<bool> {
-    if NONE <= high {
-        return Ok(false);
-    }
-    if NONE <= low {
-        return Ok(false);
-    }
-    list_input(input, out, ((high * 16 + low) % 256) as u8)?;
-    Ok(true)
-}
-
-// How many bytes the one argument has; 0 where there is none, or another behind it, or more bytes than there is room
-// for.
-fn only_word(words: &impl Env, word: &mut [u8]) -> usize
-    ensures { result ≤ length word.new }
+fn digit(c: u8) -> Option<u8>
+    ensures { IfSome result (λ n. n < 16) }
 {
-    let mut more = [0u8; 1];
-    if let Err(FillError::NotPresent) = words.arg(2, &mut more) {
-        if let Ok(count) = words.arg(1, word) {
-            return count;
-        }
+    match c {
+        b'0'..=b'9' => Some(c - b'0'),
+        b'A'..=b'F' => Some(c - b'A' + 10),
+        b'a'..=b'f' => Some(c - b'a' + 10),
+        _ => None,
     }
-    0
+}
+
+// The ID that two hex digits stand for.
+fn id_of(word: &[u8; 2]) -> Option<u8> {
+    let high = digit(word[0])?;
+    let low = digit(word[1])?;
+    Some(high * 16 + low)
 }
 
 fn main(rt: HostRuntime) -> io::Result<()> {
     let mut word = [0u8; 2];
-    if only_word(&rt, &mut word) == 2 {
-        if list_from(&mut rt.stdin(), &rt, digit(word[0]), digit(word[1]))? {
-            return Ok(());
+    if fill::only_word(&rt, &mut word) == Some(2) {
+        if let Some(id) = id_of(&word) {
+            return list_input(&mut rt.stdin(), &rt, id);
         }
     }
     rt.write_all(b"usage: way ID\n")

@@ -5,9 +5,10 @@
 // the descriptor; kind 15 hex is a printed Selector with a Selector's fields. The m bytes lent are each AA. It prints
 // `wrote K` or `refused N at P`, then the lent bytes as `lend` shows them. Numbers of two bytes have the low byte
 // first. A step that is none prints `bad step`, and the program ends.
-ghost use Rattle.std.specs.Prelude.{◌≡◌, ◌≤◌, length};
+ghost use Rattle.std.specs.Prelude.{◌≡◌, ◌≤◌, length, IfOk};
 
 use fields::{Item, Numbers, Span};
+use script::{Steps, Stop};
 use std::io;
 use std::io::Read;
 use writing::{EntityList, Wrote};
@@ -24,79 +25,30 @@ const SLOT: usize = 602;
 // Places for 32 entities, and one for all those behind them, which the writer does not look at.
 const SPACE: usize = 19866;
 
-// An entity that was read, if it was one.
-#[derive(Clone, Copy)]
-struct Entered {
-    good: bool,
-    item: Item,
-}
-
-// A list that was read, if it was one.
-#[derive(Clone, Copy)]
-struct Heard {
-    good: bool,
-    list: EntityList,
-}
-
 // The slot of an entity: the last one for all those behind the 32nd.
 fn slot_of(i: usize) -> usize
     ensures { result ≤ 32 }
 {
-    if i < entities::MOST_ENTITIES {
-        return i;
-    }
-    entities::MOST_ENTITIES
-}
-
-// What a proof needs of a large array is its length, not its bytes.
-fn room_space() -> [u8; ROOM]
-    ensures { length result ≡ 9000 }
-{
-    [marks::MARK; ROOM]
-}
-
-fn number_space() -> [u8; MOST]
-    ensures { length result ≡ 600 }
-{
-    [0u8; MOST]
-}
-
-fn entity_space() -> [u8; SPACE]
-    ensures { length result ≡ 19866 }
-{
-    [0u8; SPACE]
+    i.min(entities::MOST_ENTITIES)
 }
 
 fn say_answer(out: &impl Print, answer: Wrote) -> io::Result<()> {
-    let number = answer.number;
-    let written = answer.written;
-    let place = answer.place;
-    if number == 0 {
-        println!(out; "wrote {written}")
+    if answer.number == 0 {
+        println!(out; "wrote {}", answer.written)
     } else {
-        println!(out; "refused {number} at {place}")
+        println!(out; "refused {} at {}", answer.number, answer.place)
     }
-}
-
-// Fills a buffer from standard input: whether there were bytes enough.
-fn read_into(input: &mut impl Read, buffer: &mut [u8]) -> bool {
-    fill::read_full(input, buffer) == buffer.len()
 }
 
 // A Selector's fields, as those of a printed Selector; no entity where they are none.
 fn printed(item: Item) -> Item {
-    let numbers = item.numbers;
-    let sources = item.sources;
-    let controls = item.controls;
-    if let Numbers::Selector { id, name } = numbers {
-        let numbers = Numbers::Printed { id, name };
-        return Item {
-            numbers,
-            sources,
-            controls,
-        };
+    let Numbers::Selector { id, name } = item.numbers else {
+        return fields::blank();
+    };
+    Item {
+        numbers: Numbers::Printed { id, name },
+        ..item
     }
-    fields::blank()
 }
 
 // The entity that stands in a slot: the reader of fields skips the first two bytes of a descriptor.
@@ -114,40 +66,29 @@ fn entity_in(d: &mut [u8]) -> Item {
 // A part of a slot, as a part of all slots.
 fn moved(span: Span, at: usize) -> Span {
     Span {
-        from: std::num::wrapping_add_usize(span.from, at),
-        end: std::num::wrapping_add_usize(span.end, at),
+        from: span.from.wrapping_add(at),
+        end: span.end.wrapping_add(at),
     }
 }
 
 fn entity_at(d: &mut [u8], at: usize) -> Item {
     let item = entity_in(d);
-    let numbers = item.numbers;
-    let sources = moved(item.sources, at);
-    let controls = moved(item.controls, at);
     Item {
-        numbers,
-        sources,
-        controls,
+        sources: moved(item.sources, at),
+        controls: moved(item.controls, at),
+        ..item
     }
 }
 
-// Reads an entity into a slot, and answers how many bytes it has there; 0 where it is none.
-fn read_entity(input: &mut impl Read, slot: &mut [u8]) -> usize
+// Reads an entity into a slot, and answers how many bytes it has there.
+fn read_entity(input: &mut impl Read, slot: &mut [u8]) -> Result<usize, Stop>
     requires { length slot.old ≡ 602 }
-    ensures { result ≤ 602 }
+    ensures { IfOk result (λ n. n ≤ 602) }
 {
-    if !read_into(input, &mut slot[..2]) {
-        return 0;
-    }
-    let q = scan::word_at(slot, 0) as usize;
-    if MOST < q {
-        return 0;
-    }
-    let end = 2 + q;
-    if !read_into(input, &mut slot[2..end]) {
-        return 0;
-    }
-    end
+    script::read_front(input, slot, 2)?;
+    let count = scan::word_at(slot, 0) as usize;
+    script::read_front(input, &mut slot[2..], count)?;
+    Ok(2 + count)
 }
 
 // Writes a list into the bytes lent, and shows them.
@@ -157,7 +98,7 @@ fn write_into(
     varying: &[u8],
     numbers: &[u8],
     room: &mut [u8],
-) -> io::Result<()> {
+) -> Result<(), Stop> {
     let answer = writing::write(list, varying, numbers, room);
     say_answer(out, answer)?;
     marks::show(out, room)?;
@@ -170,120 +111,80 @@ fn write_with(
     varying: &[u8],
     numbers: &[u8],
     m: usize,
-) -> io::Result<()>
+) -> Result<(), Stop>
     requires { m ≤ 9000 }
 {
-    let mut room = room_space();
+    let mut room = [marks::MARK; ROOM];
     write_into(out, list, varying, numbers, &mut room[..m])
 }
 
-// Reads the next entity into the slot of an index. Whether it was one at all.
-fn read_slot(input: &mut impl Read, bytes: &mut [u8], index: usize) -> Entered
+// Reads the next entity into the slot of an index.
+fn read_slot(input: &mut impl Read, bytes: &mut [u8], index: usize) -> Result<Item, Stop>
     requires bytes_len { length bytes.old ≡ 19866 }
     requires index_bound { index ≤ 32 }
 {
     let at = index * SLOT;
     let end = at + SLOT;
-    let n = read_entity(input, &mut bytes[at..end]);
+    let n = read_entity(input, &mut bytes[at..end])?;
     let stop = at + n;
-    let item = entity_at(&mut bytes[at..stop], at);
-    let good = n != 0;
-    Entered { good, item }
+    Ok(entity_at(&mut bytes[at..stop], at))
 }
 
 // Reads so many entities: the first 32 are kept.
-fn read_list(input: &mut impl Read, count: usize, bytes: &mut [u8]) -> Heard
+fn read_list(input: &mut impl Read, count: usize, bytes: &mut [u8]) -> Result<EntityList, Stop>
     requires { length bytes.old ≡ 19866 }
 {
     let spare = fields::blank();
     let mut items = [spare; 32];
     for i in 0..count {
-        let entered = read_slot(input, bytes, slot_of(i));
-        if !entered.good {
-            let list = EntityList { count, items };
-            return Heard { good: false, list };
-        }
-        let item = entered.item;
+        let item = read_slot(input, bytes, slot_of(i))?;
         if i < entities::MOST_ENTITIES {
             items[i] = item;
         }
     }
-    let list = EntityList { count, items };
-    Heard { good: true, list }
+    Ok(EntityList { count, items })
 }
 
-// Reads so many entities and writes them. Whether it was a step at all.
+// Reads so many entities and writes them.
 fn write_list(
     input: &mut impl Read,
     out: &impl Print,
     count: usize,
     numbers: &[u8],
     m: usize,
-) -> io::Result<bool>
+) -> Result<(), Stop>
     requires { m ≤ 9000 }
 {
-    let mut bytes = entity_space();
-    let heard = read_list(input, count, &mut bytes[..SPACE]);
-    if !heard.good {
-        return Ok(false);
-    }
-    let list = heard.list;
-    write_with(out, list, &bytes[..SPACE], numbers, m)?;
-    Ok(true)
+    let mut bytes = [0u8; SPACE];
+    let list = read_list(input, count, &mut bytes)?;
+    write_with(out, list, &bytes, numbers, m)
 }
 
-// A step with m bytes of room. Whether it was one at all.
-fn read_step(input: &mut impl Read, out: &impl Print, m: usize) -> io::Result<bool> {
-    if ROOM < m {
-        return Ok(false);
-    }
-    let mut counted = [0u8; 2];
-    if !read_into(input, &mut counted) {
-        return Ok(false);
-    }
-    let k = scan::word_at(&counted, 0) as usize;
-    if MOST < k {
-        return Ok(false);
-    }
-    let mut numbers = number_space();
-    if !read_into(input, &mut numbers[..k]) {
-        return Ok(false);
-    }
-    let mut count = [0u8; 1];
-    if !read_into(input, &mut count) {
-        return Ok(false);
-    }
-    write_list(
-        input,
-        out,
-        scan::byte_at(&count, 0) as usize,
-        &numbers[..k],
-        m,
-    )
-}
+#[derive(Drop)]
+struct Writer;
 
-// One step from standard input: whether another may follow. The input's end before a step begins is no step, and
-// nothing is said.
-fn turn(input: &mut impl Read, out: &impl Print) -> io::Result<bool> {
-    let mut opening = [0u8; 2];
-    let got = fill::read_full(input, &mut opening);
-    if got == 0 {
-        return Ok(false);
+impl Steps for Writer {
+    fn step(
+        &mut self,
+        opening: &[u8],
+        input: &mut impl Read,
+        out: &impl Print,
+    ) -> Result<(), Stop> {
+        let m = scan::word_at(opening, 0) as usize;
+        if ROOM < m {
+            return Err(Stop::BadStep);
+        }
+        let mut counted = [0u8; 2];
+        script::read_front(input, &mut counted, 2)?;
+        let k = scan::word_at(&counted, 0) as usize;
+        let mut numbers = [0u8; MOST];
+        script::read_front(input, &mut numbers, k)?;
+        let mut count = [0u8; 1];
+        script::read_front(input, &mut count, 1)?;
+        write_list(input, out, count[0] as usize, &numbers[..k], m)
     }
-    let good = got == 2 && read_step(input, out, scan::word_at(&opening, 0) as usize)?;
-    if !good {
-        out.write_all(b"bad step\n")?;
-    }
-    Ok(good)
 }
 
 fn main(rt: HostRuntime) -> io::Result<()> {
-    let mut input = rt.stdin();
-    // A proved loop has to end, and nothing says that a script does: it counts up to a number that no script comes to.
-    for _ in 0..u64::MAX {
-        if !turn(&mut input, &rt)? {
-            return Ok(());
-        }
-    }
-    Ok(())
+    Writer.run(&mut [0u8; 2], &mut rt.stdin(), &rt)
 }

@@ -1,6 +1,6 @@
 -- By what stands last before the place: a mark, which is passed, another byte, or nothing.
 use borrow.Author.Rules.{rules}
-use Prim.Native.Nat.{ℕ, zero, suc, ◌-◌, ◌≤◌, ◌<◌}
+use Prim.Native.Nat.{ℕ, zero, suc, ◌+◌, ◌-◌, ◌≤◌, ◌<◌}
 use mathlib.Core.Path.{◌≡◌, refl, sym, ◌∙◌}
 use mathlib.Core.List.{List}
 use native.Mathlib.Omega.{arith}
@@ -13,18 +13,20 @@ use Rattle.marks.proofs.before_marks.Invariants.{Come}
 use Rattle.marks.proofs.before_marks.Goals as goal
 
 module _ (s : List ℕ) (end : ℕ) (g : Come s end) where
-  over : end ≤ 0 → BeforeMarks s end
+  over : end ≤ 0 → BeforeMarks s 0
   unfolding before_marks
-  over h = record { same = at end h ∙ g.same; inside = g.inside }
+  over h = record { same = at end h ∙ g.same; inside = omega arith }
     where
-      at : (n : ℕ) → n ≤ 0 → n ≡ before_marks s n
+      at : (n : ℕ) → n ≤ 0 → 0 ≡ before_marks s n
       at zero l = refl
       at (suc n) l = absurd (omega arith)
 
   module _ (h : 0 < end) where
-    turn_other : (byte s (end - 1) ≡ mark → ⊥) → BeforeMarks s end
+    turn_other : (byte s (end - 1) ≡ mark → ⊥) → BeforeMarks s (end - 1 + 1)
     unfolding before_marks
-    turn_other d = record { same = last end h d ∙ g.same; inside = g.inside }
+    turn_other d =
+        let q : end - 1 + 1 ≡ end = omega arith in
+        rw q (record { same = last end h d ∙ g.same; inside = g.inside })
       where
         last : (n : ℕ) → 0 < n → (byte s (n - 1) ≡ mark → ⊥) → n ≡ before_marks s n
         last zero l e = absurd (omega arith)
@@ -40,11 +42,11 @@ module _ (s : List ℕ) (end : ℕ) (g : Come s end) where
 
 ruleset laws = (over, turn_other, turn_mark, rules)
 
-pub returns-then-lent-end : goal.returns-then-lent-end
-returns-then-lent-end c = search laws
+pub returns-then-lent-last : goal.returns-then-lent-last
+returns-then-lent-last c = search laws
 
-pub loop-end-preserved : goal.loop-end-preserved
-loop-end-preserved c = search laws
+pub loop-last-preserved : goal.loop-last-preserved
+loop-last-preserved c = search laws
 
 pub returns : goal.returns
 returns c = search laws

@@ -10,8 +10,5 @@ pub record Come (s : List ℕ) (end : ℕ) : Type 0 where
   pub inside : end ≤ length s
   pub same : before_marks s end ≡ before_marks s (length s)
 
-abbrev pub invariant-loop-end : goal.invariant-loop-end
-invariant-loop-end l = Come l.lent l.end
-
-abbrev pub decreases-loop-end : goal.decreases-loop-end
-decreases-loop-end l = l.end
+abbrev pub invariant-loop-last : goal.invariant-loop-last
+invariant-loop-last l = Come l.lent l.last
