@@ -120,7 +120,10 @@ def holder(kind, what):
     names = re.findall(r"\w+", re.sub(r"<[^>]*>", "", what.split(" where ")[0]))
     if kind == "impl" and "for" in names:
         at = names.index("for")
-        return names[-1] + names[at - 1]
+        # what the trait is of stands behind it: `impl From<io::Error> for Stop` is StopFromIoError
+        of = re.search(r"\w\s*<([^<>]*)>\s*for\b", what)
+        words = re.findall(r"(?<!')\b[A-Za-z]\w*", of.group(1)) if of else []
+        return names[-1] + names[at - 1] + "".join(word[0].upper() + word[1:] for word in words)
     return (names[0] if kind == "trait" else names[-1]) if names else ""
 
 
@@ -186,6 +189,16 @@ def derived(crate):
         for traits, name in re.findall(r"#\[derive\(([^)]*)\)\]\s*(?:#\[[^]]*\]\s*)*(?:pub\s+)?(?:struct|enum)\s+(\w+)", text):
             found.update(module_of(crate, file) + name + trait + "::" for trait in re.findall(r"\w+", traits))
     return found
+
+
+def trait_impls(crate):
+    """The beginnings of the names of what impls of traits hold, which have the traits' own methods besides those that they write."""
+    return {
+        module_of(crate, file) + holder("impl", head["what"]) + "::"
+        for file in code_files(crate)
+        for head in HEAD.finditer(bare_code(file.read_text()))
+        if head["holds"] == "impl" and re.search(r"\bfor\b", head["what"])
+    }
 
 
 def crate_functions(crate):
