@@ -192,7 +192,7 @@ def derived(crate):
 
 
 def trait_impls(crate):
-    """The beginnings of the names of what impls of traits hold, which have the traits' own methods besides those that they write."""
+    """The beginnings of the names of what impls of traits hold: a trait's own methods too, which no file of src/ has."""
     return {
         module_of(crate, file) + holder("impl", head["what"]) + "::"
         for file in code_files(crate)
