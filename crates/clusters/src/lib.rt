@@ -15,7 +15,7 @@ pub fn check_clusters(config: &[u8], run: Run, given: Given) -> Option<usize>
 {
     let n = entities::count(run);
     for node in &run.nodes[..n] {
-        if !keeping::kept(config, *node, &given) {
+        if !keeping::kept(config, *node, &given.channels, &given.locations) {
             return Some(node.place);
         }
     }

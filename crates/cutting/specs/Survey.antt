@@ -4,16 +4,17 @@
 --   run_judged s f r         ==  the first of 8, 9 and 17 that applies, with its place; r where none does
 --   verdict s               ==  the first of 1 to 9 and 17 that applies, with its place; 0 and 0 where none does
 --   verdict_then s r         ==  the same, with r where none applies
---   surveyed s f            ==  the survey: the AudioControl number, the header's place and the entities
---   survey_of s              ==  the survey of s; it tells what stands in s where the verdict refuses nothing
+--   surveyed s f            ==  the survey where nothing is refused: the AudioControl number, the header's place and the entities
+--   no_survey               ==  the survey of what is refused: interface number 0 and no entity
+--   survey_of s              ==  the survey of s: surveyed, or none where the verdict refuses s
 -- In the order of the reader's steps:
 --   unlaid_refused s p u     ==  the refusal by rules 9 and 17 of the descriptors from place p on, of which the first that has none of the layouts stands
 --                               at u, if any does: only then the two are told apart
 --   run_refused s p n u h    ==  the same with rule 8, of n descriptors, the header at h
 --   run_survey s f           ==  the survey of a configuration s that keeps the rules 1 to 7, or what 8, 9 and 17 refuse
-use Rattle.std.specs.Prelude.{ℕ, ◌+◌, List, length, take, Result, Option, Some, None}
+use Rattle.std.specs.Prelude.{ℕ, ◌+◌, List, [], length, take, eqb, Result, Option, Some, None}
 use Rattle.ground.specs.declared.Refusal.{Refusal}
-use Rattle.ground.specs.Pick.{within}
+use Rattle.ground.specs.Pick.{pick, within}
 use Rattle.ground.specs.Numbers.{byte}
 use Rattle.ground.specs.Refuse.{none, refuse, kept_at}
 use Rattle.ground.specs.Told.{told}
@@ -61,5 +62,8 @@ run_refused s p count unlaid header = refuse 8 (kept_at (within 1 count most_ent
 unfoldable pub run_survey : List ℕ → Frame → Result Survey Refusal
 run_survey s f = told (run_judged s f none) (surveyed s f)
 
+unfoldable pub no_survey : Survey
+no_survey = record { control = 0; header = 0; run = run_in audio 0 [] }
+
 unfoldable pub survey_of : List ℕ → Survey
-survey_of s = surveyed s (frame_of s)
+survey_of s = pick (eqb (verdict s).number 0) (surveyed s (frame_of s)) no_survey

@@ -51,7 +51,7 @@ module _ (s : List ℕ) (k : Kept s) where
 
   pub survey_kept : survey_of s ≡ kept_survey k
   unfolding survey_of
-  survey_kept = surveyed_kept
+  survey_kept = yes _ _ (eq-eqb _ _ (ap (λ (r : Refusal). r.number) ((verdict_kept s).1 k))) ∙ surveyed_kept
 
   abbrev pub behind : List (List ℕ)
   behind = k.rule6.later ++ k.rule6.after
