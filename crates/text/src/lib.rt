@@ -1,7 +1,7 @@
 #![tactic(auto)]
 // Bytes as text, for the programs.
-ghost use Rattle.std.specs.Prelude.{◌≡◌, ◌<◌};
-ghost use Rattle.text.specs.Hex.{digit_of, hex_pair};
+ghost use Rattle.std.specs.Prelude.{◌≡◌, ◌<◌, Some};
+ghost use Rattle.text.specs.Hex.{digit_of, hex_pair, hex_behind, hex_line};
 
 use std::fmt;
 
@@ -30,6 +30,8 @@ pub fn hex_pair(b: u8) -> [u8; 2]
 pub struct Hex(pub u8);
 
 impl fmt::Display for Hex {
+    ghost output = { λ h. Some (hex_pair h.0) };
+
     fn fmt<W: fmt::Write>(&self, f: &mut fmt::Formatter<W>) -> fmt::Result {
         let [high, low] = hex_pair(self.0);
         write!(f, "{}{}", char::from(high), char::from(low))
@@ -41,6 +43,8 @@ impl fmt::Display for Hex {
 pub struct HexBehind<'a>(pub &'a [u8]);
 
 impl<'a> fmt::Display for HexBehind<'a> {
+    ghost output = { λ h. Some (hex_behind h.0.now) };
+
     fn fmt<W: fmt::Write>(&self, f: &mut fmt::Formatter<W>) -> fmt::Result {
         for b in self.0 {
             write!(f, " {}", Hex(*b))?;
@@ -54,6 +58,8 @@ impl<'a> fmt::Display for HexBehind<'a> {
 pub struct HexLine<'a>(pub &'a [u8]);
 
 impl<'a> fmt::Display for HexLine<'a> {
+    ghost output = { λ h. Some (hex_line h.0.now) };
+
     fn fmt<W: fmt::Write>(&self, f: &mut fmt::Formatter<W>) -> fmt::Result {
         let Some((first, rest)) = self.0.split_first() else {
             return Ok(());

@@ -1,9 +1,13 @@
--- No more is read than there is room for; each time round something is.
-use Rattle.std.proofs.Common.{◌-◌, ◌≤◌, length}
+-- No more is read than there is room for, and what was read was taken off what the input had left; each time round
+-- something is.
+use Rattle.std.proofs.Common.{◌-◌, ◌≤◌, length, take}
+use Rattle.std.specs.Io.KnownBytes.{Consumes}
 use Rattle.fill.proofs.read_full.Given as goal
 
 abbrev pub invariant-loop-done : goal.invariant-loop-done
-invariant-loop-done g l = l.done ≤ length l.buffer
+invariant-loop-done g l =
+    (l.done ≤ length l.buffer)
+    × Consumes (g.R.Read.remaining l.initial.input) (g.R.Read.remaining l.input) (take l.done l.buffer)
 
 abbrev pub decreases-loop-done : goal.decreases-loop-done
 decreases-loop-done g l = length l.buffer - l.done
