@@ -1,7 +1,9 @@
 #![tactic(auto)]
-// What the programs `relay` and `duet` read and show alike: the controls of a put step, a request's answer, a table of controls. What it promises: which
-// table is given, and how many controls it showed. What is printed is in no contract.
-ghost use Rattle.std.specs.Prelude.{◌≡◌, IfOk};
+// What the programs `relay` and `duet` read and show alike: the controls of a put step, a request's answer, a table of
+// controls. What it promises: which table is given, how many controls it showed, and what an answer prints. What is shown
+// of a table is in no contract.
+ghost use Rattle.std.specs.Prelude.{◌≡◌, Some, IfOk};
+ghost use Rattle.listing.specs.Answer.{answer_text};
 ghost use Rattle.listing.specs.Given.{control_of, filled};
 ghost use Rattle.listing.specs.Listing.{lines_of};
 
@@ -53,6 +55,8 @@ pub struct Answered<'a> {
 }
 
 impl<'a> fmt::Display for Answered<'a> {
+    ghost output = { λ a. Some (answer_text a.number a.is_get a.reply.now) };
+
     fn fmt<W: fmt::Write>(&self, f: &mut fmt::Formatter<W>) -> fmt::Result {
         if self.number != 0 {
             write!(f, "refused {}", self.number)
