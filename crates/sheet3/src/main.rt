@@ -12,9 +12,6 @@ const ROOM: usize = 4097;
 // for a whole one.
 const CLUSTERS: usize = 8192;
 
-// One byte more: a longer file reads as that long.
-const CLUSTER_ROOM: usize = CLUSTERS + 1;
-
 // The bytes of the lent sheet.
 const SHEET: usize = 1024;
 
@@ -40,9 +37,9 @@ fn read_input(input: &mut impl Read, out: &impl Print, clusters: &[u8]) -> io::R
 }
 
 fn main(rt: HostRuntime) -> io::Result<()> {
-    let mut clusters = [0u8; CLUSTER_ROOM];
-    match fill::read_file(&rt, "clusters", &mut clusters) {
-        Some(n) if n <= CLUSTERS => read_input(&mut rt.stdin(), &rt, &clusters[..n]),
-        _ => rt.write_all(b"cannot read clusters\n"),
+    let mut clusters = [0u8; CLUSTERS];
+    match fill::read_whole(&rt, "clusters", &mut clusters) {
+        Some(n) => read_input(&mut rt.stdin(), &rt, &clusters[..n]),
+        None => rt.write_all(b"cannot read clusters\n"),
     }
 }
