@@ -11,10 +11,13 @@ ROOT = pathlib.Path(__file__).resolve().parent.parent
 
 class Function(NamedTuple):
     path: str  # the modules and the type that it stands in, then its name, as Cursor::step
-    public: bool
+    public: bool  # by its own `pub`, or as a method of a public trait
+    by: str  # the trait, where it stands in an `impl Trait for Type`: what it promises is that trait's
+    proved: bool  # whether it has a body
+    closures: frozenset  # the names of the closures in it: the call that each is passed to, or the local that it is
     requires: list  # the text of each clause, with "* " in front of one that speaks of memory (`ensures*`)
     ensures: list
-    lent: list  # the names of its parameters that are a &mut of a value
+    lent: list  # the names of its parameters that are a &mut of a value, `self` too
     answers: bool  # whether it has a result
     line: int
     spans: list  # where the text of its clauses stands
@@ -115,10 +118,20 @@ HEAD = re.compile(
 )
 
 
+def trait_of(kind, what):
+    """The trait, where what holds functions is an impl of one, or ""."""
+    names = names_of(what) if kind == "impl" else []
+    return names[names.index("for") - 1] if "for" in names else ""
+
+
+def names_of(what):
+    return re.findall(r"\w+", re.sub(r"<[^>]*>", "", what.split(" where ")[0]))
+
+
 def holder(kind, what):
     """The name that the prover has for what holds functions: of a trait's impl the type's, and the trait's behind it."""
-    names = re.findall(r"\w+", re.sub(r"<[^>]*>", "", what.split(" where ")[0]))
-    if kind == "impl" and "for" in names:
+    names = names_of(what)
+    if trait_of(kind, what):
         at = names.index("for")
         # what the trait is of stands behind it: `impl From<io::Error> for Stop` is StopFromIoError
         of = re.search(r"\w\s*<([^<>]*)>\s*for\b", what)
@@ -141,7 +154,7 @@ def behind_generics(text, at):
 
 
 def functions(text):
-    """The functions that a bare file of code has a body of."""
+    """The functions of a bare file of code; a trait's methods too, which may have no body."""
     found, inside, at = [], [], 0
     while head := HEAD.search(text, at):
         at = head.end()
@@ -151,27 +164,58 @@ def functions(text):
         elif head["open"]:
             at = behind(text, head.start())
         elif head["holds"]:
-            inside.append(holder(head["holds"], head["what"]))
+            shown = head["holds"] == "trait" and re.search(r"\bpub\b\s*(?:\([^)]*\)\s*)?$", text[:head.start()])
+            inside.append((holder(head["holds"], head["what"]), bool(shown), trait_of(head["holds"], head["what"])))
         else:
             params = text.index("(", behind_generics(text, at))
             at = behind(text, params)
             result, clauses, body = clauses_from(text, at)
-            if body is None:
-                continue
-            path = "::".join([name for name in inside if name] + [head["name"]])
-            found.append(function_at(text, head, path, text[params:at], result, clauses))
-            at = behind(text, body)
+            end = at if body is None else behind(text, body)
+            body = None if body is None else text[body:end]
+            held = Held([name for name, _, _ in inside if name], *(inside[-1][1:] if inside else (False, "")))
+            found.append(function_at(text, head, held, text[params:at], result, clauses, body))
+            at = end
     return found
 
 
-def function_at(text, head, path, params, result, clauses):
+class Held(NamedTuple):
+    """What a function stands in: its names, whether it is a public trait, and the trait that it is an impl of."""
+    names: list
+    shown: bool
+    by: str
+
+
+def function_at(text, head, held, params, result, clauses, body):
     said = {kind: [f"{star} {folded(text[a:z])}".strip() for a, z, star in places] for kind, places in clauses.items()}
     # a reader or a writer is lent too, but what comes of it stands in no contract
     lent = re.findall(r"(\w+)\s*:\s*&\s*(?:'\w+\s+)?mut\b(?!\s+(?:impl|dyn)\b)", params)
-    line = text.count("\n", 0, head.start()) + 1
-    spans = [place[:2] for places in clauses.values() for place in places]
-    public, answers = bool(head["public"]), result.startswith("->")
-    return Function(path, public, said["requires"], said["ensures"], lent, answers, line, spans)
+    if re.match(r"\(\s*&\s*(?:'\w+\s+)?mut\s+self\b", params):
+        lent.append("self")
+    return Function(
+        path="::".join([*held.names, head["name"]]),
+        public=bool(head["public"]) or held.shown,
+        by=held.by,
+        proved=body is not None,
+        closures=frozenset(closures_in(body or "")),
+        requires=said["requires"],
+        ensures=said["ensures"],
+        lent=lent,
+        answers=result.startswith("->"),
+        line=text.count("\n", 0, head.start()) + 1,
+        spans=[place[:2] for places in clauses.values() for place in places],
+    )
+
+
+def closures_in(body):
+    """The names that the prover has for the closures of a body: what each is passed to, or the local that it is."""
+    # a `|` that opens a closure stands where a value does; one between two values is the operator, or a pattern's
+    for opened in re.finditer(r"([(,=]|\bmove|\breturn)\s*\|", body):
+        depth, at = 0, opened.start()
+        while at >= 0 and not (depth == 0 and body[at] in "(=") and body[at] not in ";{}":
+            depth += (body[at] in ")]") - (body[at] in "([" and depth > 0)
+            at -= 1
+        if called := re.search(r"(\w+)\s*(?:::\s*<[^()]*>\s*)?$|\blet\s+(?:mut\s+)?(\w+)[^=;]*$", body[:max(at, 0)]):
+            yield called.group(1) or called.group(2)
 
 
 def module_of(crate, file):
@@ -191,14 +235,43 @@ def derived(crate):
     return found
 
 
+# Methods of the library's traits that have a body there, so that the prover names them at each type that has the trait
+LIBRARY_OWN = {"Iterator": {"size_hint"}}
+
+
+class Impl(NamedTuple):
+    name: str  # the name that the prover has for it, with the modules that it stands in, as StopFromIoError
+    trait: str
+    ghosts: frozenset  # the ghost members that it gives
+    methods: frozenset  # the methods that it gives, as words of its text alone
+    line: int
+
+
 def trait_impls(crate):
-    """The beginnings of the names of what impls of traits hold: a trait's own methods too, which no file of src/ has."""
-    return {
-        module_of(crate, file) + holder("impl", head["what"]) + "::"
-        for file in code_files(crate)
-        for head in HEAD.finditer(bare_code(file.read_text()))
-        if head["holds"] == "impl" and re.search(r"\bfor\b", head["what"])
-    }
+    """Each impl of a trait with the file that has it."""
+    for file in code_files(crate):
+        text = bare_code(file.read_text())
+        for head in HEAD.finditer(text):
+            if head["holds"] and (trait := trait_of(head["holds"], head["what"])):
+                inside = text[head.end():behind(text, head.end() - 1)]
+                name = module_of(crate, file) + holder("impl", head["what"])
+                ghosts, methods = (frozenset(re.findall(rf"\b{word}\s+(\w+)", inside)) for word in ("ghost", "fn"))
+                yield file, Impl(name, trait, ghosts, methods, text.count("\n", 0, head.start()) + 1)
+
+
+def trait_own():
+    """Of each trait its own methods: those with a body in it, which a type may go without, but not the final ones."""
+    found = {trait: set(names) for trait, names in LIBRARY_OWN.items()}
+    for crate in crates():
+        for file in code_files(crate):
+            text = bare_code(file.read_text())
+            for head in HEAD.finditer(text):
+                if head["holds"] == "trait":
+                    inside = text[head.end():behind(text, head.end() - 1) - 1]
+                    final = set(re.findall(r"\bfinal\s+fn\s+(\w+)", inside))
+                    own = {one.path for one in functions(inside) if one.proved} - final
+                    found.setdefault(holder("trait", head["what"]), set()).update(own)
+    return found
 
 
 def crate_functions(crate):

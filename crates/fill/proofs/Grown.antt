@@ -1,5 +1,5 @@
 -- What comes of a read into the part of a buffer that is not yet filled.
---   front_grows  ==  of the buffer with the part put back, the front is what was the front, and behind it what was read into the part
+--   front_grows  ==  in the buffer with the part put back, the front is the old front, and behind it what was read
 use Rattle.std.proofs.Common.{◌≡◌, ℕ, ◌+◌, ◌-◌, ◌≤◌, List, ◌++◌, length, take, sym, ap, ◌∙◌}
 use Rattle.std.proofs.lemmas.List.{length-take-le, take-append-le}
 use lib.Seq.{take-append-add}

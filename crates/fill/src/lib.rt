@@ -1,6 +1,6 @@
 #![tactic(auto)]
-// Input of which a program asks for so many bytes, for the programs. Where a reader knows which bytes it has left, the contracts say
-// which of them were read; of what knows them not, as a file, they say how many bytes fit.
+// Input of which a program asks for so many bytes, for the programs. Where a reader knows which bytes it has left, the
+// contracts say which of them were read; of what knows them not, as a file, they say how many bytes fit.
 ghost use Rattle.std.specs.Prelude.{◌≡◌, ◌≤◌, true, length, take, IfSome};
 ghost use Rattle.std.specs.Io.KnownBytes.{Consumes, IsAtEnd, Keeps};
 
@@ -35,17 +35,19 @@ pub fn read_full<R: Read>(input: &mut R, buffer: &mut [u8]) -> usize
 
 // Whether nothing is left to read. Where a read before this one failed, this one fails too, or brings what was left.
 fn is_over<R: Read>(input: &mut R) -> bool
-    ensures { result ≡ true → Keeps (R.remaining input.old) (R.remaining input.new) × IsAtEnd (R.remaining input.new) }
+    ensures { result ≡ true
+        → Keeps (R.remaining input.old) (R.remaining input.new) × IsAtEnd (R.remaining input.new) }
 {
     let mut more = [0u8; 1];
     matches!(input.read(&mut more), Ok(0))
 }
 
-// Everything that is left to read: how many bytes, or nothing where there is no room for all of them, or a read fails. It
-// asks whether nothing is left where the room is full too.
+// Everything that is left to read: how many bytes, or nothing where there is no room for all of them, or a read fails.
+// Where the room is full it asks too whether nothing is left.
 fn read_all<R: Read>(input: &mut R, room: &mut [u8]) -> Option<usize>
     ensures within { IfSome result (λ count. count ≤ length room.new) }
-    ensures all { IfSome result (λ count. Consumes (R.remaining input.old) (R.remaining input.new) (take count room.new)) }
+    ensures all { IfSome result
+        (λ count. Consumes (R.remaining input.old) (R.remaining input.new) (take count room.new)) }
     ensures end { IfSome result (λ _. IsAtEnd (R.remaining input.new)) }
 {
     let count = read_full(input, room);

@@ -1,7 +1,7 @@
 #![tactic(auto)]
-// A script on standard input, for the programs: steps one after another, each with an opening of so many bytes, and what
-// the opening says that follows. Where a reader knows which bytes it has left, the contracts say which were read; what is
-// printed is in no contract.
+// A script on standard input, for the programs: steps one after another, each with an opening of so many bytes, and
+// what the opening says that follows. Where a reader knows which bytes it has left, the contracts say which were read;
+// what is printed is in no contract.
 ghost use Rattle.std.specs.Prelude.{◌≡◌, ◌≤◌, ◌<◌, [], length, take, Some, Ok, IfSome, IfOk, OnErr};
 ghost use Rattle.std.specs.Io.KnownBytes.{Consumes};
 ghost use Rattle.script.specs.declared.Stop.TheVariants.{Failed};
@@ -27,7 +27,8 @@ impl From<io::Error> for Stop {
 // Reads so many bytes into the front of a room. It is a bad step where there is no room for so many, or fewer come.
 pub fn read_front<R: Read>(input: &mut R, room: &mut [u8], count: usize) -> Result<(), Stop>
     ensures fits { IfOk result (λ _. count ≤ length room.new) }
-    ensures taken { IfOk result (λ _. Consumes (R.remaining input.old) (R.remaining input.new) (take count room.new)) }
+    ensures taken { IfOk result
+        (λ _. Consumes (R.remaining input.old) (R.remaining input.new) (take count room.new)) }
 {
     if room.len() < count || fill::read_full(input, &mut room[..count]) < count {
         return Err(Stop::BadStep);
@@ -50,8 +51,10 @@ pub trait Steps {
         input: &mut R,
         out: &impl Print,
     ) -> io::Result<()>
-        ensures none { R.remaining input.old ≡ Some [] → (result ≡ Ok tt) × (self.new ≡ self.old) × (R.remaining input.new ≡ Some []) }
-        ensures short { IfSome (R.remaining input.old) (λ left. length left < length opening.new → self.new ≡ self.old) }
+        ensures none { R.remaining input.old ≡ Some []
+            → (result ≡ Ok tt) × (self.new ≡ self.old) × (R.remaining input.new ≡ Some []) }
+        ensures short { IfSome (R.remaining input.old)
+            (λ left. length left < length opening.new → self.new ≡ self.old) }
     {
         // A proved loop has to end, and nothing says that a script does: it counts up to a number that no script
         // comes to.

@@ -1,4 +1,4 @@
--- Where the input is known to hold fewer bytes than an opening, or none, nothing is done at all: no round is gone through to its end.
+-- Where the input is known to hold fewer bytes than an opening, or none, no round is gone through to its end.
 use Rattle.std.proofs.Common.{◌≡◌, ◌≤◌, ◌-◌, ℕ, List, length, Some}
 use Rattle.script.proofs.Steps.run.Given as goal
 
