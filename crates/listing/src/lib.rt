@@ -40,8 +40,10 @@ pub fn table_of(given: &[u8], count: u8) -> Table
     // Stays: by index and not by `chunks_exact`, since `filled` says of each index where its control stands.
     for i in 0..count as usize {
         let at = i * GIVEN;
-        let next = table::put(table, i, control_of(scan::stretch(given, at, at + GIVEN)));
-        table = next;
+        // a table that `table::put` hands on is copied for each control, and past the last place it puts nothing
+        if i < table::CONTROLS {
+            table.controls[i] = control_of(scan::stretch(given, at, at + GIVEN));
+        }
     }
     table
 }
