@@ -14,6 +14,7 @@ class Function(NamedTuple):
     public: bool  # by its own `pub`, or as a method of a public trait
     by: str  # the trait, where it stands in an `impl Trait for Type`: what it promises is that trait's
     proved: bool  # whether it has a body
+    tested: bool  # whether it stands in a `#[cfg(test)]` module: a test, or what tests are made of
     closures: frozenset  # the names of the closures in it: the call that each is passed to, or the local that it is
     requires: list  # the text of each clause, with "* " in front of one that speaks of memory (`ensures*`)
     ensures: list
@@ -131,6 +132,9 @@ def names_of(what):
 def holder(kind, what):
     """The name that the prover has for what holds functions: of a trait's impl the type's, and the trait's behind it."""
     names = names_of(what)
+    # of an impl for every type that has a bound, `impl<S: WholeSteps> Steps for S`, it is AnySteps
+    if names and trait_of(kind, what) and re.match(rf"\s*<(?:[^<>]*,)?\s*{names[-1]}\s*[:,>]", what):
+        names[-1] = "Any"
     if trait_of(kind, what):
         at = names.index("for")
         # what the trait is of stands behind it: `impl From<io::Error> for Stop` is StopFromIoError
@@ -178,6 +182,12 @@ def functions(text):
     return found
 
 
+def in_tests(text, at):
+    """Whether a place of a bare file of code stands in a module of tests."""
+    opened = re.finditer(r"#\[cfg\(test\)\]\s*mod\s+\w+\s*\{", text[:at])
+    return any(at < behind(text, module.end() - 1) for module in opened)
+
+
 class Held(NamedTuple):
     """What a function stands in: its names, whether it is a public trait, and the trait that it is an impl of."""
     names: list
@@ -196,6 +206,7 @@ def function_at(text, head, held, params, result, clauses, body):
         public=bool(head["public"]) or held.shown,
         by=held.by,
         proved=body is not None,
+        tested=in_tests(text, head.start()),
         closures=frozenset(closures_in(body or "")),
         requires=said["requires"],
         ensures=said["ensures"],
@@ -244,6 +255,7 @@ class Impl(NamedTuple):
     trait: str
     ghosts: frozenset  # the ghost members that it gives
     methods: frozenset  # the methods that it gives, as words of its text alone
+    tested: bool  # whether it stands in a `#[cfg(test)]` module
     line: int
 
 
@@ -256,7 +268,8 @@ def trait_impls(crate):
                 inside = text[head.end():behind(text, head.end() - 1)]
                 name = module_of(crate, file) + holder("impl", head["what"])
                 ghosts, methods = (frozenset(re.findall(rf"\b{word}\s+(\w+)", inside)) for word in ("ghost", "fn"))
-                yield file, Impl(name, trait, ghosts, methods, text.count("\n", 0, head.start()) + 1)
+                tested = in_tests(text, head.start())
+                yield file, Impl(name, trait, ghosts, methods, tested, text.count("\n", 0, head.start()) + 1)
 
 
 def trait_own():
