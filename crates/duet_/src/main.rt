@@ -2,6 +2,8 @@
 // The program `duet`: the duet box over a script of steps from standard input, each a kind byte, a two-byte length n,
 // low byte first, and n bytes. Each step prints its answer; a step that is none prints `bad step`, and the program
 // ends.
+ghost use Rattle.std.specs.Prelude.{◌≡◌, OnErr};
+
 use duet::{Duet, Socket};
 use listing::Answered;
 use request::State;
@@ -239,6 +241,8 @@ struct DuetBox {
 }
 
 impl Steps for DuetBox {
+    ghost step_gives = { λ old result new. OnErr result (new ≡ old) };
+
     fn step(
         &mut self,
         opening: &[u8],

@@ -3,6 +3,8 @@
 // m, two bytes n, low byte first, and n bytes: a configuration, read with m bytes lent, each of them AA. It prints the
 // answer, then the lent bytes, sixteen to a line, up to the last that is not AA, then how many stand behind it. A step
 // that is none prints `bad step`, and the program ends.
+ghost use Rattle.std.specs.Prelude.{◌≡◌, OnErr};
+
 use script::{Steps, Stop};
 use std::io;
 use std::io::Read;
@@ -44,6 +46,8 @@ fn read_with(out: &impl Print, m: usize, config: &[u8]) -> Result<(), Stop> {
 struct Lend;
 
 impl Steps for Lend {
+    ghost step_gives = { λ old result new. OnErr result (new ≡ old) };
+
     fn step(
         &mut self,
         opening: &[u8],

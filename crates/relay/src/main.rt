@@ -2,6 +2,8 @@
 // The program `relay`: the box over a script of steps from standard input, each a kind byte, a two-byte length n, low
 // byte first, and n bytes. Each step prints its answer on a line of its own; a step that is none prints `bad step`, and
 // the program ends.
+ghost use Rattle.std.specs.Prelude.{◌≡◌, OnErr};
+
 use listing::Answered;
 use request::State;
 use script::{Steps, Stop};
@@ -129,6 +131,8 @@ struct Relay {
 }
 
 impl Steps for Relay {
+    ghost step_gives = { λ old result new. OnErr result (new ≡ old) };
+
     fn step(
         &mut self,
         opening: &[u8],

@@ -5,7 +5,7 @@
 // the descriptor; kind 15 hex is a printed Selector with a Selector's fields. The m bytes lent are each AA. It prints
 // `wrote K` or `refused N at P`, then the lent bytes as `lend` shows them. Numbers of two bytes have the low byte
 // first. A step that is none prints `bad step`, and the program ends.
-ghost use Rattle.std.specs.Prelude.{◌≡◌, ◌≤◌, length, IfOk};
+ghost use Rattle.std.specs.Prelude.{◌≡◌, ◌≤◌, length, IfOk, OnErr};
 
 use fields::{Item, Numbers, Span};
 use script::{Steps, Stop};
@@ -164,6 +164,8 @@ fn write_list(
 struct Writer;
 
 impl Steps for Writer {
+    ghost step_gives = { λ old result new. OnErr result (new ≡ old) };
+
     fn step(
         &mut self,
         opening: &[u8],
