@@ -2,7 +2,7 @@
 // The program `duet`: the duet box over a script of steps from standard input, each a kind byte, a two-byte length n,
 // low byte first, and n bytes. Each step prints its answer; a step that is none prints `bad step`, and the program
 // ends.
-ghost use Rattle.std.specs.Prelude.{◌≡◌, OnErr};
+ghost use Rattle.script.specs.Whole.{KeepsOnErr};
 
 use duet::{Duet, Socket};
 use listing::Answered;
@@ -241,7 +241,7 @@ struct DuetBox {
 }
 
 impl Steps for DuetBox {
-    ghost step_gives = { λ old result new. OnErr result (new ≡ old) };
+    ghost step_gives = { KeepsOnErr };
 
     fn step(
         &mut self,

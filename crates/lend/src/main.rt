@@ -3,7 +3,7 @@
 // m, two bytes n, low byte first, and n bytes: a configuration, read with m bytes lent, each of them AA. It prints the
 // answer, then the lent bytes, sixteen to a line, up to the last that is not AA, then how many stand behind it. A step
 // that is none prints `bad step`, and the program ends.
-ghost use Rattle.std.specs.Prelude.{◌≡◌, OnErr};
+ghost use Rattle.script.specs.Whole.{KeepsOnErr};
 
 use script::{Steps, Stop};
 use std::io;
@@ -46,7 +46,7 @@ fn read_with(out: &impl Print, m: usize, config: &[u8]) -> Result<(), Stop> {
 struct Lend;
 
 impl Steps for Lend {
-    ghost step_gives = { λ old result new. OnErr result (new ≡ old) };
+    ghost step_gives = { KeepsOnErr };
 
     fn step(
         &mut self,

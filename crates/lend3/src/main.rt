@@ -4,7 +4,7 @@
 // a configuration, and k bytes: the cluster buffer. It is read with m bytes lent, each of them AA. It prints
 // `accepted`, how many entities there are, or `refused N at P`, then the lent bytes as `lend` shows them. A step that
 // is none prints `bad step`, and the program ends.
-ghost use Rattle.std.specs.Prelude.{◌≡◌, OnErr};
+ghost use Rattle.script.specs.Whole.{KeepsOnErr};
 
 use script::{Steps, Stop};
 use std::io;
@@ -63,7 +63,7 @@ fn read_clusters(
 struct Lend3;
 
 impl Steps for Lend3 {
-    ghost step_gives = { λ old result new. OnErr result (new ≡ old) };
+    ghost step_gives = { KeepsOnErr };
 
     fn step(
         &mut self,

@@ -2,7 +2,7 @@
 // The program `relay`: the box over a script of steps from standard input, each a kind byte, a two-byte length n, low
 // byte first, and n bytes. Each step prints its answer on a line of its own; a step that is none prints `bad step`, and
 // the program ends.
-ghost use Rattle.std.specs.Prelude.{◌≡◌, OnErr};
+ghost use Rattle.script.specs.Whole.{KeepsOnErr};
 
 use listing::Answered;
 use request::State;
@@ -131,7 +131,7 @@ struct Relay {
 }
 
 impl Steps for Relay {
-    ghost step_gives = { λ old result new. OnErr result (new ≡ old) };
+    ghost step_gives = { KeepsOnErr };
 
     fn step(
         &mut self,

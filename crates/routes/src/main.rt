@@ -3,7 +3,7 @@
 // Terminal; two bytes m and two bytes n, low byte first; and n bytes, a configuration, whose routes are listed with m
 // bytes lent, each of them AA. It prints `routes R K`, or `refused N at P` where the reader refuses, or `refused N`;
 // then the lent bytes as `lend` shows them. A step that is none prints `bad step`, and the program ends.
-ghost use Rattle.std.specs.Prelude.{◌≡◌, OnErr};
+ghost use Rattle.script.specs.Whole.{KeepsOnErr};
 
 use script::{Steps, Stop};
 use std::io;
@@ -45,7 +45,7 @@ fn list_with(out: &impl Print, id: u8, m: usize, config: &[u8]) -> Result<(), St
 struct Routes;
 
 impl Steps for Routes {
-    ghost step_gives = { λ old result new. OnErr result (new ≡ old) };
+    ghost step_gives = { KeepsOnErr };
 
     fn step(
         &mut self,

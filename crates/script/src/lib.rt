@@ -4,6 +4,7 @@
 // what is printed is in no contract.
 ghost use Rattle.std.specs.Prelude.{◌≡◌, ◌≤◌, ◌<◌, [], ⊤, length, take, Result, Some, Ok, IfSome, IfOk, OnErr};
 ghost use Rattle.std.specs.Io.KnownBytes.{Consumes};
+ghost use Rattle.script.specs.Whole.{KeepsOnErr};
 ghost use Rattle.script.specs.declared.Stop.{Stop};
 ghost use Rattle.script.specs.declared.Stop.TheVariants.{Failed};
 
@@ -87,7 +88,7 @@ pub trait WholeSteps {
 }
 
 impl<S: WholeSteps> Steps for S {
-    ghost step_gives = { λ old result new. OnErr result (new ≡ old) };
+    ghost step_gives = { KeepsOnErr };
 
     fn step(
         &mut self,

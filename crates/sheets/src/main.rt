@@ -4,7 +4,7 @@
 // it prints what `compare` prints of the two, then `end`. Kinds 02 and 03 are two bytes m and a sheet, moved to the new
 // and to the old form into m bytes lent, each of them AA: it prints `moved K` or `refused N`, then the lent bytes as
 // `lend` shows them. A step that is none prints `bad step`, and the program ends.
-ghost use Rattle.std.specs.Prelude.{◌≡◌, OnErr};
+ghost use Rattle.script.specs.Whole.{KeepsOnErr};
 
 use legal::Form;
 use mover::Moved;
@@ -65,7 +65,7 @@ fn step(out: &impl Print, kind: u8, body: &[u8]) -> Result<(), Stop> {
 struct Sheets;
 
 impl Steps for Sheets {
-    ghost step_gives = { λ old result new. OnErr result (new ≡ old) };
+    ghost step_gives = { KeepsOnErr };
 
     fn step(
         &mut self,

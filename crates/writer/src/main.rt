@@ -5,7 +5,8 @@
 // the descriptor; kind 15 hex is a printed Selector with a Selector's fields. The m bytes lent are each AA. It prints
 // `wrote K` or `refused N at P`, then the lent bytes as `lend` shows them. Numbers of two bytes have the low byte
 // first. A step that is none prints `bad step`, and the program ends.
-ghost use Rattle.std.specs.Prelude.{◌≡◌, ◌≤◌, length, IfOk, OnErr};
+ghost use Rattle.std.specs.Prelude.{◌≡◌, ◌≤◌, length, IfOk};
+ghost use Rattle.script.specs.Whole.{KeepsOnErr};
 
 use fields::{Item, Numbers, Span};
 use script::{Steps, Stop};
@@ -164,7 +165,7 @@ fn write_list(
 struct Writer;
 
 impl Steps for Writer {
-    ghost step_gives = { λ old result new. OnErr result (new ≡ old) };
+    ghost step_gives = { KeepsOnErr };
 
     fn step(
         &mut self,
